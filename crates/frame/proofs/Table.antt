@@ -1,0 +1,210 @@
+-- Which verdict is given exactly when: document 01's table of refusals, and demand 2's "accepted exactly when".
+use Rattle.frame.specs.Frame.{contentsOf, Frame}
+use Rattle.frame.specs.Answers.{ReadAnswer, readAnswer}
+use Rattle.frame.specs.Conditions.{ReadJudged, refusedBy, noRoom, fits, FlagFree, Terminated, WithinLimit, EscapesSound, Unstuffs, none, plain, escape, fewest, Sound, Judged, truncated, long, badEscape as badEscapes, short, badSum, sound}
+use Prim.Native.Nat.{ℕ, zero, suc, _+_, _≤_, _<_}
+use mathlib.Core.Path.{_≡_, refl, sym, ap, _∙_, subst}
+use mathlib.Core.Logic.{_⊎_, inl, inr}
+use mathlib.Core.Bool.{Bool, true, false, true≢false}
+use mathlib.Core.List.{List, [], _∷_}
+use native.Mathlib.Omega.{arith}
+use lib.Dec.{leb, eqb}
+use lib.ListN.{length, getD}
+use borrow.Author.Tests.{leb-true, leb-false, eqb-true, eqb-false, lt-leb, le-leb, ne-eqb}
+use Rattle.packing.specs.Choice.{pick}
+use Rattle.packing.proofs.Cases.{by-bool}
+use Rattle.packing.proofs.Tests.{none-at, at-none}
+use Rattle.frame.specs.Stuffing.{isFlag, Unstuffed, badEscape, bytes, prepend, unstuff, flagless}
+use Rattle.frame.specs.Checksum.{checksum}
+use Rattle.frame.specs.Verdict.{Verdict, accepted, refused, kindOf, addressCount, contentsIn, lastOf, frameIn, judge, bodyOf, isTerminated, verdict}
+use Rattle.frame.specs.declared.Kind.{Kind}
+use Rattle.frame.specs.declared.Kind.the-variants.{Standard, Extended}
+use Rattle.frame.proofs.StuffingLaws.{prepend-inv}
+use Rattle.frame.proofs.VerdictLaws.{whole-length, whole-terminated, whole-verdict, terminated-means, terminated-whole, verdict-truncated, judge-long, judge-escape, judge-short, judge-sum, judge-sound}
+
+-- ---- the conditions, and what the definitions compute
+
+-- undoing escapes, as a relation and as a function
+pub unstuffs-bytes : {s u : List ℕ} → Unstuffs s u → unstuff false s ≡ bytes u
+unfolding unstuff prepend
+unstuffs-bytes none = refl
+unstuffs-bytes (plain {b = b} n r) = simp (ne-eqb b 0xF3 n, unstuffs-bytes r)
+unstuffs-bytes (escape {k = k} h r) = simp (le-leb k 3 h, unstuffs-bytes r)
+
+bytes-unstuffs : (t : Bool) (s u : List ℕ) → unstuff t s ≡ bytes u → Unstuffs (pick t (0xF3 ∷ s) s) u
+unfolding unstuff
+bytes-unstuffs false [] u e = let q : [] ≡ u = cc in subst (λ (v : List ℕ). Unstuffs [] v) q none
+bytes-unstuffs true [] u e = let z : _≡_ {A = ℕ} 0 1 = cc in absurd (omega arith)
+bytes-unstuffs false (x ∷ s) u e =
+    by-bool (eqb x 0xF3)
+    (λ y. subst (λ (b : ℕ). Unstuffs (b ∷ s) u) (sym (eqb-true x 0xF3 y)) (bytes-unstuffs true s u (simp y at e)))
+    (λ n. let p = prepend-inv x (unstuff false s) u (simp n at e) in
+    subst (λ (v : List ℕ). Unstuffs (x ∷ s) v) (sym (p .2)) (plain (eqb-false x 0xF3 n) (bytes-unstuffs false s (p .0) (p .1))))
+bytes-unstuffs true (x ∷ s) u e =
+    by-bool (leb x 3)
+    (λ y. let p = prepend-inv (0xF0 + x) (unstuff false s) u (simp y at e) in
+    subst (λ (v : List ℕ). Unstuffs (0xF3 ∷ x ∷ s) v) (sym (p .2)) (escape (leb-true x 3 y) (bytes-unstuffs false s (p .0) (p .1))))
+    (λ m. let q : badEscape ≡ bytes u = simp m at e in
+    let z : _≡_ {A = ℕ} 0 1 = cc in absurd (omega arith))
+
+-- what stands after an index, in a list with one element more before it
+after-cons : (b : ℕ) (s : List ℕ) (i : ℕ) → getD (b ∷ s) (suc i + 1) 0 ≡ getD s (i + 1) 0
+after-cons b s i = let e : suc i + 1 ≡ suc (i + 1) = omega arith in ap (λ (n : ℕ). getD (b ∷ s) n 0) e
+
+-- every F3 is followed by 00 to 03 in bytes that unstuff
+unstuffs-sound : {s u : List ℕ} → Unstuffs s u → EscapesSound s
+unstuffs-sound none i h e = absurd (omega arith)
+unstuffs-sound (plain n r) zero h e = absurd (n e)
+unstuffs-sound (plain {b = b} {s = s} n r) (suc i) h e = let q = unstuffs-sound r i (omega arith) e in (omega (arith, q .0), omega (arith, q .1, after-cons b s i))
+unstuffs-sound (escape k r) zero h e = (omega arith, k)
+unstuffs-sound (escape k r) (suc zero) h e = absurd (omega arith)
+unstuffs-sound (escape {k = k} {s = s} l r) (suc (suc i)) h e =
+    let q = unstuffs-sound r i (omega arith) e in
+    (omega (arith, q .0), omega (arith, q .1, after-cons 0xF3 (k ∷ s) (suc i), after-cons k s i))
+
+-- and bytes where it is so unstuff
+sound-unstuffs : (s : List ℕ) → EscapesSound s → (u : List ℕ) × (unstuff false s ≡ bytes u)
+unfolding unstuff prepend
+sound-unstuffs [] h = ([], refl)
+sound-unstuffs (b ∷ []) h =
+    by-bool (eqb b 0xF3)
+    (λ y. absurd (omega (arith, h 0 (omega arith) (eqb-true b 0xF3 y) .0)))
+    (λ n. (b ∷ [], simp n))
+sound-unstuffs (b ∷ k ∷ s) h =
+    by-bool (eqb b 0xF3)
+    (λ y. let low : k ≤ 3 = h 0 (omega arith) (eqb-true b 0xF3 y) .1 in
+    let r = sound-unstuffs s (λ i l e. let q = h (suc (suc i)) (omega arith) e in (omega (arith, q .0), omega (arith, q .1, after-cons b (k ∷ s) (suc i), after-cons k s i))) in
+    ((0xF0 + k) ∷ r .0, simp (y, le-leb k 3 low, r .1)))
+    (λ n. let r = sound-unstuffs (k ∷ s) (λ i l e. let q = h (suc i) (omega arith) e in (omega (arith, q .0), omega (arith, q .1, after-cons b (k ∷ s) i))) in
+    (b ∷ r .0, (simp n) ∙ ap (prepend b) (r .1)))
+
+flagless-free : (s : List ℕ) → flagless s ≡ true → FlagFree s
+flagless-free s h i k =
+    let f = none-at isFlag s h i k in
+    by-bool (leb 0xF0 (getD s i 0))
+    (λ y. let g : leb (getD s i 0) 0xF2 ≡ false = simp y at f in inr (leb-false _ _ g))
+    (λ n. inl (leb-false _ _ n))
+
+pub free-flagless : (s : List ℕ) → FlagFree s → flagless s ≡ true
+free-flagless s h = at-none isFlag s (λ i k. apart (getD s i 0) (h i k))
+  where
+    apart : (b : ℕ) → (b < 0xF0) ⊎ (0xF2 < b) → isFlag b ≡ false
+    apart b (inl l) = simp (lt-leb 0xF0 b l)
+    apart b (inr l) = simp (le-leb 0xF0 b (omega arith), lt-leb b 0xF2 l)
+
+pub fewest-is : (kind : Kind) → fewest kind ≡ addressCount kind + 1
+fewest-is Standard = refl
+fewest-is Extended = refl
+
+terminated-of : (w : List ℕ) → isTerminated w ≡ true → Terminated w
+terminated-of w h =
+    record { kind = kindOf (getD w 0 0); body = bodyOf w; shape = terminated-whole w h; inside = flagless-free (bodyOf w) (terminated-means w h .4) }
+
+-- ---- the verdict on a terminated candidate
+
+module _ (w : List ℕ) (t : Terminated w) where
+  long-as : length w ≡ length (t .body) + 2
+  long-as = ap length (t .shape) ∙ whole-length (t .kind) (t .body)
+
+  is-terminated : isTerminated w ≡ true
+  is-terminated = ap isTerminated (t .shape) ∙ whole-terminated (t .kind) (t .body) (free-flagless (t .body) (t .inside))
+
+  of-body : verdict w ≡ judge (t .kind) (t .body)
+  of-body = ap verdict (t .shape) ∙ whole-verdict (t .kind) (t .body) (free-flagless (t .body) (t .inside))
+
+-- ---- the table
+
+-- what the table says is the verdict
+table-verdict : (w : List ℕ) (v : Verdict) → Judged w v → verdict w ≡ v
+table-verdict w v (truncated n) = by-bool (isTerminated w) (λ y. absurd (n (terminated-of w y))) (λ y. verdict-truncated w y)
+table-verdict w v (long t n) =
+    of-body w t ∙ by-bool (leb (length w) 120) (λ y. absurd (n (leb-true _ _ y))) (λ y. judge-long (t .kind) (t .body) (omega (arith, long-as w t, leb-false (length w) 120 y)))
+table-verdict w v (badEscapes t l n) =
+    of-body w t ∙ judge-escape (t .kind) (t .body) (omega (arith, long-as w t)) (bad (unstuff false (t .body)) refl)
+  where
+    bad : (r : Unstuffed) → unstuff false (t .body) ≡ r → unstuff false (t .body) ≡ badEscape
+    bad badEscape e = e
+    bad (bytes u) e = absurd (n (unstuffs-sound (bytes-unstuffs false (t .body) u e)))
+table-verdict w v (short t u l e x n) =
+    of-body w t
+    ∙ judge-short (t .kind) (t .body) (omega (arith, long-as w t)) u (unstuffs-bytes x)
+    (by-bool (leb (fewest (t .kind)) (length u)) (λ y. absurd (n (leb-true _ _ y))) (λ y. omega (arith, leb-false (fewest (t .kind)) (length u) y, fewest-is (t .kind))))
+table-verdict w v (badSum t u l e x k n) =
+    of-body w t ∙ judge-sum (t .kind) (t .body) (omega (arith, long-as w t)) u (unstuffs-bytes x) (omega (arith, k, fewest-is (t .kind))) n
+table-verdict w v (sound f s) =
+    let t = s .candidate in
+    of-body w t
+    ∙ judge-sound (t .kind) (t .body) (omega (arith, long-as w t, s .limit)) (s .unstuffed) (unstuffs-bytes (s .unstuffs)) (omega (arith, s .enough, fewest-is (t .kind))) (s .sum)
+    ∙ ap accepted (sym (s .frame))
+
+-- every slice has a line of the table
+some-line : (w : List ℕ) → (v : Verdict) × Judged w v
+some-line w =
+    by-bool (isTerminated w)
+    (λ y. let t = terminated-of w y in
+    by-bool (leb (length w) 120)
+    (λ l. line t (leb-true _ _ l) (unstuff false (t .body)) refl)
+    (λ l. (refused 2, long t (λ k. absurd (omega (arith, k, leb-false (length w) 120 l))))))
+    (λ y. (refused 6, truncated (λ t. true≢false (sym (is-terminated w t) ∙ y))))
+  where
+    line : (t : Terminated w) → WithinLimit w → (r : Unstuffed) → unstuff false (t .body) ≡ r → (v : Verdict) × Judged w v
+    line t l badEscape e = (
+      refused 3,
+      badEscapes t l (λ x. let q : badEscape ≡ bytes (sound-unstuffs (t .body) x .0) = sym e ∙ sound-unstuffs (t .body) x .1 in
+          let z : _≡_ {A = ℕ} 0 1 = cc in omega arith),
+    )
+    line t l (bytes u) e =
+        let x : Unstuffs (t .body) u = bytes-unstuffs false (t .body) u e in
+        let g : EscapesSound (t .body) = unstuffs-sound x in
+        by-bool (leb (fewest (t .kind)) (length u))
+        (λ k. by-bool (eqb (lastOf u) (checksum (contentsIn (addressCount (t .kind)) u)))
+        (λ q. (
+          accepted (frameIn (t .kind) u),
+          sound (frameIn (t .kind) u)
+              (record { candidate = t; limit = l; escapes = g; unstuffed = u; unstuffs = x; enough = leb-true _ _ k; sum = eqb-true _ _ q; frame = refl }),
+        ))
+        (λ q. (refused 5, badSum t u l g x (leb-true _ _ k) (eqb-false _ _ q))))
+        (λ k. (refused 4, short t u l g x (λ m. absurd (omega (arith, m, leb-false (fewest (t .kind)) (length u) k)))))
+
+-- Every verdict is given exactly when the table gives it: a refusal where the rule that it names fails and all before it hold.
+pub verdict-by-table : (w : List ℕ) (v : Verdict) → (verdict w ≡ v → Judged w v) × (Judged w v → verdict w ≡ v)
+verdict-by-table w v = (
+  (λ e. let l = some-line w in subst (λ (x : Verdict). Judged w x) (sym (table-verdict w (l .0) (l .1)) ∙ e) (l .1)),
+  table-verdict w v,
+)
+
+-- Accepted exactly when every condition holds, and then as that frame.
+pub accepted-exactly : (w : List ℕ) (f : Frame) → (verdict w ≡ accepted f → Sound w f) × (Sound w f → verdict w ≡ accepted f)
+accepted-exactly w f = ((λ e. found (accepted f) (verdict-by-table w (accepted f) .0 e) f refl), (λ s. table-verdict w (accepted f) (sound f s)))
+  where
+    found : (v : Verdict) → Judged w v → (f : Frame) → v ≡ accepted f → Sound w f
+    found v (truncated n) f e = let z : _≡_ {A = ℕ} 0 1 = cc in absurd (omega arith)
+    found v (long t n) f e = let z : _≡_ {A = ℕ} 0 1 = cc in absurd (omega arith)
+    found v (badEscapes t l n) f e = let z : _≡_ {A = ℕ} 0 1 = cc in absurd (omega arith)
+    found v (short t u l g x n) f e = let z : _≡_ {A = ℕ} 0 1 = cc in absurd (omega arith)
+    found v (badSum t u l g x k n) f e = let z : _≡_ {A = ℕ} 0 1 = cc in absurd (omega arith)
+    found v (sound h s) f e = let q : h ≡ f = cc in subst (λ (x : Frame). Sound w x) q s
+
+-- ---- with the room of an output
+
+told-by : (w : List ℕ) (room : ℕ) (v : Verdict) → Judged w v → ReadJudged w room (readAnswer v room)
+unfolding readAnswer
+told-by w room (refused n) j = refusedBy j
+told-by w room (accepted f) j =
+    let s = accepted-exactly w f .0 (table-verdict w (accepted f) j) in
+    by-bool (leb (length (contentsOf f)) room)
+    (λ y. subst (λ (a : ReadAnswer). ReadJudged w room a) (simp y) (fits s (leb-true _ _ y)))
+    (λ n. subst (λ (a : ReadAnswer). ReadJudged w room a) (simp n) (noRoom s (leb-false _ _ n)))
+
+by-told : (w : List ℕ) (room : ℕ) (a : ReadAnswer) → ReadJudged w room a → readAnswer (verdict w) room ≡ a
+unfolding readAnswer
+by-told w room a (refusedBy {n = n} j) = ap (λ (v : Verdict). readAnswer v room) (table-verdict w (refused n) j)
+by-told w room a (noRoom {f = f} s h) = ap (λ (v : Verdict). readAnswer v room) (accepted-exactly w f .1 s) ∙ simp (lt-leb (length (contentsOf f)) room h)
+by-told w room a (fits {f = f} s h) = ap (λ (v : Verdict). readAnswer v room) (accepted-exactly w f .1 s) ∙ simp (le-leb (length (contentsOf f)) room h)
+
+-- Every answer to reading a slice is given exactly when the table gives it, 1 included.
+pub read-by-table : (w : List ℕ) (room : ℕ) (a : ReadAnswer) → (readAnswer (verdict w) room ≡ a → ReadJudged w room a) × (ReadJudged w room a → readAnswer (verdict w) room ≡ a)
+read-by-table w room a = (
+  (λ e. subst (λ (x : ReadAnswer). ReadJudged w room x) e (told-by w room (verdict w) (verdict-by-table w (verdict w) .0 refl))),
+  by-told w room a,
+)

@@ -1,0 +1,255 @@
+-- Laws of the verdict: its shape test, its refusals one by one, and the frame that it accepts.
+use Prim.Native.Nat.{ℕ, suc, _+_, _-_, _≤_, _<_}
+use mathlib.Core.Path.{_≡_, refl, sym, ap, _∙_}
+use mathlib.Core.Bool.{true, false}
+use mathlib.Core.List.{List, [], _∷_, _++_}
+use native.Mathlib.Omega.{arith}
+use lib.Dec.{leb, eqb}
+use lib.ListN.{length, getD, drop, length-append, length-drop}
+use lib.Seq.{take-at, getD-at, take-suc, take-all, getD-drop, drop-cons}
+use borrow.Author.Tests.{leb-true, eqb-true, eqb-false, lt-leb, le-leb, eq-eqb, ne-eqb}
+use Rattle.packing.specs.Choice.{within}
+use Rattle.packing.proofs.Cases.{by-bool, both-true}
+use Rattle.packing.proofs.Tests.{within-yes, within-true}
+use Rattle.frame.specs.Stuffing.{Unstuffed, badEscape, bytes, prepend, unstuff, flagless}
+use Rattle.frame.specs.Checksum.{sumFrom, checksum}
+use Rattle.frame.specs.Frame.{Frame, contentsOf}
+use Rattle.frame.specs.Verdict.{Verdict, accepted, refused, kindOf, addressCount, contentsIn, lastOf, frameIn, judgeBytes, judge, bodyOf, isTerminated, verdict}
+use Rattle.frame.specs.Conditions.{startFlag}
+use Rattle.frame.specs.Answers.{notRead, headerOf, judgeAnswer, readAnswer, readOut}
+use Rattle.frame.specs.Steps.{frameOf, kindIn, headed, readAs, scanFrom, bytesOf, SoundAt}
+use Rattle.frame.specs.declared.Kind.{Kind}
+use Rattle.frame.specs.declared.Kind.the-variants.{Standard, Extended}
+use Rattle.frame.specs.declared.Header.{Header}
+use Rattle.frame.specs.declared.Header.the-variants.{Plain, Addressed}
+use Rattle.frame.specs.declared.candidate.Scan.the-variants.{Fault, Good}
+use Rattle.frame.proofs.ChecksumLaws.{contents-last, sum-right, sum-wrong}
+
+-- ---- a start flag, a body and F2
+
+pub kind-start : (kind : Kind) → kindOf (startFlag kind) ≡ kind
+kind-start Standard = refl
+kind-start Extended = refl
+
+pub start-between : (kind : Kind) → (0xF0 ≤ startFlag kind) × (startFlag kind ≤ 0xF1)
+start-between Standard = omega arith
+start-between Extended = omega arith
+
+start-kind : (b : ℕ) → 0xF0 ≤ b → b ≤ 0xF1 → startFlag (kindOf b) ≡ b
+start-kind b h k =
+    by-bool (eqb b 0xF0) (λ y. (simp y) ∙ sym (eqb-true b 0xF0 y)) (λ n. let z : 0xF1 ≡ b = omega (arith, eqb-false b 0xF0 n) in (simp n) ∙ z)
+
+abbrev pub whole : Kind → List ℕ → List ℕ
+whole kind body = startFlag kind ∷ body ++ (0xF2 ∷ [])
+
+module _ (kind : Kind) (body : List ℕ) where
+  pub whole-length : length (whole kind body) ≡ length body + 2
+  whole-length = omega (arith, length-append body (0xF2 ∷ []))
+
+  whole-body : bodyOf (whole kind body) ≡ body
+  whole-body = take-at body (0xF2 ∷ []) (length (whole kind body) - 2) (omega (arith, whole-length))
+
+  whole-stop : lastOf (whole kind body) ≡ 0xF2
+  whole-stop = getD-at (startFlag kind ∷ body) 0xF2 [] 0 (length (whole kind body) - 1) (omega (arith, whole-length))
+
+  pub whole-terminated : flagless body ≡ true → isTerminated (whole kind body) ≡ true
+  unfolding isTerminated
+  whole-terminated f =
+      let b = start-between kind in
+      simp (le-leb 2 (length (whole kind body)) (omega (arith, whole-length)), within-yes 0xF0 0xF1 (startFlag kind) (b .0) (b .1), eq-eqb (lastOf (whole kind body)) 0xF2 whole-stop, whole-body, f)
+
+  -- the verdict on such a list is the one on its body
+  pub whole-verdict : flagless body ≡ true → verdict (whole kind body) ≡ judge kind body
+  unfolding verdict
+  whole-verdict f = simp (whole-terminated f, kind-start kind, whole-body)
+
+pub terminated-means : (w : List ℕ) → isTerminated w ≡ true
+    → (2 ≤ length w) × (0xF0 ≤ getD w 0 0) × (getD w 0 0 ≤ 0xF1) × (lastOf w ≡ 0xF2) × (flagless (bodyOf w) ≡ true)
+unfolding isTerminated
+terminated-means w h =
+    let a = both-true (leb 2 (length w)) _ h in
+    let b = both-true (within 0xF0 0xF1 (getD w 0 0)) _ (a .1) in
+    let c = both-true (eqb (lastOf w) 0xF2) _ (b .1) in
+    let r = within-true 0xF0 0xF1 (getD w 0 0) (b .0) in
+    (leb-true _ _ (a .0), r .0, r .1, eqb-true _ _ (c .0), c .1)
+
+-- a terminated candidate is such a list
+pub terminated-whole : (w : List ℕ) → isTerminated w ≡ true → w ≡ whole (kindOf (getD w 0 0)) (bodyOf w)
+terminated-whole w h =
+    let m = terminated-means w h in
+    let n : suc (length w - 2) ≡ length w - 1 = omega arith in
+    let l : length (drop 1 w) ≡ length w - 1 = length-drop 1 w in
+    drop-cons w 0 0 (omega arith)
+    ∙ ap (λ (t : List ℕ). getD w 0 0 ∷ t)
+    (sym (take-all (suc (length w - 2)) (drop 1 w) (omega arith))
+    ∙ take-suc (drop 1 w) (length w - 2) 0 (omega arith)
+    ∙ ap (λ (b : ℕ). bodyOf w ++ (b ∷ [])) (getD-drop 1 w (length w - 2) 0 ∙ ap (λ (i : ℕ). getD w i 0) last-index ∙ m .3))
+    ∙ ap (λ (b : ℕ). b ∷ bodyOf w ++ (0xF2 ∷ [])) (sym (start-kind (getD w 0 0) (m .1) (m .2)))
+  where
+    last-index : 1 + (length w - 2) ≡ length w - 1
+    last-index = let m = terminated-means w h in omega arith
+
+pub verdict-truncated : (w : List ℕ) → isTerminated w ≡ false → verdict w ≡ refused 6
+unfolding verdict
+verdict-truncated w h = simp h
+
+pub verdict-judged : (w part : List ℕ) → isTerminated w ≡ true → part ≡ bodyOf w → judge (kindOf (getD w 0 0)) part ≡ verdict w
+unfolding verdict
+verdict-judged w part h p = simp h (ap (judge (kindOf (getD w 0 0))) p)
+
+-- ---- the refusals on a body, one by one
+
+pub judge-long : (kind : Kind) (body : List ℕ) → 118 < length body → judge kind body ≡ refused 2
+unfolding judge
+judge-long kind body h = simp (lt-leb (length body + 2) 120 (omega arith))
+
+module _ (kind : Kind) (body : List ℕ) (limit : length body ≤ 118) where
+  pub judge-bytes : judge kind body ≡ judgeBytes kind (unstuff false body)
+  unfolding judge
+  judge-bytes = simp (le-leb (length body + 2) 120 (omega arith))
+
+  pub judge-escape : unstuff false body ≡ badEscape → judge kind body ≡ refused 3
+  unfolding judgeBytes
+  judge-escape e = judge-bytes ∙ ap (judgeBytes kind) e
+
+  module _ (u : List ℕ) (e : unstuff false body ≡ bytes u) where
+    pub judge-short : length u < addressCount kind + 1 → judge kind body ≡ refused 4
+    unfolding judgeBytes
+    judge-short h = judge-bytes ∙ ap (judgeBytes kind) e ∙ simp (lt-leb (addressCount kind + 1) (length u) h)
+
+    pub judge-sum : addressCount kind + 1 ≤ length u → (lastOf u ≡ checksum (contentsIn (addressCount kind) u) → ⊥) → judge kind body ≡ refused 5
+    unfolding judgeBytes
+    judge-sum h n = judge-bytes ∙ ap (judgeBytes kind) e ∙ simp (le-leb (addressCount kind + 1) (length u) h, ne-eqb (lastOf u) (checksum (contentsIn (addressCount kind) u)) n)
+
+    pub judge-sound : addressCount kind + 1 ≤ length u → lastOf u ≡ checksum (contentsIn (addressCount kind) u) → judge kind body ≡ accepted (frameIn kind u)
+    unfolding judgeBytes
+    judge-sound h q = judge-bytes ∙ ap (judgeBytes kind) e ∙ simp (le-leb (addressCount kind + 1) (length u) h, eq-eqb (lastOf u) (checksum (contentsIn (addressCount kind) u)) q)
+
+-- ---- the verdict on the bytes after the addresses
+
+-- the addresses of a header before other bytes
+abbrev under : Header → List ℕ → List ℕ
+under Plain v = v
+under (Addressed to from) v = to ∷ from ∷ v
+
+headed-bytes : (h : Header) (v : List ℕ) → headed h (bytes v) ≡ bytes (under h v)
+unfolding prepend
+headed-bytes Plain v = refl
+headed-bytes (Addressed to from) v = refl
+
+headed-bad : (h : Header) → headed h badEscape ≡ badEscape
+unfolding prepend
+headed-bad Plain = refl
+headed-bad (Addressed to from) = refl
+
+under-length : (h : Header) (v : List ℕ) → length (under h v) ≡ addressCount (kindIn h) + length v
+under-length Plain v = omega arith
+under-length (Addressed to from) v = omega arith
+
+under-drop : (h : Header) (v : List ℕ) → drop (addressCount (kindIn h)) (under h v) ≡ v
+under-drop Plain v = refl
+under-drop (Addressed to from) v = refl
+
+-- the frame of a header's addresses, contents and a checksum
+under-frame : (h : Header) (v : List ℕ) → 1 ≤ length v → frameIn (kindIn h) (under h v) ≡ frameOf h (contentsIn (addressCount (kindIn h)) (under h v))
+unfolding frameIn
+under-frame Plain v l = refl
+under-frame (Addressed to from) v l = refl
+
+module _ (h : Header) (body : List ℕ) (next : ℕ) (limit : length body ≤ 118) (here : unstuff false body ≡ headed h (unstuff false (drop next body))) where
+  pub rest-escape : scanFrom 0 0 (unstuff false (drop next body)) ≡ Fault → judge (kindIn h) body ≡ refused 3
+  unfolding scanFrom
+  rest-escape e = judge-escape (kindIn h) body limit (here ∙ bad (unstuff false (drop next body)) e)
+    where
+      bad : (r : Unstuffed) → scanFrom 0 0 r ≡ Fault → headed h r ≡ badEscape
+      bad badEscape e = headed-bad h
+      bad (bytes u) e = let z : _≡_ {A = ℕ} 0 1 = cc in absurd (omega arith)
+
+  module _ (len sum : ℕ) (e : Good len sum ≡ scanFrom 0 0 (unstuff false (drop next body))) where
+    -- the contents and the checksum
+    rest : List ℕ
+    rest = bytesOf (unstuff false (drop next body))
+
+    scanned : (unstuff false (drop next body) ≡ bytes rest) × (len ≡ length rest) × (sum ≡ checksum rest)
+    unfolding rest scanFrom bytesOf
+    scanned = split (unstuff false (drop next body)) e
+      where
+        split : (r : Unstuffed) → Good len sum ≡ scanFrom 0 0 r → (r ≡ bytes (bytesOf r)) × (len ≡ length (bytesOf r)) × (sum ≡ checksum (bytesOf r))
+        split badEscape e = let z : _≡_ {A = ℕ} 0 1 = cc in absurd (omega arith)
+        split (bytes u) e =
+            let l : len ≡ 0 + length u = cc in
+            let s : sum ≡ sumFrom 0 u = cc in
+            (refl, omega arith, s)
+
+    all : unstuff false body ≡ bytes (under h rest)
+    all = here ∙ ap (headed h) (scanned .0) ∙ headed-bytes h rest
+
+    pub rest-short : len < 1 → judge (kindIn h) body ≡ refused 4
+    rest-short k = judge-short (kindIn h) body limit (under h rest) all (omega (arith, under-length h rest, scanned .1))
+
+    module _ (k : 1 ≤ len) where
+      abbrev skip : ℕ
+      skip = addressCount (kindIn h)
+
+      long : skip < length (under h rest)
+      long = omega (arith, under-length h rest, scanned .1)
+
+      summed : sum ≡ checksum (drop skip (under h rest))
+      summed = scanned .2 ∙ ap checksum (sym (under-drop h rest))
+
+      pub rest-sum : (sum ≡ 0 → ⊥) → judge (kindIn h) body ≡ refused 5
+      rest-sum n = judge-sum (kindIn h) body limit (under h rest) all (omega (arith, long)) (sum-wrong skip (under h rest) long (λ q. n (summed ∙ q)))
+
+      pub rest-sound : sum ≡ 0 → next ≤ length body → SoundAt (kindIn h) body h next (len - 1)
+      unfolding frameIn
+      rest-sound z inside =
+          let right = sum-right skip (under h rest) long (sym summed ∙ z) in
+          let c = contentsIn skip (under h rest) in
+          let parts : rest ≡ c ++ (checksum c ∷ []) =
+          sym (under-drop h rest) ∙ contents-last skip (under h rest) long ∙ ap (λ (b : ℕ). c ++ (b ∷ [])) right in
+          record {
+            contents = c;
+            judged = judge-sound (kindIn h) body limit (under h rest) all (omega (arith, long)) right ∙ ap accepted (under-frame h rest (omega (arith, scanned .1)));
+            counted = omega (arith, ap length parts, length-append c (checksum c ∷ []), scanned .1);
+            follows = scanned .0 ∙ ap bytes parts;
+            inside = inside;
+          }
+
+-- ---- the answers of a reader and of a judge
+
+pub header-as : (h : Header) (c : List ℕ) (len : ℕ) → length c ≡ len → readAs h len ≡ headerOf (frameOf h c)
+header-as Plain c len e = ap (readAs Plain) (sym e)
+header-as (Addressed to from) c len e = ap (readAs (Addressed to from)) (sym e)
+
+pub contents-of : (h : Header) (c : List ℕ) → contentsOf (frameOf h c) ≡ c
+unfolding contentsOf
+contents-of Plain c = refl
+contents-of (Addressed to from) c = refl
+
+pub judge-refused : (v : Verdict) (n : ℕ) → v ≡ refused n → notRead n ≡ judgeAnswer v
+unfolding judgeAnswer
+judge-refused v n e = ap judgeAnswer (sym e)
+
+pub judge-accepted : (v : Verdict) (f : Frame) → v ≡ accepted f → headerOf f ≡ judgeAnswer v
+unfolding judgeAnswer
+judge-accepted v f e = ap judgeAnswer (sym e)
+
+pub answer-refused : (v : Verdict) (n : ℕ) (out : List ℕ) → v ≡ refused n → (notRead n ≡ readAnswer v (length out)) × (out ≡ readOut v out)
+unfolding readAnswer readOut
+answer-refused v n out e = (ap (λ (x : Verdict). readAnswer x (length out)) (sym e), ap (λ (x : Verdict). readOut x out) (sym e))
+
+pub answer-no-room : (v : Verdict) (f : Frame) (out : List ℕ) → v ≡ accepted f → length out < length (contentsOf f)
+    → (notRead 1 ≡ readAnswer v (length out)) × (out ≡ readOut v out)
+unfolding readAnswer readOut
+answer-no-room v f out e h = (
+  (simp (lt-leb (length (contentsOf f)) (length out) h)) ∙ ap (λ (x : Verdict). readAnswer x (length out)) (sym e),
+  (simp (lt-leb (length (contentsOf f)) (length out) h)) ∙ ap (λ (x : Verdict). readOut x out) (sym e),
+)
+
+pub answer-done : (v : Verdict) (f : Frame) (out : List ℕ) → v ≡ accepted f → length (contentsOf f) ≤ length out
+    → (headerOf f ≡ readAnswer v (length out)) × (contentsOf f ++ drop (length (contentsOf f)) out ≡ readOut v out)
+unfolding readAnswer readOut
+answer-done v f out e h = (
+  (simp (le-leb (length (contentsOf f)) (length out) h)) ∙ ap (λ (x : Verdict). readAnswer x (length out)) (sym e),
+  (simp (le-leb (length (contentsOf f)) (length out) h)) ∙ ap (λ (x : Verdict). readOut x out) (sym e),
+)

@@ -1,0 +1,98 @@
+-- Laws of a frame's bytes on the wire, and of what a writer answers.
+use Prim.Native.Nat.{ℕ, _+_, _≤_, _<_}
+use mathlib.Core.Path.{_≡_, refl, sym, ap, _∙_}
+use mathlib.Core.List.{List, [], _∷_, _++_, append-assoc, append-nil}
+use native.Mathlib.Nat.{zero-add}
+use native.Mathlib.Omega.{arith}
+use lib.ListN.{length, set, length-append}
+use borrow.Author.Tests.{lt-leb, le-leb}
+use Rattle.packing.specs.Splice.{splice}
+use Rattle.packing.proofs.Splices.{splice-next, set-splice}
+use Rattle.frame.specs.Stuffing.{stuffByte, stuff}
+use Rattle.frame.specs.Checksum.{checksum}
+use Rattle.frame.specs.Frame.{contentsOf, startOf, addressesOf, payload, wireOf}
+use Rattle.frame.specs.Answers.{wrote, notWritten, writeAnswer, writeOut}
+use Rattle.frame.specs.Steps.{frameOf, headerWire}
+use Rattle.frame.specs.declared.Header.{Header}
+use Rattle.frame.specs.declared.Header.the-variants.{Plain, Addressed}
+use Rattle.frame.proofs.StuffingLaws.{stuff-append, stuff-one, stuffByte-between}
+
+-- ---- the parts of a frame on the wire
+
+abbrev tail : List ℕ → List ℕ
+tail c = stuff c ++ (stuffByte (checksum c) ++ (0xF2 ∷ []))
+
+stuff-tail : (c : List ℕ) → stuff (c ++ (checksum c ∷ [])) ++ (0xF2 ∷ []) ≡ tail c
+stuff-tail c =
+    ap (λ (l : List ℕ). l ++ (0xF2 ∷ [])) (stuff-append c (checksum c ∷ []) ∙ ap (λ (l : List ℕ). stuff c ++ l) (stuff-one (checksum c)))
+    ∙ append-assoc (stuff c) (stuffByte (checksum c)) (0xF2 ∷ [])
+
+stuff-two : (a b : ℕ) → stuff (a ∷ b ∷ []) ≡ stuffByte a ++ stuffByte b
+unfolding stuff
+stuff-two a b = ap (λ (l : List ℕ). stuffByte a ++ l) (append-nil (stuffByte b))
+
+pub wire-parts : (h : Header) (c : List ℕ) → wireOf (frameOf h c) ≡ headerWire h ++ (stuff c ++ (stuffByte (checksum c) ++ (0xF2 ∷ [])))
+unfolding wireOf payload startOf addressesOf contentsOf
+wire-parts Plain c = ap (λ (l : List ℕ). 0xF1 ∷ l) (stuff-tail c)
+wire-parts (Addressed to from) c =
+    ap (λ (l : List ℕ). 0xF0 ∷ l)
+    (ap (λ (l : List ℕ). l ++ (0xF2 ∷ [])) (stuff-append (to ∷ from ∷ []) (c ++ (checksum c ∷ [])))
+    ∙ append-assoc (stuff (to ∷ from ∷ [])) (stuff (c ++ (checksum c ∷ []))) (0xF2 ∷ [])
+    ∙ ap (λ (l : List ℕ). l ++ (stuff (c ++ (checksum c ∷ [])) ++ (0xF2 ∷ []))) (stuff-two to from)
+    ∙ ap (λ (l : List ℕ). (stuffByte to ++ stuffByte from) ++ l) (stuff-tail c))
+
+pub wire-length : (h : Header) (c : List ℕ)
+    → length (wireOf (frameOf h c)) ≡ length (headerWire h) + length (stuff c) + length (stuffByte (checksum c)) + 1
+wire-length h c = ap length (wire-parts h c) ∙ simp length-append (omega arith)
+
+-- a header takes one to five bytes
+pub header-between : (h : Header) → (1 ≤ length (headerWire h)) × (length (headerWire h) ≤ 5)
+header-between Plain = omega arith
+header-between (Addressed to from) = omega (arith, length-append (stuffByte to) (stuffByte from), stuffByte-between to, stuffByte-between from)
+
+-- ---- the three answers of a writer
+
+pub write-long : (w out : List ℕ) → 120 < length w → (notWritten 2 ≡ writeAnswer w (length out)) × (out ≡ writeOut w out)
+unfolding writeAnswer writeOut
+write-long w out h = (simp (lt-leb _ _ h), simp (lt-leb _ _ h))
+
+pub write-no-room : (w out : List ℕ) → length w ≤ 120 → length out < length w → (notWritten 1 ≡ writeAnswer w (length out)) × (out ≡ writeOut w out)
+unfolding writeAnswer writeOut
+write-no-room w out h k = (simp (le-leb _ _ h, lt-leb _ _ k), simp (le-leb _ _ h, lt-leb _ _ k))
+
+pub write-done : (w out : List ℕ) → length w ≤ 120 → length w ≤ length out
+    → (wrote (length w) ≡ writeAnswer w (length out)) × (splice out 0 w ≡ writeOut w out)
+unfolding writeAnswer writeOut
+write-done w out h k = (simp (le-leb _ _ h, le-leb _ _ k), simp (le-leb _ _ h, le-leb _ _ k, zero-add))
+
+-- ---- writing a header
+
+module _ (out : List ℕ) (to from : ℕ) (room : length (headerWire (Addressed to from)) ≤ length out) where
+  pub addressed-length : length (headerWire (Addressed to from)) ≡ 1 + length (stuffByte to) + length (stuffByte from)
+  addressed-length = omega (arith, length-append (stuffByte to) (stuffByte from))
+
+  pub put-addressed : (out₁ out₂ : List ℕ) (a r : ℕ) → a ≡ 1 + length (stuffByte to) → out₁ ≡ splice (set out 0 0xF0) 1 (stuffByte to)
+      → r ≡ a + length (stuffByte from) → out₂ ≡ splice out₁ a (stuffByte from)
+      → (r ≡ length (headerWire (Addressed to from))) × (out₂ ≡ splice out 0 (headerWire (Addressed to from)))
+  put-addressed out₁ out₂ a r p q e f =
+      let l = addressed-length in
+      let first : out₁ ≡ splice out 0 (0xF0 ∷ stuffByte to) =
+      splice-next out 0 (0xF0 ∷ []) (stuffByte to) 1 (omega arith) (set-splice out 0 0xF0 (omega arith)) refl q in
+      (omega arith, splice-next out 0 (0xF0 ∷ stuffByte to) (stuffByte from) a (omega arith) first (omega arith) f)
+
+-- ---- the parts written one after the other
+
+pub put-parts : (h : Header) (c out out₁ out₂ out₃ : List ℕ) (sum a b d : ℕ) → sum ≡ checksum c → length (wireOf (frameOf h c)) ≤ length out
+    → length out₃ ≡ length out → a ≡ length (headerWire h) → out₁ ≡ splice out 0 (headerWire h) → b ≡ a + length (stuff c) → out₂ ≡ splice out₁ a (stuff c)
+    → d ≡ b + length (stuffByte sum) → out₃ ≡ splice out₂ b (stuffByte sum) → set out₃ d 0xF2 ≡ splice out 0 (wireOf (frameOf h c))
+put-parts h c out out₁ out₂ out₃ sum a b d s room len ea e₁ eb e₂ ed e₃ =
+    let w = wire-length h c in
+    let n : length (stuffByte sum) ≡ length (stuffByte (checksum c)) = ap (λ (k : ℕ). length (stuffByte k)) s in
+    let l₂ = length-append (headerWire h) (stuff c) in
+    let l₃ = length-append (headerWire h ++ stuff c) (stuffByte sum) in
+    let two : out₂ ≡ splice out 0 (headerWire h ++ stuff c) = splice-next out 0 (headerWire h) (stuff c) a (omega arith) e₁ (omega arith) e₂ in
+    let three : out₃ ≡ splice out 0 (headerWire h ++ stuff c ++ stuffByte sum) =
+    splice-next out 0 (headerWire h ++ stuff c) (stuffByte sum) b (omega arith) two (omega arith) e₃ in
+    splice-next out 0 (headerWire h ++ stuff c ++ stuffByte sum) (0xF2 ∷ []) d (omega arith) three (omega arith) (set-splice out₃ d 0xF2 (omega arith))
+    ∙ ap (λ (k : ℕ). splice out 0 (headerWire h ++ stuff c ++ stuffByte k ++ (0xF2 ∷ []))) s
+    ∙ ap (splice out 0) (append-assoc (headerWire h ++ stuff c) (stuffByte (checksum c)) (0xF2 ∷ []) ∙ append-assoc (headerWire h) (stuff c) (stuffByte (checksum c) ++ (0xF2 ∷ [])) ∙ sym (wire-parts h c))

@@ -1,0 +1,106 @@
+use mathlib.Core.Path.{_≡_, refl, ap, _∙_}
+use Prim.Native.Nat.{ℕ, _+_, _-_, _≤_, _<_}
+use native.Mathlib.Omega.{arith}
+use mathlib.Core.Bool.{false}
+use mathlib.Core.List.{List, _++_}
+use lib.ListN.{length, take, drop, length-set}
+use Rattle.frame.specs.Stuffing.{unstuff}
+use Rattle.frame.specs.Steps.{bytesOf}
+use Rattle.frame.proofs.ScanLaws.{never-end, never-bad, fill-more}
+use borrow.Author.Needs.{needs}
+use Rattle.frame.proofs.candidate.unstuff_into.Statement.{statement}
+use Rattle.frame.proofs.candidate.unstuff_into.Tie as tie
+
+abbrev Inv-loop : tie.InvT-loop
+Inv-loop s count out₀ at₀ k₀ out at k = (k ≤ count) × (length out ≡ length out₀) × (bytesOf (unstuff false (drop at s)) ≡ drop k (bytesOf (unstuff false s))) × (out ≡ take k (bytesOf (unstuff false s)) ++ drop k out₀)
+
+abbrev μ-loop : tie.MeasureT-loop
+μ-loop s count out₀ at₀ k₀ out at k = count - k
+
+-- the unstuffed bytes
+abbrev U : tie.At-loop Inv-loop μ-loop → List ℕ
+U l = bytesOf (unstuff false (l .before .before .before .args .s .now))
+
+-- there are bytes to come
+more : (l : tie.At-loop Inv-loop μ-loop) → l .loop .k < l .before .before .before .args .count → l .loop .k < length (U l)
+more l h = omega (arith, l .before .before .before .pre .0)
+
+loop-holds : tie.Need-loop-holds Inv-loop μ-loop
+loop-holds c = (search needs, refl, refl, refl)
+
+next-at-requires : tie.Need-next-at-requires Inv-loop μ-loop
+next-at-requires c κs = search needs
+
+enum-told : tie.Need-enum-told Inv-loop μ-loop
+enum-told c = search needs
+
+same-length : tie.Need-same-length Inv-loop μ-loop
+same-length c = c .before .before .before .before .loop .inv .1
+
+returns : tie.Need-returns Inv-loop μ-loop
+returns c =
+    let l = c .before .before .before .before in
+    absurd (never-end _ (U l) (l .loop .at) (l .loop .k) (more l (c .before .before .before .loop-test .taken)) (l .loop .inv .2) _ (c .before .before .next-at .ensures) (c .enum-told .given .1))
+
+enum-told-2 : tie.Need-enum-told-2 Inv-loop μ-loop
+enum-told-2 c = search needs
+
+same-length-2 : tie.Need-same-length-2 Inv-loop μ-loop
+same-length-2 c = c .before .before .before .before .loop .inv .1
+
+returns-2 : tie.Need-returns-2 Inv-loop μ-loop
+returns-2 c =
+    let l = c .before .before .before .before in
+    absurd (never-bad _ (U l) (l .loop .at) (l .loop .k) (more l (c .before .before .before .loop-test .taken)) (l .loop .inv .2) _ (c .before .before .next-at .ensures) (c .enum-told2 .given .1))
+
+enum-known-step : tie.Need-enum-known-step Inv-loop μ-loop
+enum-known-step c = search needs
+
+slice-write-out : tie.Need-slice-write-out Inv-loop μ-loop
+slice-write-out c =
+    let l = c .before .before .before .before .before in
+    omega (arith, l .before .before .before .pre .1, l .loop .inv .1, c .before .before .before .before .loop-test .taken)
+
+add-k : tie.Need-add-k Inv-loop μ-loop
+add-k c = search needs
+
+loop-less : tie.Need-loop-less Inv-loop μ-loop
+loop-less c = search needs
+
+loop-again : tie.Need-loop-again Inv-loop μ-loop
+loop-again c =
+    let l = c .before .before .before .before .before in
+    let t = c .before .before .before .before .loop-test .taken in
+    let m = fill-more _ (U l) (l .loop .at) (l .loop .k) (more l t) (l .loop .inv .2) _ (c .before .before .before .next-at .ensures) _ _ _ _ (c .before .step .given .1) (omega (arith, l .before .before .before .pre .1)) (l .loop .inv .3) in
+    (search needs, length-set (l .loop .out) (l .loop .k) (c .before .step .given .0 .0) ∙ l .loop .inv .1, m .0, m .1)
+
+same-length-3 : tie.Need-same-length-3 Inv-loop μ-loop
+same-length-3 c = c .before .loop .inv .1
+
+returns-3 : tie.Need-returns-3 Inv-loop μ-loop
+returns-3 c =
+    let l = c .before in
+    let e : l .loop .k ≡ l .before .before .before .args .count = omega arith in
+    l .loop .inv .3 ∙ ap (λ (k : ℕ). take k (U l) ++ drop k (l .before .before .before .args .out .now)) e
+
+pub unstuff-into-spec : {M : Type 1} → statement M
+unstuff-into-spec =
+    tie.close
+    (tie.spec
+    Inv-loop
+    μ-loop
+    loop-holds
+    next-at-requires
+    enum-told
+    same-length
+    returns
+    enum-told-2
+    same-length-2
+    returns-2
+    enum-known-step
+    slice-write-out
+    add-k
+    loop-less
+    loop-again
+    same-length-3
+    returns-3)

@@ -1,0 +1,66 @@
+use mathlib.Core.Path.{_≡_, _∙_, subst}
+use Rattle.frame.specs.Steps.{Examines, SoundAt}
+use Rattle.frame.specs.declared.candidate.Examined.{Examined}
+use Rattle.frame.proofs.VerdictLaws.{judge-refused, judge-accepted, header-as}
+use Rattle.frame.proofs.ContentsLaws.{rest-length, rest-first, left-refused, left-accepted}
+use borrow.Author.Needs.{needs}
+use Rattle.frame.proofs.judge_whole.Statement.{statement}
+use Rattle.frame.proofs.judge_whole.Tie as tie
+
+abbrev St : tie.After-examine → tie.Start
+St e = e .before .before .before
+
+found : (e : tie.After-examine) (x : Examined) → e .examine .result ≡ x → Examines (St e .args .kind) (St e .args .s .now) x
+found e x q = subst (λ (y : Examined). Examines (St e .args .kind) (St e .args .s .now) y) q (e .examine .ensures)
+
+sound : (k : tie.After-known-told2) → SoundAt (St (k .before .before .before) .args .kind) (St (k .before .before .before) .args .s .now) (k .before .found2 .given .0 .0) (k .before .found2 .given .0 .1 .0) (k .before .found2 .given .0 .1 .1 .0)
+sound k = found (k .before .before .before) _ (k .before .found2 .given .1)
+
+examine-requires : tie.Need-examine-requires
+examine-requires c κs = search needs
+
+enum-known-found : tie.Need-enum-known-found
+enum-known-found c = search needs
+
+enum-known-found-2 : tie.Need-enum-known-found-2
+enum-known-found-2 c = search needs
+
+bring-contents-requires : tie.Need-bring-contents-requires
+bring-contents-requires c κs = let s = sound (c .before) in (rest-length s, s .inside)
+
+read-as-requires : tie.Need-read-as-requires
+read-as-requires c κs = search needs
+
+same-length : tie.Need-same-length
+same-length c = search needs
+
+returns : tie.Need-returns
+returns c =
+    let e = c .before .before .before in
+    let q = found e _ (c .before .found .given .1) in
+    (judge-refused _ _ q, left-refused _ _ _ q)
+
+same-length-2 : tie.Need-same-length-2
+same-length-2 c = search needs
+
+returns-2 : tie.Need-returns-2
+returns-2 c =
+    let k = c .before .before .before .before .before in
+    let s = sound k in (
+      c .read-as .ensures ∙ header-as (k .before .found2 .given .0 .0) (s .contents) _ (s .counted) ∙ judge-accepted _ _ (s .judged),
+      left-accepted _ _ _ _ (s .judged) (rest-first s _ _ (c .before .before .before .bring-contents .ensures)),
+    )
+
+pub judge-whole-spec : {M : Type 1} → statement M
+judge-whole-spec =
+    tie.close
+    (tie.spec
+    examine-requires
+    enum-known-found
+    enum-known-found-2
+    bring-contents-requires
+    read-as-requires
+    same-length
+    returns
+    same-length-2
+    returns-2)

@@ -1,0 +1,82 @@
+-- The conditions on a sound frame, each by itself, and document 01's table of refusals over them.
+-- None speaks of the verdict or of the steps by which it is reached.
+use Prim.Native.Nat.{ℕ, _+_, _≤_, _<_}
+use mathlib.Core.Path.{_≡_}
+use mathlib.Core.Logic.{_⊎_}
+use mathlib.Core.List.{List, [], _∷_, _++_}
+use lib.ListN.{length, getD}
+use Rattle.frame.specs.Checksum.{checksum}
+use Rattle.frame.specs.Frame.{Frame, contentsOf}
+use Rattle.frame.specs.Verdict.{Verdict, accepted, refused, contentsIn, lastOf, addressCount, frameIn}
+use Rattle.frame.specs.Answers.{ReadAnswer, notRead, headerOf}
+use Rattle.frame.specs.declared.Kind.{Kind}
+use Rattle.frame.specs.declared.Kind.the-variants.{Standard, Extended}
+
+-- The start flag of a kind.
+abbrev pub startFlag : Kind → ℕ
+startFlag Standard = 0xF1
+startFlag Extended = 0xF0
+
+-- Neither F0, nor F1, nor F2 stands anywhere.
+abbrev pub FlagFree : List ℕ → Type 0
+FlagFree s = (i : ℕ) → i < length s → (getD s i 0 < 0xF0) ⊎ (0xF2 < getD s i 0)
+
+-- One terminated candidate (document 01: one whole closed stretch).
+pub record Terminated (w : List ℕ) : Type 0 where
+  pub kind : Kind
+  pub body : List ℕ
+  pub shape : w ≡ startFlag kind ∷ body ++ (0xF2 ∷ [])
+  pub inside : FlagFree body
+
+-- At most 120 bytes on the wire, flags and escapes included.
+abbrev pub WithinLimit : List ℕ → Type 0
+WithinLimit w = length w ≤ 120
+
+-- Every F3 has 00 to 03 right after it.
+abbrev pub EscapesSound : List ℕ → Type 0
+EscapesSound s = (i : ℕ) → i < length s → getD s i 0 ≡ 0xF3 → (i + 1 < length s) × (getD s (i + 1) 0 ≤ 3)
+
+-- The bytes `u` are `s` with each F3 00 to F3 03 put back as F0 to F3.
+pub data Unstuffs : List ℕ → List ℕ → Type 0 where
+  none : Unstuffs [] []
+  plain : {b : ℕ} {s u : List ℕ} → (b ≡ 0xF3 → ⊥) → Unstuffs s u → Unstuffs (b ∷ s) (b ∷ u)
+  escape : {k : ℕ} {s u : List ℕ} → k ≤ 3 → Unstuffs s u → Unstuffs (0xF3 ∷ k ∷ s) ((0xF0 + k) ∷ u)
+
+-- The fewest unstuffed bytes: the addresses and the checksum.
+abbrev pub fewest : Kind → ℕ
+fewest Standard = 1
+fewest Extended = 3
+
+abbrev pub LongEnough : Kind → List ℕ → Type 0
+LongEnough kind u = fewest kind ≤ length u
+
+-- The last byte is the exclusive or of the contents.
+abbrev pub ChecksumRight : Kind → List ℕ → Type 0
+ChecksumRight kind u = lastOf u ≡ checksum (contentsIn (addressCount kind) u)
+
+-- What demand 2 asks of a slice that is accepted as a frame.
+pub record Sound (w : List ℕ) (f : Frame) : Type 0 where
+  pub candidate : Terminated w
+  pub limit : WithinLimit w
+  pub escapes : EscapesSound (candidate .body)
+  pub unstuffed : List ℕ
+  pub unstuffs : Unstuffs (candidate .body) unstuffed
+  pub enough : LongEnough (candidate .kind) unstuffed
+  pub sum : ChecksumRight (candidate .kind) unstuffed
+  pub frame : f ≡ frameIn (candidate .kind) unstuffed
+
+-- Document 01's table with its order: each answer with the rule that fails, where every rule before it holds.
+pub data Judged (w : List ℕ) : Verdict → Type 0 where
+  truncated : (Terminated w → ⊥) → Judged w (refused 6)
+  long : Terminated w → (WithinLimit w → ⊥) → Judged w (refused 2)
+  badEscape : (t : Terminated w) → WithinLimit w → (EscapesSound (t .body) → ⊥) → Judged w (refused 3)
+  short : (t : Terminated w) (u : List ℕ) → WithinLimit w → EscapesSound (t .body) → Unstuffs (t .body) u → (LongEnough (t .kind) u → ⊥) → Judged w (refused 4)
+  badSum : (t : Terminated w) (u : List ℕ) → WithinLimit w → EscapesSound (t .body) → Unstuffs (t .body) u → LongEnough (t .kind) u
+      → (ChecksumRight (t .kind) u → ⊥) → Judged w (refused 5)
+  sound : (f : Frame) → Sound w f → Judged w (accepted f)
+
+-- The same with the output's room, which is asked for last.
+pub data ReadJudged (w : List ℕ) (room : ℕ) : ReadAnswer → Type 0 where
+  refusedBy : {n : ℕ} → Judged w (refused n) → ReadJudged w room (notRead n)
+  noRoom : {f : Frame} → Sound w f → room < length (contentsOf f) → ReadJudged w room (notRead 1)
+  fits : {f : Frame} → Sound w f → length (contentsOf f) ≤ room → ReadJudged w room (headerOf f)

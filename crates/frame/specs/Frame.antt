@@ -1,0 +1,31 @@
+-- A frame and its bytes on the wire: document 01, "Frames on the wire".
+use Prim.Native.Nat.{ℕ}
+use mathlib.Core.List.{List, [], _∷_, _++_}
+use Rattle.frame.specs.Stuffing.{stuff}
+use Rattle.frame.specs.Checksum.{checksum}
+
+pub data Frame : Type 0 where
+  standard : (contents : List ℕ) → Frame
+  extended : (to from : ℕ) (contents : List ℕ) → Frame
+
+unfoldable pub contentsOf : Frame → List ℕ
+contentsOf (standard c) = c
+contentsOf (extended to from c) = c
+
+-- The start flag.
+unfoldable pub startOf : Frame → ℕ
+startOf (standard c) = 0xF1
+startOf (extended to from c) = 0xF0
+
+-- The destination and the source, which only an extended frame has.
+unfoldable pub addressesOf : Frame → List ℕ
+addressesOf (standard c) = []
+addressesOf (extended to from c) = to ∷ from ∷ []
+
+-- What stands between the flags before it is stuffed.
+unfoldable pub payload : Frame → List ℕ
+payload f = addressesOf f ++ (contentsOf f ++ (checksum (contentsOf f) ∷ []))
+
+-- The frame as it is sent.
+unfoldable pub wireOf : Frame → List ℕ
+wireOf f = startOf f ∷ stuff (payload f) ++ (0xF2 ∷ [])

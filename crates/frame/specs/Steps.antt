@@ -1,0 +1,92 @@
+-- What the private functions answer: contracts inside the crate, which no caller reads.
+use Prim.Native.Nat.{ℕ, _+_, _≤_, _<_}
+use mathlib.Core.Path.{_≡_}
+use mathlib.Core.Bool.{false}
+use mathlib.Core.List.{List, [], _∷_, _++_}
+use lib.Dec.{leb, ltb, eqb}
+use lib.ListN.{length, getD, drop}
+use Rattle.packing.specs.Choice.{pick}
+use Rattle.refusal.specs.Number.{numberOf}
+use Rattle.frame.specs.Stuffing.{stuffByte, unstuff, Unstuffed, badEscape, bytes, prepend}
+use Rattle.frame.specs.Checksum.{sumFrom, checksum}
+use Rattle.frame.specs.Frame.{Frame, standard, extended}
+use Rattle.frame.specs.Verdict.{judge, accepted, refused, addressCount}
+use Rattle.frame.specs.Answers.{ReadAnswer, readStandard, readExtended}
+use Rattle.frame.specs.declared.Kind.{Kind}
+use Rattle.frame.specs.declared.Kind.the-variants.{Standard, Extended}
+use Rattle.frame.specs.declared.Header.{Header}
+use Rattle.frame.specs.declared.Header.the-variants.{Plain, Addressed}
+use Rattle.frame.specs.declared.candidate.Next.{Next}
+use Rattle.frame.specs.declared.candidate.Next.the-variants.{End, Bad, Byte}
+use Rattle.frame.specs.declared.candidate.Scan.{Scan}
+use Rattle.frame.specs.declared.candidate.Scan.the-variants.{Fault, Good}
+use Rattle.frame.specs.declared.candidate.Addresses.{Addresses}
+use Rattle.frame.specs.declared.candidate.Addresses.the-variants.{Broken, Missing, Found}
+use Rattle.frame.specs.declared.candidate.Examined.{Examined}
+use Rattle.frame.specs.declared.candidate.Examined.the-variants.{Unsound, Sound}
+
+-- ---- writing
+
+-- The frame of a header and contents.
+abbrev pub frameOf : Header → List ℕ → Frame
+frameOf Plain c = standard c
+frameOf (Addressed to from) c = extended to from c
+
+abbrev pub kindIn : Header → Kind
+kindIn Plain = Standard
+kindIn (Addressed to from) = Extended
+
+-- The header's addresses before unstuffed bytes.
+abbrev pub headed : Header → Unstuffed → Unstuffed
+headed Plain r = r
+headed (Addressed to from) r = prepend to (prepend from r)
+
+-- The start flag and the stuffed addresses.
+abbrev pub headerWire : Header → List ℕ
+headerWire Plain = 0xF1 ∷ []
+headerWire (Addressed to from) = 0xF0 ∷ (stuffByte to ++ stuffByte from)
+
+-- ---- reading
+
+-- What is answered of a header and a number of contents bytes.
+abbrev pub readAs : Header → ℕ → ReadAnswer
+readAs Plain len = readStandard len
+readAs (Addressed to from) len = readExtended to from len
+
+-- The unstuffed byte at an index of stuffed bytes, and the index after it.
+unfoldable pub nextAt : List ℕ → ℕ → Next
+nextAt s at =
+    pick (ltb at (length s))
+    (pick (eqb (getD s at 0) 0xF3)
+    (pick (ltb (at + 1) (length s)) (pick (leb (getD s (at + 1) 0) 3) (Byte (0xF0 + getD s (at + 1) 0) (at + 2)) Bad) Bad)
+    (Byte (getD s at 0) (at + 1)))
+    End
+
+-- The number of unstuffed bytes and their exclusive or, where `len` bytes with the exclusive or `sum` have gone before.
+unfoldable pub scanFrom : (len sum : ℕ) → Unstuffed → Scan
+scanFrom len sum badEscape = Fault
+scanFrom len sum (bytes u) = Good (len + length u) (sumFrom sum u)
+
+-- The bytes, none where an escape is bad.
+unfoldable pub bytesOf : Unstuffed → List ℕ
+bytesOf badEscape = []
+bytesOf (bytes u) = u
+
+-- What was found of the addresses at the start of stuffed bytes.
+abbrev pub AddressesIn : Kind → List ℕ → Addresses → Type 0
+AddressesIn kind body Broken = unstuff false body ≡ badEscape
+AddressesIn kind body Missing = (u : List ℕ) × (unstuff false body ≡ bytes u) × (length u < addressCount kind)
+AddressesIn kind body (Found header next) = (next ≤ length body) × (kindIn header ≡ kind) × (unstuff false body ≡ headed header (unstuff false (drop next body)))
+
+-- A sound body: its frame, and where its stuffed contents stand.
+pub record SoundAt (kind : Kind) (body : List ℕ) (header : Header) (start len : ℕ) : Type 0 where
+  pub contents : List ℕ
+  pub judged : judge kind body ≡ accepted (frameOf header contents)
+  pub counted : length contents ≡ len
+  pub follows : unstuff false (drop start body) ≡ bytes (contents ++ (checksum contents ∷ []))
+  pub inside : start ≤ length body
+
+-- What was found of a body.
+abbrev pub Examines : Kind → List ℕ → Examined → Type 0
+Examines kind body (Unsound why) = judge kind body ≡ refused (numberOf why)
+Examines kind body (Sound header start len) = SoundAt kind body header start len

@@ -1,0 +1,80 @@
+// Loops over bytes that the compiler turns into vector code: a look for a range of values, the exclusive or, copies.
+ghost use mathlib.Core.Path.{_≡_};
+ghost use mathlib.Core.List.{_++_};
+ghost use Prim.Native.Nat.{_+_, _≤_};
+ghost use lib.Dec.{leb};
+ghost use lib.ListN.{length, take, drop};
+ghost use Rattle.packing.specs.Choice.{pick, within, noneOf};
+ghost use Rattle.packing.specs.Splice.{splice};
+ghost use Rattle.frame.specs.Checksum.{checksum};
+
+pub(crate) fn lesser(a: usize, b: usize) -> usize
+    ensures { λ r. ⌜ r ≡ pick (leb a b) a b ⌝ }
+{
+    if a <= b { a } else { b }
+}
+
+// 1 for a byte between two others, both included, else 0.
+fn mark(b: u8, low: u8, high: u8) -> u8
+    ensures { λ r. ⌜ r ≡ pick (within low high b) 1 0 ⌝ }
+{
+    if b < low {
+        return 0;
+    }
+    if high < b {
+        return 0;
+    }
+    1
+}
+
+// Whether no byte lies between two values, both included. The loop has no branch on the bytes.
+pub(crate) fn none_within(s: &[u8], low: u8, high: u8) -> bool
+    ensures { λ r. ⌜ r ≡ noneOf (within low high) (now (s .entry)) ⌝ }
+{
+    let mut seen: u8 = 0;
+    let mut i: usize = 0;
+    while i < s.len() {
+        seen = seen | mark(s[i], low, high);
+        i += 1;
+    }
+    seen == 0
+}
+
+pub(crate) fn sum_of(contents: &[u8]) -> u8
+    ensures { λ r. ⌜ r ≡ checksum (now (contents .entry)) ⌝ }
+{
+    let mut sum: u8 = 0;
+    let mut i: usize = 0;
+    while i < contents.len() {
+        sum = sum ^ contents[i];
+        i += 1;
+    }
+    sum
+}
+
+// Copies a slice into another from an index on.
+pub(crate) fn copy(s: &[u8], out: &mut [u8], at: usize)
+    requires { ⌜ at + length (now s) ≤ length (now out) ⌝ }
+    ensures { λ r. ⌜ now (out .exit) ≡ splice (now (out .entry)) at (now (s .entry)) ⌝ }
+{
+    let mut i: usize = 0;
+    while i < s.len() {
+        out[at + i] = s[i];
+        i += 1;
+    }
+}
+
+// Brings `count` bytes from an index on to the front.
+pub(crate) fn shift(s: &mut [u8], from: usize, count: usize)
+    requires { ⌜ count ≤ length (drop from (now s)) ⌝ }
+    ensures { λ r. ⌜ now (s .exit) ≡ take count (drop from (now (s .entry))) ++ drop count (now (s .entry)) ⌝ }
+{
+    if from == 0 {
+        return;
+    }
+    let mut k: usize = 0;
+    while k < count {
+        s[k] = s[from + k];
+        k += 1;
+    }
+}

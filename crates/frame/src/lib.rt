@@ -1,0 +1,211 @@
+// CSAFE frames: one frame written, one slice read, and the bytes between two flags judged.
+// Document 01, "Frames on the wire".
+mod bytes;
+mod candidate;
+mod stuffing;
+
+use candidate::Examined;
+use refusal::Refusal;
+ghost use mathlib.Core.Path.{_≡_};
+ghost use mathlib.Core.List.{_++_};
+ghost use mathlib.Core.Bool.{false};
+ghost use Prim.Native.Nat.{_+_, _≤_};
+ghost use lib.ListN.{length, take, drop};
+ghost use Rattle.frame.specs.Stuffing.{unstuff};
+ghost use Rattle.frame.specs.Frame.{standard, extended, wireOf};
+ghost use Rattle.frame.specs.Verdict.{kindOf, judge, verdict};
+ghost use Rattle.frame.specs.Answers.{writtenMeans, writeAnswer, writeOut, readMeans, judgeAnswer, readAnswer, readOut, leftIn};
+ghost use Rattle.frame.specs.Steps.{frameOf, readAs, bytesOf};
+
+const STANDARD_START: u8 = 0xF1;
+
+const EXTENDED_START: u8 = 0xF0;
+
+const STOP: u8 = 0xF2;
+
+// The longest frame on the wire, flags and escapes included.
+const WIRE_LIMIT: usize = 120;
+
+// The longest contents that a frame can hold. Longer ones are refused before their bytes are counted, so that no sum wraps.
+const CONTENTS_LIMIT: usize = 117;
+
+// The two kinds of frame.
+pub enum Kind {
+    Standard,
+    Extended,
+}
+
+// The kind of a frame with its addresses, which only an extended one has.
+enum Header {
+    Plain,
+    Addressed { to: u8, from: u8 },
+}
+
+// The answer to writing: the length on the wire, or why nothing was written.
+pub enum Written {
+    Length(usize),
+    Refused(Refusal),
+}
+
+// The answer to reading: the kind of frame, its addresses and the number of its contents bytes, or why it was refused.
+pub enum Read {
+    Standard { len: usize },
+    Extended { to: u8, from: u8, len: usize },
+    Refused(Refusal),
+}
+
+// Writes a standard frame. Refusals 2 and 1.
+pub fn write_standard(contents: &[u8], out: &mut [u8]) -> Written
+    ensures { λ r. ⌜ writtenMeans r ≡ writeAnswer (wireOf (standard (now (contents .entry)))) (length (now (out .entry))) ⌝ }
+    ensures { λ r. ⌜ now (out .exit) ≡ writeOut (wireOf (standard (now (contents .entry)))) (now (out .entry)) ⌝ }
+{
+    write_frame(Header::Plain, contents, out)
+}
+
+// Writes an extended frame. Refusals 2 and 1.
+pub fn write_extended(to: u8, from: u8, contents: &[u8], out: &mut [u8]) -> Written
+    ensures { λ r. ⌜ writtenMeans r ≡ writeAnswer (wireOf (extended to from (now (contents .entry)))) (length (now (out .entry))) ⌝ }
+    ensures { λ r. ⌜ now (out .exit) ≡ writeOut (wireOf (extended to from (now (contents .entry)))) (now (out .entry)) ⌝ }
+{
+    write_frame(Header::Addressed { to, from }, contents, out)
+}
+
+// Reads a slice that is to be one frame, and puts its contents first in the output. Refusals 6, 2, 3, 4, 5 and 1.
+pub fn read_frame(wire: &[u8], out: &mut [u8]) -> Read
+    ensures { λ r. ⌜ readMeans r ≡ readAnswer (verdict (now (wire .entry))) (length (now (out .entry))) ⌝ }
+    ensures { λ r. ⌜ now (out .exit) ≡ readOut (verdict (now (wire .entry))) (now (out .entry)) ⌝ }
+{
+    if !candidate::is_terminated(wire) {
+        return Read::Refused(Refusal::Truncated);
+    }
+    let n = wire.len();
+    let start = wire[0];
+    let body = &wire[1..n - 1];
+    let found = candidate::examine(kind_of(start), body);
+    match found {
+        Examined::Unsound(why) => Read::Refused(why),
+        Examined::Sound { header, start, len } => {
+            if out.len() < len {
+                return Read::Refused(Refusal::NoRoom);
+            }
+            copy_contents(&body[start..], len, out);
+            read_as(header, len)
+        }
+    }
+}
+
+// The verdict on what stands between a start flag of this kind and the stop flag. Refusals 2, 3, 4 and 5.
+pub fn judge_body(kind: Kind, body: &[u8]) -> Read
+    ensures { λ r. ⌜ readMeans r ≡ judgeAnswer (judge kind (now (body .entry))) ⌝ }
+{
+    let found = candidate::examine(kind, body);
+    match found {
+        Examined::Unsound(why) => Read::Refused(why),
+        Examined::Sound {
+            header,
+            start: _,
+            len,
+        } => read_as(header, len),
+    }
+}
+
+// The same of the first `len` bytes of a slice, or of all where there are fewer. The contents of an accepted frame
+// are brought to the front; a refusal changes nothing.
+pub fn judge_in_place(kind: Kind, s: &mut [u8], len: usize) -> Read
+    ensures { λ r. ⌜ readMeans r ≡ judgeAnswer (judge kind (take len (now (s .entry)))) ⌝ }
+    ensures { λ r. ⌜ now (s .exit) ≡ leftIn (judge kind (take len (now (s .entry)))) (now (s .entry)) ⌝ }
+{
+    let n = bytes::lesser(len, s.len());
+    judge_whole(kind, &mut s[..n])
+}
+
+// The same of an array that can hold all that stands between the flags of a frame.
+pub fn judge_array(kind: Kind, bytes: &mut [u8; 118], len: usize) -> Read
+    ensures { λ r. ⌜ readMeans r ≡ judgeAnswer (judge kind (take len (now (bytes .entry)))) ⌝ }
+    ensures { λ r. ⌜ now (bytes .exit) ≡ leftIn (judge kind (take len (now (bytes .entry)))) (now (bytes .entry)) ⌝ }
+{
+    judge_in_place(kind, bytes, len)
+}
+
+// The length is found first, so that nothing is written where the frame does not fit.
+fn write_frame(header: Header, contents: &[u8], out: &mut [u8]) -> Written
+    ensures { λ r. ⌜ writtenMeans r ≡ writeAnswer (wireOf (frameOf header (now (contents .entry)))) (length (now (out .entry))) ⌝ }
+    ensures { λ r. ⌜ now (out .exit) ≡ writeOut (wireOf (frameOf header (now (contents .entry)))) (now (out .entry)) ⌝ }
+{
+    if CONTENTS_LIMIT < contents.len() {
+        return Written::Refused(Refusal::TooLong);
+    }
+    let sum = bytes::sum_of(contents);
+    let stuffed = stuffing::stuffed_len(contents);
+    let n = stuffing::header_len(header) + stuffed + stuffing::width(sum) + 1;
+    if WIRE_LIMIT < n {
+        return Written::Refused(Refusal::TooLong);
+    }
+    if out.len() < n {
+        return Written::Refused(Refusal::NoRoom);
+    }
+    let a = stuffing::put_header(header, out);
+    let b = stuffing::put_stuffed(contents, stuffed, out, a);
+    let c = stuffing::put_byte(sum, out, b);
+    out[c] = STOP;
+    Written::Length(n)
+}
+
+fn kind_of(start: u8) -> Kind
+    ensures { λ r. ⌜ r ≡ kindOf start ⌝ }
+{
+    if start == EXTENDED_START {
+        return Kind::Extended;
+    }
+    Kind::Standard
+}
+
+fn read_as(header: Header, len: usize) -> Read
+    ensures { λ r. ⌜ readMeans r ≡ readAs header len ⌝ }
+{
+    match header {
+        Header::Plain => Read::Standard { len },
+        Header::Addressed { to, from } => Read::Extended { to, from, len },
+    }
+}
+
+// Puts the first `len` bytes, unstuffed, first in the output; `rest` holds one byte more. Where it is as long as its
+// unstuffed bytes no escape stands in it, and it is copied as it is.
+fn copy_contents(rest: &[u8], len: usize, out: &mut [u8])
+    requires { ⌜ length (bytesOf (unstuff false (now rest))) ≡ len + 1 ⌝ }
+    requires { ⌜ len ≤ length (now out) ⌝ }
+    ensures { λ r. ⌜ now (out .exit) ≡ take len (bytesOf (unstuff false (now (rest .entry)))) ++ drop len (now (out .entry)) ⌝ }
+{
+    if rest.len() == len + 1 {
+        bytes::copy(&rest[..len], out, 0);
+        return;
+    }
+    candidate::unstuff_into(rest, len, out)
+}
+
+// Brings the first `len` unstuffed bytes after an index to the front; one more stands after them.
+fn bring_contents(s: &mut [u8], start: usize, len: usize)
+    requires { ⌜ length (bytesOf (unstuff false (drop start (now s)))) ≡ len + 1 ⌝ }
+    requires { ⌜ start ≤ length (now s) ⌝ }
+    ensures { λ r. ⌜ now (s .exit) ≡ take len (bytesOf (unstuff false (drop start (now (s .entry))))) ++ drop len (now (s .entry)) ⌝ }
+{
+    if s.len() - start == len + 1 {
+        bytes::shift(s, start, len);
+        return;
+    }
+    candidate::unstuff_front(s, start, len)
+}
+
+fn judge_whole(kind: Kind, s: &mut [u8]) -> Read
+    ensures { λ r. ⌜ readMeans r ≡ judgeAnswer (judge kind (now (s .entry))) ⌝ }
+    ensures { λ r. ⌜ now (s .exit) ≡ leftIn (judge kind (now (s .entry))) (now (s .entry)) ⌝ }
+{
+    let found = candidate::examine(kind, s);
+    match found {
+        Examined::Unsound(why) => Read::Refused(why),
+        Examined::Sound { header, start, len } => {
+            bring_contents(s, start, len);
+            read_as(header, len)
+        }
+    }
+}

@@ -1,0 +1,118 @@
+// Bytes as they are sent between the flags, written into a slice.
+use crate::Header;
+ghost use mathlib.Core.Path.{_≡_};
+ghost use mathlib.Core.List.{[], _∷_, _++_};
+ghost use Prim.Native.Nat.{_+_, _≤_};
+ghost use lib.ListN.{length};
+ghost use Rattle.packing.specs.Splice.{splice};
+ghost use Rattle.frame.specs.Stuffing.{isStuffed, stuff, stuffByte};
+ghost use Rattle.frame.specs.Steps.{headerWire};
+
+// Whether a byte is sent as two: F0, F1, F2 or F3.
+fn is_stuffed(b: u8) -> bool
+    ensures { λ r. ⌜ r ≡ isStuffed b ⌝ }
+{
+    if 0xF0 <= b { b <= 0xF3 } else { false }
+}
+
+// How many bytes a byte takes on the wire.
+pub(crate) fn width(b: u8) -> usize
+    ensures { λ r. ⌜ r ≡ length (stuffByte b) ⌝ }
+{
+    if is_stuffed(b) { 2 } else { 1 }
+}
+
+// How many bytes a slice takes on the wire.
+pub(crate) fn stuffed_len(s: &[u8]) -> usize
+    ensures { λ r. ⌜ r ≡ length (stuff (now (s .entry))) ⌝ }
+{
+    if crate::bytes::none_within(s, 0xF0, 0xF3) {
+        return s.len();
+    }
+    widths(s)
+}
+
+fn widths(s: &[u8]) -> usize
+    ensures { λ r. ⌜ r ≡ length (stuff (now (s .entry))) ⌝ }
+{
+    let mut n: usize = 0;
+    let mut i: usize = 0;
+    while i < s.len() {
+        n = n + width(s[i]);
+        i += 1;
+    }
+    n
+}
+
+// How many bytes the start flag and the addresses take.
+pub(crate) fn header_len(header: Header) -> usize
+    ensures { λ r. ⌜ r ≡ length (headerWire header) ⌝ }
+{
+    match header {
+        Header::Plain => 1,
+        Header::Addressed { to, from } => 1 + width(to) + width(from),
+    }
+}
+
+// Writes the start flag and the addresses first in the output, and answers the next index.
+pub(crate) fn put_header(header: Header, out: &mut [u8]) -> usize
+    requires { ⌜ length (headerWire header) ≤ length (now out) ⌝ }
+    ensures { λ r. ⌜ r ≡ length (headerWire header) ⌝ }
+    ensures { λ r. ⌜ now (out .exit) ≡ splice (now (out .entry)) 0 (headerWire header) ⌝ }
+{
+    match header {
+        Header::Plain => {
+            out[0] = crate::STANDARD_START;
+            1
+        }
+        Header::Addressed { to, from } => {
+            out[0] = crate::EXTENDED_START;
+            let a = put_byte(to, out, 1);
+            put_byte(from, out, a)
+        }
+    }
+}
+
+// Writes a byte, stuffed, at an index, and answers the next index.
+pub(crate) fn put_byte(b: u8, out: &mut [u8], at: usize) -> usize
+    requires { ⌜ at + length (stuffByte b) ≤ length (now out) ⌝ }
+    ensures { λ r. ⌜ r ≡ at + length (stuffByte b) ⌝ }
+    ensures { λ r. ⌜ now (out .exit) ≡ splice (now (out .entry)) at (stuffByte b) ⌝ }
+{
+    if is_stuffed(b) {
+        out[at] = 0xF3;
+        out[at + 1] = b - 0xF0;
+        return at + 2;
+    }
+    out[at] = b;
+    at + 1
+}
+
+// Writes a slice, stuffed, from an index on, and answers the next index. A slice that takes no more bytes on the
+// wire than it has is copied as it is.
+pub(crate) fn put_stuffed(s: &[u8], stuffed: usize, out: &mut [u8], from: usize) -> usize
+    requires { ⌜ stuffed ≡ length (stuff (now s)) ⌝ }
+    requires { ⌜ from + length (stuff (now s)) ≤ length (now out) ⌝ }
+    ensures { λ r. ⌜ r ≡ from + length (stuff (now (s .entry))) ⌝ }
+    ensures { λ r. ⌜ now (out .exit) ≡ splice (now (out .entry)) from (stuff (now (s .entry))) ⌝ }
+{
+    if stuffed == s.len() {
+        crate::bytes::copy(s, out, from);
+        return from + stuffed;
+    }
+    put_each(s, out, from)
+}
+
+fn put_each(s: &[u8], out: &mut [u8], from: usize) -> usize
+    requires { ⌜ from + length (stuff (now s)) ≤ length (now out) ⌝ }
+    ensures { λ r. ⌜ r ≡ from + length (stuff (now (s .entry))) ⌝ }
+    ensures { λ r. ⌜ now (out .exit) ≡ splice (now (out .entry)) from (stuff (now (s .entry))) ⌝ }
+{
+    let mut at = from;
+    let mut i: usize = 0;
+    while i < s.len() {
+        at = put_byte(s[i], out, at);
+        i += 1;
+    }
+    at
+}

@@ -1,0 +1,4 @@
+pub mod Cases
+pub mod Splices
+pub mod Lists
+pub mod Tests

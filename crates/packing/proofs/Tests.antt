@@ -1,0 +1,67 @@
+-- Laws on a test that no element of a list passes.
+use Prim.Native.Nat.{ℕ, zero, suc, _+_, _≤_, _<_}
+use mathlib.Core.Path.{_≡_, refl, sym, ap, _∙_}
+use mathlib.Core.Bool.{Bool, true, false, true≢false}
+use mathlib.Core.List.{List, [], _∷_, _++_}
+use native.Mathlib.Omega.{arith}
+use native.Mathlib.Numerals.{add-one}
+use lib.Bits.{bitOr}
+use lib.Dec.{leb, eqb}
+use lib.ListN.{length, getD, take, drop}
+use lib.Seq.{take-suc}
+use borrow.Author.Tests.{leb-true, le-leb}
+use Rattle.packing.specs.Choice.{pick, within, noneOf}
+use Rattle.packing.proofs.Cases.{by-bool, both-true}
+
+-- A number within bounds.
+pub within-yes : (low high n : ℕ) → low ≤ n → n ≤ high → within low high n ≡ true
+within-yes low high n h k = simp (le-leb low n h, le-leb n high k)
+
+pub within-true : (low high n : ℕ) → within low high n ≡ true → (low ≤ n) × (n ≤ high)
+within-true low high n e =
+    let p = both-true (leb low n) (leb n high) e in
+    (leb-true low n (p .0), leb-true n high (p .1))
+
+module _ (p : ℕ → Bool) where
+  pub none-append : (a b : List ℕ) → noneOf p (a ++ b) ≡ pick (noneOf p a) (noneOf p b) false
+  unfolding noneOf
+  none-append [] b = refl
+  none-append (x ∷ a) b = by-bool (p x) (λ y. simp y) (λ n. simp n (none-append a b))
+
+  pub none-drop : (k : ℕ) (s : List ℕ) → noneOf p s ≡ true → noneOf p (drop k s) ≡ true
+  unfolding noneOf
+  none-drop zero s h = h
+  none-drop (suc k) [] h = refl
+  none-drop (suc k) (x ∷ s) h = by-bool (p x) (λ y. absurd (true≢false (sym h ∙ simp y))) (λ n. none-drop k s (simp n at h))
+
+  -- no element passes exactly where the element at no index does
+  pub none-at : (s : List ℕ) → noneOf p s ≡ true → (i : ℕ) → i < length s → p (getD s i 0) ≡ false
+  unfolding noneOf
+  none-at [] h i k = absurd (omega arith)
+  none-at (x ∷ s) h zero k = by-bool (p x) (λ y. absurd (true≢false (sym h ∙ simp y))) (λ n. n)
+  none-at (x ∷ s) h (suc i) k = by-bool (p x) (λ y. absurd (true≢false (sym h ∙ simp y))) (λ n. none-at s (simp n at h) i (omega arith))
+
+  pub at-none : (s : List ℕ) → ((i : ℕ) → i < length s → p (getD s i 0) ≡ false) → noneOf p s ≡ true
+  unfolding noneOf
+  at-none [] h = refl
+  at-none (x ∷ s) h = simp (h 0 (omega arith), at-none s (λ i k. h (suc i) (omega arith)))
+
+  -- a loop that gathers, as 0 or 1, whether an element has passed
+  pub mark-more : (s : List ℕ) (i seen hit : ℕ) → i < length s → seen ≡ pick (noneOf p (take i s)) 0 1 → hit ≡ pick (p (getD s i 0)) 1 0
+      → bitOr seen hit ≡ pick (noneOf p (take (i + 1) s)) 0 1
+  unfolding noneOf
+  mark-more s i seen hit h e f =
+      ap (λ (m : ℕ). bitOr m hit) e ∙ ap (bitOr (pick (noneOf p (take i s)) 0 1)) f
+      ∙ joined (noneOf p (take i s)) (p (getD s i 0))
+      ∙ sym (ap (λ (t : Bool). pick {A = ℕ} t 0 1) (ap (λ (n : ℕ). noneOf p (take n s)) (add-one i) ∙ ap (noneOf p) (take-suc s i 0 h) ∙ none-append (take i s) (getD s i 0 ∷ [])))
+    where
+      joined : (t u : Bool) → bitOr (pick t 0 1) (pick u 1 0) ≡ pick (pick t (pick u false true) false) 0 1
+      joined true true = refl
+      joined true false = refl
+      joined false true = refl
+      joined false false = refl
+
+-- what such a loop has gathered at its end
+pub mark-all : (t : Bool) → eqb (pick t 0 1) 0 ≡ t
+mark-all true = refl
+mark-all false = refl

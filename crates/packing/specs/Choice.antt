@@ -1,0 +1,19 @@
+-- A choice by a test, and tests on numbers and lists.
+use Prim.Native.Nat.{ℕ}
+use mathlib.Core.Bool.{Bool, true, false}
+use mathlib.Core.List.{List, [], _∷_}
+use lib.Dec.{leb}
+
+-- The first of two where the test holds, else the second.
+abbrev pub pick : {A : Type 0} → Bool → A → A → A
+pick true a b = a
+pick false a b = b
+
+-- Whether a number lies between two others, both included.
+abbrev pub within : ℕ → ℕ → ℕ → Bool
+within low high n = pick (leb low n) (leb n high) false
+
+-- Whether no element of a list passes a test.
+unfoldable pub noneOf : (ℕ → Bool) → List ℕ → Bool
+noneOf p [] = true
+noneOf p (x ∷ s) = pick (p x) false (noneOf p s)
