@@ -157,9 +157,9 @@ fn source_after(body: &[u8], to: u8, at: usize) -> Addresses
     match second {
         Next::End => Addresses::Missing,
         Next::Bad => Addresses::Broken,
-        Next::Byte(from, next) => Addresses::Found {
+        Next::Byte(from, after) => Addresses::Found {
             header: Header::Addressed { to, from },
-            next,
+            next: after,
         },
     }
 }

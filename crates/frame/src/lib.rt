@@ -95,6 +95,7 @@ pub fn read_frame(wire: &[u8], out: &mut [u8]) -> Read
 }
 
 // The verdict on what stands between a start flag of this kind and the stop flag. Refusals 2, 3, 4 and 5.
+// Whoever calls it has found the flags: a byte of the body that is one is taken as it stands.
 pub fn judge_body(kind: Kind, body: &[u8]) -> Read
     ensures { λ r. ⌜ readMeans r ≡ judgeAnswer (judge kind (now (body .entry))) ⌝ }
 {
