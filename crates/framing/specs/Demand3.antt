@@ -1,0 +1,38 @@
+-- Demand 3 of what answers lists of calls, over a protocol's parameters.
+use mathlib.Core.Path.{_≡_}
+use mathlib.Core.List.{List, [], _∷_, _++_, map}
+use lib.ListN.{drop}
+use Prim.Native.Nat.{ℕ}
+use Rattle.framing.specs.Reference.{Call, byte, starts, plain, Protocol, Reference}
+
+-- Bytes fed one by one.
+abbrev pub feed : List ℕ → List Call
+feed bytes = map byte bytes
+
+module _ {A : Type 0} (P : Protocol A) where
+  -- No byte of a list starts or stops a candidate.
+  abbrev pub FlagFree : List ℕ → Type 0
+  FlagFree [] = Unit {0}
+  FlagFree (b ∷ bytes) = (P .role b ≡ plain) × FlagFree bytes
+
+  -- The bytes hold a start flag, and no stop flag after their last start flag. It speaks of the bytes alone.
+  pub record LeftOpen (bytes : List ℕ) : Type 0 where
+    pub before : List ℕ
+    pub flag : ℕ
+    pub rest : List ℕ
+    pub splits : bytes ≡ before ++ flag ∷ rest
+    pub starting : P .role flag ≡ starts
+    pub flag-free : FlagFree rest
+
+  -- Any bytes D, then bytes W that begin with the start flag w, then any calls L. D is answered as D alone is. The flag is answered
+  -- with the truncation if D left a candidate open, else with nothing. Every later call is answered as it is where W and L come first.
+  pub record Restarts (answers : List Call → List A) (D : List ℕ) (w : ℕ) (W : List ℕ) (L : List Call) : Type 0 where
+    pub first : A
+    pub whole : answers (feed D ++ (feed (w ∷ W) ++ L)) ≡ answers (feed D) ++ first ∷ drop 1 (answers (feed (w ∷ W) ++ L))
+    pub truncated : LeftOpen D → first ≡ P .truncated
+    pub nothing : (LeftOpen D → ⊥) → first ≡ P .nothing
+
+  -- Demand 3, one claim of what answers every list of calls from the start.
+  pub record Follows (answers : List Call → List A) : Type 0 where
+    pub same : (calls : List Call) → answers calls ≡ Reference P calls
+    pub restarts : (D : List ℕ) (w : ℕ) (W : List ℕ) (L : List Call) → P .role w ≡ starts → Restarts answers D w W L

@@ -1,0 +1,3 @@
+pub mod Follows
+pub mod Calls
+pub mod Consequences

@@ -1,0 +1,15 @@
+use borrow.Author.Needs.{needs}
+use Rattle.line.proofs.LineReader.finish.Statement.{statement}
+use Rattle.line.proofs.LineReader.finish.Tie as tie
+
+finish-in-requires : tie.Need-finish-in-requires
+finish-in-requires c κs = search needs
+
+by-value-requires : tie.Need-by-value-requires
+by-value-requires c κs = search needs
+
+returns : tie.Need-returns
+returns c = c .by-value .ensures _ (c .before .finish-in .ensures _ (c .before .before .before .args .self .len))
+
+pub finish-spec : {M : Type 1} → statement M
+finish-spec = tie.close (tie.spec finish-in-requires by-value-requires returns)

@@ -1,0 +1,15 @@
+use borrow.Author.Needs.{needs}
+use Rattle.line.proofs.LineReader.step.Statement.{statement}
+use Rattle.line.proofs.LineReader.step.Tie as tie
+
+step-in-requires : tie.Need-step-in-requires
+step-in-requires c κs = search needs
+
+by-value-requires : tie.Need-by-value-requires
+by-value-requires c κs = search needs
+
+returns : tie.Need-returns
+returns c = c .by-value .ensures _ (c .before .step-in .ensures)
+
+pub step-spec : {M : Type 1} → statement M
+step-spec = tie.close (tie.spec step-in-requires by-value-requires returns)

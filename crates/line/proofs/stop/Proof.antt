@@ -1,0 +1,17 @@
+use mathlib.Core.Path.{ap}
+use Rattle.line.specs.Reader.{reader}
+use mathlib.Core.List.{List}
+use Prim.Native.Nat.{ℕ}
+use Rattle.line.specs.declared.Mode.the-variants.{Outside}
+use borrow.Author.Needs.{needs}
+use Rattle.line.proofs.stop.Statement.{statement}
+use Rattle.line.proofs.stop.Tie as tie
+
+terminated-requires : tie.Need-terminated-requires
+terminated-requires c κs = search needs
+
+returns : tie.Need-returns
+returns c = record { told-is = c .terminated .ensures .0; next-is = ap (λ (l : List ℕ). reader l 0 Outside) (c .terminated .ensures .1) }
+
+pub stop-spec : {M : Type 1} → statement M
+stop-spec = tie.close (tie.spec terminated-requires returns)

@@ -1,0 +1,45 @@
+-- What a call on a line reader is answered with: document 01, "The line".
+use mathlib.Core.List.{List}
+use lib.ListN.{replicate}
+use Prim.Native.Nat.{ℕ}
+use Rattle.refusal.specs.Number.{numberOf}
+use Rattle.frame.specs.Verdict.{Verdict}
+use Rattle.frame.specs.Answers.{ReadAnswer, readStandard, readExtended, notRead, judgeAnswer, frameRead}
+use Rattle.line.specs.declared.Told.{Told}
+use Rattle.line.specs.declared.Told.the-variants.{Nothing, Refused, Standard, Extended}
+
+-- Nothing, or a verdict: a frame with its kind, addresses and contents, or a refusal's number.
+pub data Outcome : Type 0 where
+  nothing : Outcome
+  judged : Verdict → Outcome
+
+-- An outcome without the contents: what the enum `Told` holds.
+pub data Summary : Type 0 where
+  silent : Summary
+  tells : ReadAnswer → Summary
+
+abbrev pub toldMeans : Told → Summary
+toldMeans Nothing = silent
+toldMeans (Refused why) = tells (notRead (numberOf why))
+toldMeans (Standard len) = tells (readStandard len)
+toldMeans (Extended to from len) = tells (readExtended to from len)
+
+abbrev pub summaryOf : Outcome → Summary
+summaryOf nothing = silent
+summaryOf (judged v) = tells (judgeAnswer v)
+
+-- The outcome that a summary and an array whose first bytes are the contents make.
+abbrev pub outcomeOf : Summary → List ℕ → Outcome
+outcomeOf silent bytes = nothing
+outcomeOf (tells a) bytes = judged (frameRead a bytes)
+
+abbrev pub zeros : List ℕ
+zeros = replicate 118 0
+
+-- The array beside a summary, where `bytes` is the array that the reader is left with: a frame's contents are its first bytes;
+-- no contents stand beside anything else.
+abbrev pub contentsBeside : Summary → List ℕ → List ℕ
+contentsBeside silent bytes = zeros
+contentsBeside (tells (readStandard len)) bytes = bytes
+contentsBeside (tells (readExtended to from len)) bytes = bytes
+contentsBeside (tells (notRead n)) bytes = zeros

@@ -1,0 +1,33 @@
+-- The rowing protocol, at which the reference decoder is taken, and the answers of a new reader to a list of calls.
+use mathlib.Core.List.{List}
+use lib.Dec.{eqb}
+use Prim.Native.Nat.{ℕ}
+use Rattle.packing.specs.Choice.{pick}
+use Rattle.framing.specs.Reference.{Call, byte, finish, Role, starts, stops, plain, Protocol, run}
+use Rattle.frame.specs.Verdict.{refused, verdict}
+use Rattle.line.specs.Outcome.{Outcome, nothing, judged}
+use Rattle.line.specs.Reader.{Turn, newReader, stepOf, finishOf}
+use Rattle.line.specs.declared.LineReader.{LineReader}
+
+-- F0 and F1 start a candidate, F2 stops one.
+abbrev pub roleOf : ℕ → Role
+roleOf b = pick (eqb b 0xF0) starts (pick (eqb b 0xF1) starts (pick (eqb b 0xF2) stops plain))
+
+-- A terminated candidate is judged as the slice that it is, in frame reading's order without 1.
+abbrev pub rowing : Protocol Outcome
+rowing = record { role = roleOf; nothing = nothing; truncated = judged (refused 6); judge = λ s. judged (verdict s) }
+
+-- A call on the reader, as the contracts of `step` and `finish` say.
+abbrev pub turnOf : LineReader → Call → Turn
+turnOf r (byte b) = stepOf r b
+turnOf r finish = finishOf r
+
+abbrev pub outcomeAt : LineReader → Call → Outcome
+outcomeAt r c = turnOf r c .outcome
+
+abbrev pub nextAfter : LineReader → Call → LineReader
+nextAfter r c = turnOf r c .next
+
+-- The answers of a new reader, each call on the reader as the last one left it.
+abbrev pub readerAnswers : List Call → List Outcome
+readerAnswers calls = run outcomeAt nextAfter newReader calls
