@@ -1,0 +1,209 @@
+-- Laws of entries read one at a time.
+use Prim.Native.Nat.{ℕ, zero, suc, _+_, _-_, _≤_, _<_}
+use mathlib.Core.Path.{_≡_, refl, sym, ap, _∙_}
+use mathlib.Core.Bool.{true, false, true≢false}
+use mathlib.Core.List.{List, [], _∷_}
+use native.Mathlib.Nat.{add-zero}
+use native.Mathlib.Numerals.{add-one}
+use native.Mathlib.Omega.{arith}
+use lib.Dec.{leb, ltb}
+use lib.ListN.{length, getD, take, drop, length-drop, drop-of-length-le}
+use lib.Seq.{drop-cons, drop-drop, length-take-le, take-all, take-nil}
+use borrow.Author.Tests.{ltb-true, ltb-false, leb-true, leb-false}
+use Rattle.packing.specs.Choice.{pick}
+use Rattle.packing.proofs.Cases.{by-bool}
+use Rattle.command.specs.Entries.{Entry, entry, bytesOf, Parsed, unsound, sound, put, parse, parseCounted, headOf, Answer, found, refused, nthOf, nthIn}
+use Rattle.command.specs.Answers.{Count, uncounted, entries, counted}
+use Rattle.command.specs.Steps.{cursor, stepAt, ifSound}
+use Rattle.command.specs.declared.entries.Cursor.{Cursor}
+use Rattle.command.specs.declared.entries.Step.{Step}
+use Rattle.command.specs.declared.entries.Step.the-variants.{End, Broken, Entry as At}
+
+-- ---- data bytes are passed, or the bytes end before
+
+pub skip-within : (limit k : ℕ) (s : List ℕ) → k ≤ length s → parse limit s k ≡ parse limit (drop k s) 0
+unfolding parse
+skip-within limit zero s h = refl
+skip-within limit (suc k) [] h = absurd (omega arith)
+skip-within limit (suc k) (x ∷ s) h = skip-within limit k s (omega arith)
+
+skip-beyond : (limit k : ℕ) (s : List ℕ) → length s < k → parse limit s k ≡ unsound
+unfolding parse
+skip-beyond limit zero s h = absurd (omega arith)
+skip-beyond limit (suc k) [] h = refl
+skip-beyond limit (suc k) (x ∷ s) h = skip-beyond limit k s (omega arith)
+
+-- ---- a step
+
+-- what bytes are, where what stands at their front is known
+abbrev pub after : ℕ → List ℕ → Step → Parsed
+after limit s End = sound []
+after limit s Broken = unsound
+after limit s (At b start len next) = put (entry b (take len (drop start s))) (parse limit (drop (next .at) s) 0)
+
+counted-at : (limit b : ℕ) (s : List ℕ) (at : ℕ)
+    → parseCounted limit (drop (at + 1) s) b
+    ≡ after limit s (pick (ltb (at + 1) (length s)) (pick (leb (getD s (at + 1) 0) (length s - (at + 2))) (At b (at + 2) (getD s (at + 1) 0) (cursor (at + 2 + getD s (at + 1) 0))) Broken) Broken)
+unfolding parse put
+counted-at limit b s at =
+    by-bool (ltb (at + 1) (length s))
+    (λ y. let two : suc (at + 1) ≡ at + 2 = omega arith in
+    let n = getD s (at + 1) 0 in
+    let front : drop (at + 1) s ≡ n ∷ drop (at + 2) s = drop-cons s (at + 1) 0 (ltb-true _ _ y) ∙ ap (λ (k : ℕ). n ∷ drop k s) two in
+    ap (λ (l : List ℕ). parseCounted limit l b) front
+    ∙ by-bool (leb n (length s - (at + 2)))
+    (λ z. let fits : n ≤ length (drop (at + 2) s) = omega (arith, length-drop (at + 2) s, leb-true n (length s - (at + 2)) z) in
+    ap (put (entry b (take n (drop (at + 2) s)))) (skip-within limit n (drop (at + 2) s) fits ∙ ap (λ (l : List ℕ). parse limit l 0) (drop-drop n (at + 2) s))
+    ∙ sym (simp (y, z)))
+    (λ z. let over : length (drop (at + 2) s) < n = omega (arith, length-drop (at + 2) s, leb-false n (length s - (at + 2)) z) in
+    ap (put (entry b (take n (drop (at + 2) s)))) (skip-beyond limit n (drop (at + 2) s) over) ∙ sym (simp (y, z))))
+    (λ y. ap (λ (l : List ℕ). parseCounted limit l b) (drop-of-length-le s (ltb-false _ _ y)) ∙ sym (simp y))
+
+-- the bytes from an index on are what stands there, and then the bytes after it
+pub entry-step : (limit : ℕ) (s : List ℕ) (at : ℕ) → parse limit (drop at s) 0 ≡ after limit s (stepAt limit s at)
+unfolding parse put stepAt
+entry-step limit s at =
+    by-bool (ltb at (length s))
+    (λ y. let b = getD s at 0 in
+    let front : drop at s ≡ b ∷ drop (at + 1) s = drop-cons s at 0 (ltb-true _ _ y) ∙ ap (λ (k : ℕ). b ∷ drop k s) (sym (add-one at)) in
+    ap (λ (l : List ℕ). parse limit l 0) front
+    ∙ by-bool (ltb b limit)
+    (λ z. (simp z) ∙ counted-at limit b s at ∙ sym (simp (y, z)))
+    (λ z. simp (y, z)))
+    (λ y. ap (λ (l : List ℕ). parse limit l 0) (drop-of-length-le s (ltb-false _ _ y)) ∙ sym (simp y))
+
+-- where the entry at an index stands
+pub record Stands (limit : ℕ) (s : List ℕ) (at b start len next : ℕ) : Type 0 where
+  pub head : start ≡ at + headOf limit b
+  pub ends : next ≡ start + len
+  pub fits : next ≤ length s
+  pub bare : ltb b limit ≡ false → len ≡ 0
+  pub past : at < start
+
+stands : (limit : ℕ) (s : List ℕ) (at b start len : ℕ) (next : Cursor) → stepAt limit s at ≡ At b start len next → Stands limit s at b start len (next .at)
+unfolding stepAt
+stands limit s at b start len next e =
+    let c = getD s at 0 in
+    let n = getD s (at + 1) 0 in
+    by-bool (ltb at (length s))
+    (λ y. by-bool (ltb c limit)
+    (λ z. by-bool (ltb (at + 1) (length s))
+    (λ u. by-bool (leb n (length s - (at + 2)))
+    (λ v. let q : At c (at + 2) n (cursor (at + 2 + n)) ≡ At b start len next = simp (y, z, u, v) at e in
+    let eb : c ≡ b = cc in
+    let es : at + 2 ≡ start = cc in
+    let el : n ≡ len = cc in
+    let ec : cursor (at + 2 + n) ≡ next = cc in
+    let en : at + 2 + n ≡ next .at = ap (λ (k : Cursor). k .at) ec in
+    let t : ltb b limit ≡ true = ap (λ (x : ℕ). ltb x limit) (sym eb) ∙ z in
+    let i = ltb-true (at + 1) (length s) u in
+    let j = leb-true n (length s - (at + 2)) v in
+    record { head = simp t (sym es); ends = omega arith; fits = omega arith; bare = λ f. absurd (true≢false (sym t ∙ f)); past = omega arith })
+    (λ v. let q : Broken ≡ At b start len next = simp (y, z, u, v) at e in let w : _≡_ {A = ℕ} 0 1 = cc in absurd (omega arith)))
+    (λ u. let q : Broken ≡ At b start len next = simp (y, z, u) at e in let w : _≡_ {A = ℕ} 0 1 = cc in absurd (omega arith)))
+    (λ z. let q : At c (at + 1) 0 (cursor (at + 1)) ≡ At b start len next = simp (y, z) at e in
+    let eb : c ≡ b = cc in
+    let es : at + 1 ≡ start = cc in
+    let el : 0 ≡ len = cc in
+    let ec : cursor (at + 1) ≡ next = cc in
+    let en : at + 1 ≡ next .at = ap (λ (k : Cursor). k .at) ec in
+    let t : ltb b limit ≡ false = ap (λ (x : ℕ). ltb x limit) (sym eb) ∙ z in
+    let i = ltb-true at (length s) y in
+    record { head = simp t (sym es); ends = omega arith; fits = omega arith; bare = λ _. sym el; past = omega arith }))
+    (λ y. let q : End ≡ At b start len next = simp y at e in let w : _≡_ {A = ℕ} 0 1 = cc in absurd (omega arith))
+
+-- ---- what a call of the step and the match on it tell
+
+module _ (limit : ℕ) (s : List ℕ) (at : ℕ) {x : Step} (p : x ≡ stepAt limit s at) where
+  pub told : (y : Step) → x ≡ y → parse limit (drop at s) 0 ≡ after limit s y
+  told y q = entry-step limit s at ∙ ap (after limit s) (sym p ∙ q)
+
+  pub told-stands : (b start len : ℕ) (next : Cursor) → x ≡ At b start len next → Stands limit s at b start len (next .at)
+  told-stands b start len next q = stands limit s at b start len next (sym p ∙ q)
+
+-- ---- counting
+
+-- entries that were counted before
+abbrev pub plus : ℕ → Count → Count
+plus n uncounted = uncounted
+plus n (entries k) = entries (n + k)
+
+pub plus-none : (c : Count) → plus 0 c ≡ c
+plus-none uncounted = refl
+plus-none (entries k) = ap entries (omega arith)
+
+pub count-end : (n : ℕ) (p : Parsed) → p ≡ sound [] → entries n ≡ plus n (counted p)
+unfolding counted
+count-end n p e = sym (ap (λ (x : Parsed). plus n (counted x)) e ∙ ap entries (add-zero n))
+
+pub count-broken : (n : ℕ) (p : Parsed) → p ≡ unsound → uncounted ≡ plus n (counted p)
+unfolding counted
+count-broken n p e = sym (ap (λ (x : Parsed). plus n (counted x)) e)
+
+count-put : (n : ℕ) (e : Entry) (p : Parsed) → plus n (counted (put e p)) ≡ plus (n + 1) (counted p)
+unfolding counted put
+count-put n e unsound = refl
+count-put n e (sound es) = ap entries (omega arith)
+
+pub count-more : (n : ℕ) (p : Parsed) (e : Entry) (q : Parsed) → p ≡ put e q → plus (n + 1) (counted q) ≡ plus n (counted p)
+count-more n p e q h = sym (ap (λ (x : Parsed). plus n (counted x)) h ∙ count-put n e q)
+
+pub sound-unsound : (p : Parsed) (a : Answer) → counted p ≡ uncounted → refused 7 ≡ ifSound p a
+unfolding counted ifSound
+sound-unsound unsound a e = refl
+sound-unsound (sound es) a e = let w : _≡_ {A = ℕ} 0 1 = cc in absurd (omega arith)
+
+pub sound-sound : (p : Parsed) (a : Answer) (n : ℕ) → counted p ≡ entries n → a ≡ ifSound p a
+unfolding counted ifSound
+sound-sound unsound a n e = let w : _≡_ {A = ℕ} 0 1 = cc in absurd (omega arith)
+sound-sound (sound es) a n e = refl
+
+-- ---- the n-th entry
+
+pub nth-end : (limit at : ℕ) (p : Parsed) (n : ℕ) → p ≡ sound [] → refused 15 ≡ nthIn limit at p n
+unfolding nthIn nthOf
+nth-end limit at p n e = sym (ap (λ (x : Parsed). nthIn limit at x n) e)
+
+pub nth-broken : (limit at : ℕ) (p : Parsed) (n : ℕ) → p ≡ unsound → refused 7 ≡ nthIn limit at p n
+unfolding nthIn
+nth-broken limit at p n e = sym (ap (λ (x : Parsed). nthIn limit at x n) e)
+
+module _ {limit : ℕ} {s : List ℕ} {at b start len next : ℕ} (t : Stands limit s at b start len next) where
+  data-length : length (take len (drop start s)) ≡ len
+  data-length = length-take-le len (drop start s) (omega (arith, length-drop start s, t .fits, t .ends))
+
+  -- an entry's bytes are as many as from its index to the next
+  width : at + length (bytesOf limit (entry b (take len (drop start s)))) ≡ next
+  unfolding bytesOf
+  width =
+      let l = data-length in
+      by-bool (ltb b limit)
+      (λ y. let h : start ≡ at + 2 = simp y at (t .head) in simp y (omega (arith, t .ends)))
+      (λ y. let h : start ≡ at + 1 = simp y at (t .head) in let z : len ≡ 0 = t .bare y in simp y (omega (arith, t .ends)))
+
+  pub nth-found : (p q : Parsed) (n : ℕ) → p ≡ put (entry b (take len (drop start s))) q → n ≡ 0 → ifSound q (found b start len) ≡ nthIn limit at p n
+  unfolding put nthIn nthOf ifSound
+  nth-found p unsound n e z = sym (ap (λ (x : Parsed). nthIn limit at x n) e)
+  nth-found p (sound es) n e z =
+      ap (λ (x : ℕ). found b x len) (t .head) ∙ ap (found b (at + headOf limit b)) (sym data-length)
+      ∙ sym (ap (λ (x : Parsed). nthIn limit at x n) e ∙ ap (nthOf limit at (entry b (take len (drop start s)) ∷ es)) z)
+
+  pub nth-more : (p q : Parsed) (n : ℕ) → p ≡ put (entry b (take len (drop start s))) q → (n ≡ 0 → ⊥) → nthIn limit next q (n - 1) ≡ nthIn limit at p n
+  unfolding put nthIn nthOf
+  nth-more p unsound n e z = sym (ap (λ (x : Parsed). nthIn limit at x n) e)
+  nth-more p (sound es) zero e z = absurd (z refl)
+  nth-more p (sound es) (suc n) e z =
+      let one : suc n - 1 ≡ n = omega arith in
+      ap (nthOf limit next es) one ∙ ap (λ (x : ℕ). nthOf limit x es n) (sym width) ∙ sym (ap (λ (x : Parsed). nthIn limit at x (suc n)) e)
+
+-- ---- a part of a list, as far as the list goes
+
+pub part-past : (s : List ℕ) (start len : ℕ) → length s ≤ start → [] ≡ take len (drop start s)
+part-past s start len h = sym (ap (take len) (drop-of-length-le s h) ∙ take-nil len)
+
+pub part-rest : (s : List ℕ) (start len : ℕ) → length s - start ≤ len → take (length s - start) (drop start s) ≡ take len (drop start s)
+part-rest s start len h =
+    let l = length-drop start s in take-all (length s - start) (drop start s) (omega arith) ∙ sym (take-all len (drop start s) (omega arith))
+
+pub part-whole : (s : List ℕ) (start len : ℕ) → take (start + len - start) (drop start s) ≡ take len (drop start s)
+part-whole s start len = let n : start + len - start ≡ len = omega arith in ap (λ (k : ℕ). take k (drop start s)) n

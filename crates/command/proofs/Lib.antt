@@ -1,0 +1,4 @@
+pub mod EntryLaws
+pub mod Sound
+pub mod Places
+pub mod WalkLaws

@@ -1,0 +1,4 @@
+pub mod Entries
+pub mod Answers
+pub mod Commands
+pub mod Steps

@@ -1,0 +1,39 @@
+-- What the cursor's step and the private functions answer.
+use Prim.Native.Nat.{ℕ, _+_, _-_, _≤_, _<_, _^_}
+use mathlib.Core.List.{List}
+use lib.Dec.{leb, ltb}
+use lib.ListN.{length, getD}
+use Rattle.packing.specs.Choice.{pick}
+use Rattle.command.specs.Entries.{Parsed, unsound, sound, Answer, found, refused}
+use Rattle.command.specs.declared.entries.Cursor.{Cursor}
+use Rattle.command.specs.declared.entries.Step.{Step}
+use Rattle.command.specs.declared.entries.Step.the-variants.{End, Broken, Entry}
+
+abbrev pub cursor : ℕ → Cursor
+cursor at = record { at = at }
+
+-- The entry at an index of the bytes. That steps are the entries of `parse` is a law, `entry-step`.
+unfoldable pub stepAt : (limit : ℕ) → List ℕ → (at : ℕ) → Step
+stepAt limit s at =
+    pick (ltb at (length s))
+    (pick (ltb (getD s at 0) limit)
+    (pick (ltb (at + 1) (length s))
+    (pick (leb (getD s (at + 1) 0) (length s - (at + 2))) (Entry (getD s at 0) (at + 2) (getD s (at + 1) 0) (cursor (at + 2 + getD s (at + 1) 0))) Broken)
+    Broken)
+    (Entry (getD s at 0) (at + 1) 0 (cursor (at + 1))))
+    End
+
+-- An answer, where what follows is sound.
+unfoldable pub ifSound : Parsed → Answer → Answer
+ifSound unsound a = refused 7
+ifSound (sound es) a = a
+
+-- What an answer names stands within the contents.
+abbrev pub Within : List ℕ → Answer → Type 0
+Within s (found b start len) = start + len ≤ length s
+Within s (refused n) = Unit {0}
+
+-- A place further on by a number is still a usize.
+abbrev pub Fits : ℕ → Answer → Type 0
+Fits by (found b start len) = by + start < 2 ^ 64
+Fits by (refused n) = Unit {0}

@@ -1,0 +1,102 @@
+// Command lists: the n-th command at the top or inside a wrapper, its data as a part of the caller's contents.
+// Document 01, "Commands and replies".
+pub mod entries;
+
+use entries::Cursor;
+use entries::Found;
+use refusal::Refusal;
+ghost use mathlib.Core.Path.{_≡_};
+ghost use Prim.Native.Nat.{_+_, _≤_};
+ghost use lib.ListN.{length};
+ghost use Rattle.command.specs.Entries.{found};
+ghost use Rattle.command.specs.Answers.{foundMeans, partOf};
+ghost use Rattle.command.specs.Commands.{isWrapper, nthCommand, shifted, inside, nthInside};
+ghost use Rattle.command.specs.Steps.{Fits};
+
+// Command bytes below this have a count.
+const COUNTED: usize = 0x80;
+
+// The n-th command at the top. Refusals 7 and 15.
+pub fn nth(contents: &[u8], n: usize) -> Found
+    ensures { λ r. ⌜ foundMeans r ≡ nthCommand (now (contents .entry)) n ⌝ }
+{
+    let from = Cursor { at: 0 };
+    entries::nth(COUNTED, contents, from, n)
+}
+
+// Its data; empty where `nth` refuses.
+pub fn nth_data(contents: &[u8], n: usize) -> &[u8]
+    ensures { λ r. ⌜ now r ≡ partOf (now (contents .entry)) (nthCommand (now (contents .entry)) n) ⌝ }
+{
+    let found = nth(contents, n);
+    entries::found_part(contents, found)
+}
+
+// The n-th command inside the w-th at the top. Refusals 7 and 15.
+pub fn nth_inside(contents: &[u8], w: usize, n: usize) -> Found
+    ensures { λ r. ⌜ foundMeans r ≡ nthInside (now (contents .entry)) w n ⌝ }
+{
+    let outer = nth(contents, w);
+    match outer {
+        Found::At { byte, start, len } => inner(contents, byte, start, len, n),
+        Found::Refused(why) => Found::Refused(why),
+    }
+}
+
+// Its data; empty where `nth_inside` refuses.
+pub fn nth_inside_data(contents: &[u8], w: usize, n: usize) -> &[u8]
+    ensures { λ r. ⌜ now r ≡ partOf (now (contents .entry)) (nthInside (now (contents .entry)) w n) ⌝ }
+{
+    let found = nth_inside(contents, w, n);
+    entries::found_part(contents, found)
+}
+
+// Whether a command at the top has a list of commands for its data.
+pub fn is_wrapper(byte: u8) -> bool
+    ensures { λ r. ⌜ r ≡ isWrapper byte ⌝ }
+{
+    if byte == 0x1A {
+        return true;
+    }
+    if byte == 0x76 {
+        return true;
+    }
+    if byte == 0x77 {
+        return true;
+    }
+    if byte == 0x7E {
+        return true;
+    }
+    if byte == 0x7F {
+        return true;
+    }
+    false
+}
+
+// The n-th command inside a command of the top list. A list inside is walked as a top list is, so no byte of it is a wrapper.
+fn inner(contents: &[u8], byte: u8, start: usize, len: usize, n: usize) -> Found
+    requires { ⌜ start + len ≤ length (now contents) ⌝ }
+    ensures { λ r. ⌜ foundMeans r ≡ inside (now (contents .entry)) (found byte start len) n ⌝ }
+{
+    if is_wrapper(byte) {
+        let list = entries::part(contents, start, len);
+        let found = nth(list, n);
+        return shift(start, found);
+    }
+    Found::Refused(Refusal::Absent)
+}
+
+// An answer about a part that starts at an index of the whole, as one about the whole.
+fn shift(by: usize, found: Found) -> Found
+    requires { ⌜ Fits by (foundMeans found) ⌝ }
+    ensures { λ r. ⌜ foundMeans r ≡ shifted by (foundMeans found) ⌝ }
+{
+    match found {
+        Found::At { byte, start, len } => Found::At {
+            byte,
+            start: by + start,
+            len,
+        },
+        Found::Refused(why) => Found::Refused(why),
+    }
+}

@@ -1,0 +1,13 @@
+use mathlib.Core.Path.{refl}
+use borrow.Author.Needs.{needs}
+use Rattle.line.proofs.restart.Statement.{statement}
+use Rattle.line.proofs.restart.Tie as tie
+
+truncated-requires : tie.Need-truncated-requires
+truncated-requires c κs = search needs
+
+returns : tie.Need-returns
+returns c = λ bytes len. record { told-is = c .truncated .ensures; next-is = refl }
+
+pub restart-spec : {M : Type 1} → statement M
+restart-spec = tie.close (tie.spec truncated-requires returns)
