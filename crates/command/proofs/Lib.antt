@@ -2,3 +2,4 @@ pub mod EntryLaws
 pub mod Sound
 pub mod Places
 pub mod WalkLaws
+pub mod Examples

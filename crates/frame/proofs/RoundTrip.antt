@@ -3,9 +3,11 @@ use lib.ListN.{take, drop, length, getD, length-append}
 use mathlib.Core.Path.{refl, _≡_, sym, ap, _∙_}
 use lib.Dec.{leb}
 use Rattle.packing.proofs.Cases.{by-bool}
+use Rattle.packing.specs.Draft.{draft, noDraft, wrote, draftAnswer, draftOut}
+use Rattle.packing.proofs.Drafts.{written-first}
 use borrow.Author.Tests.{leb-true, le-leb, eq-eqb}
 use Rattle.frame.specs.Verdict.{Verdict, refused, accepted, addressCount, contentsIn, lastOf, frameIn, judgeBytes, verdict}
-use Rattle.frame.specs.Answers.{wrote, notWritten, writeAnswer, writeOut, readAnswer, readOut, frameRead}
+use Rattle.frame.specs.Answers.{frameDraft, readAnswer, readOut, frameRead}
 use Prim.Native.Nat.{ℕ, _+_, _-_, _≤_}
 use mathlib.Core.Bool.{false}
 use mathlib.Core.List.{List, [], _∷_, _++_}
@@ -97,21 +99,18 @@ read-whole (extended to from c) out h =
     simp (le-leb (length c) (length out) h) (ap (λ (l : List ℕ). accepted (extended to from l)) (take-at c (drop (length c) out) (length c) refl))
 
 -- A frame that was written, read from the bytes that were written into any output with room, is told as that frame.
-pub written-reads-back : (f : Frame) (out into : List ℕ) (n : ℕ) → writeAnswer (wireOf f) (length out) ≡ wrote n → length (contentsOf f) ≤ length into
-    → frameRead (readAnswer (verdict (take n (writeOut (wireOf f) out))) (length into)) (readOut (verdict (take n (writeOut (wireOf f) out))) into) ≡ accepted f
-unfolding writeAnswer writeOut
+pub written-reads-back : (f : Frame) (out into : List ℕ) (n : ℕ) → draftAnswer (frameDraft f) (length out) ≡ wrote n → length (contentsOf f) ≤ length into
+    → frameRead (readAnswer (verdict (take n (draftOut (frameDraft f) out))) (length into)) (readOut (verdict (take n (draftOut (frameDraft f) out))) into) ≡ accepted f
+unfolding frameDraft
 written-reads-back f out into n e room =
+    let k = written-first (frameDraft f) out n e in
     by-bool (leb (length (wireOf f)) 120)
-    (λ y. by-bool (leb (length (wireOf f)) (length out))
-    (λ z. let q : wrote (length (wireOf f)) ≡ wrote n = simp (y, z) at e in
-    let l : length (wireOf f) ≡ n = cc in
-    let w : take n (writeOut (wireOf f) out) ≡ wireOf f = simp (y, z) (take-at (wireOf f) (drop (length (wireOf f)) out) n l) in
-    ap (λ (s : List ℕ). frameRead (readAnswer (verdict s) (length into)) (readOut (verdict s) into)) w
+    (λ y. let q : draft (wireOf f) ≡ draft (k .0) = simp y at (k .1) in
+    let w : wireOf f ≡ k .0 = cc in
+    ap (λ (s : List ℕ). frameRead (readAnswer (verdict s) (length into)) (readOut (verdict s) into)) (k .3 ∙ sym w)
     ∙ ap (λ (v : Verdict). frameRead (readAnswer v (length into)) (readOut v into)) (reads-back f (leb-true _ _ y))
     ∙ read-whole f into room)
-    (λ z. let q : notWritten 1 ≡ wrote n = simp (y, z) at e in
-    let x : _≡_ {A = ℕ} 0 1 = cc in absurd (omega arith)))
-    (λ y. let q : notWritten 2 ≡ wrote n = simp y at e in
+    (λ y. let q : noDraft 2 ≡ draft (k .0) = simp y at (k .1) in
     let x : _≡_ {A = ℕ} 0 1 = cc in absurd (omega arith))
 
 told-accepted : (v : Verdict) (out : List ℕ) (f : Frame) → frameRead (readAnswer v (length out)) (readOut v out) ≡ accepted f → v ≡ accepted f
@@ -125,8 +124,8 @@ told-accepted (accepted g) out f e =
 
 -- A slice that was read as a frame, written again from what was told into any output with room, gives the slice's bytes.
 pub read-writes-back : (w out into : List ℕ) (f : Frame) → frameRead (readAnswer (verdict w) (length out)) (readOut (verdict w) out) ≡ accepted f → length w ≤ length into
-    → (writeAnswer (wireOf f) (length into) ≡ wrote (length w)) × (writeOut (wireOf f) into ≡ w ++ drop (length w) into)
-unfolding writeAnswer writeOut
+    → (draftAnswer (frameDraft f) (length into) ≡ wrote (length w)) × (draftOut (frameDraft f) into ≡ w ++ drop (length w) into)
+unfolding frameDraft draftAnswer draftOut
 read-writes-back w out into f e room =
     let b = writes-back w f (told-accepted (verdict w) out f e) in
     (rw (b .0) (simp (le-leb (length w) 120 (b .1), le-leb (length w) (length into) room)), rw (b .0) (simp (le-leb (length w) 120 (b .1), le-leb (length w) (length into) room)))

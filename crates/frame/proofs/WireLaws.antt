@@ -2,7 +2,6 @@
 use Prim.Native.Nat.{ℕ, _+_, _≤_, _<_}
 use mathlib.Core.Path.{_≡_, refl, sym, ap, _∙_}
 use mathlib.Core.List.{List, [], _∷_, _++_, append-assoc, append-nil}
-use native.Mathlib.Nat.{zero-add}
 use native.Mathlib.Omega.{arith}
 use lib.ListN.{length, set, length-append}
 use borrow.Author.Tests.{lt-leb, le-leb}
@@ -10,8 +9,9 @@ use Rattle.packing.specs.Splice.{splice}
 use Rattle.packing.proofs.Splices.{splice-next, set-splice}
 use Rattle.frame.specs.Stuffing.{stuffByte, stuff}
 use Rattle.frame.specs.Checksum.{checksum}
-use Rattle.frame.specs.Frame.{contentsOf, startOf, addressesOf, payload, wireOf}
-use Rattle.frame.specs.Answers.{wrote, notWritten, writeAnswer, writeOut}
+use Rattle.frame.specs.Frame.{Frame, contentsOf, startOf, addressesOf, payload, wireOf}
+use Rattle.frame.specs.Answers.{frameDraft}
+use Rattle.packing.specs.Draft.{draft, noDraft}
 use Rattle.frame.specs.Steps.{frameOf, headerWire}
 use Rattle.frame.specs.declared.Header.{Header}
 use Rattle.frame.specs.declared.Header.the-variants.{Plain, Addressed}
@@ -50,20 +50,15 @@ pub header-between : (h : Header) → (1 ≤ length (headerWire h)) × (length (
 header-between Plain = omega arith
 header-between (Addressed to from) = omega (arith, length-append (stuffByte to) (stuffByte from), stuffByte-between to, stuffByte-between from)
 
--- ---- the three answers of a writer
+-- ---- the draft of a frame
 
-pub write-long : (w out : List ℕ) → 120 < length w → (notWritten 2 ≡ writeAnswer w (length out)) × (out ≡ writeOut w out)
-unfolding writeAnswer writeOut
-write-long w out h = (simp (lt-leb _ _ h), simp (lt-leb _ _ h))
+pub draft-long : (f : Frame) → 120 < length (wireOf f) → frameDraft f ≡ noDraft 2
+unfolding frameDraft
+draft-long f h = simp (lt-leb (length (wireOf f)) 120 h)
 
-pub write-no-room : (w out : List ℕ) → length w ≤ 120 → length out < length w → (notWritten 1 ≡ writeAnswer w (length out)) × (out ≡ writeOut w out)
-unfolding writeAnswer writeOut
-write-no-room w out h k = (simp (le-leb _ _ h, lt-leb _ _ k), simp (le-leb _ _ h, lt-leb _ _ k))
-
-pub write-done : (w out : List ℕ) → length w ≤ 120 → length w ≤ length out
-    → (wrote (length w) ≡ writeAnswer w (length out)) × (splice out 0 w ≡ writeOut w out)
-unfolding writeAnswer writeOut
-write-done w out h k = (simp (le-leb _ _ h, le-leb _ _ k), simp (le-leb _ _ h, le-leb _ _ k, zero-add))
+pub draft-fits : (f : Frame) → length (wireOf f) ≤ 120 → frameDraft f ≡ draft (wireOf f)
+unfolding frameDraft
+draft-fits f h = simp (le-leb (length (wireOf f)) 120 h)
 
 -- ---- writing a header
 

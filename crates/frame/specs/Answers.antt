@@ -4,8 +4,9 @@ use mathlib.Core.List.{List, _++_}
 use lib.Dec.{leb}
 use lib.ListN.{length, take, drop}
 use Rattle.packing.specs.Choice.{pick}
+use Rattle.packing.specs.Draft.{Draft, draft, noDraft, WriteAnswer, wrote, notWritten}
 use Rattle.refusal.specs.Number.{numberOf}
-use Rattle.frame.specs.Frame.{Frame, standard, extended, contentsOf}
+use Rattle.frame.specs.Frame.{Frame, standard, extended, contentsOf, wireOf}
 use Rattle.frame.specs.Verdict.{Verdict, accepted, refused}
 use Rattle.frame.specs.declared.Written.{Written}
 use Rattle.frame.specs.declared.Written.the-variants.{Length, Refused}
@@ -14,22 +15,13 @@ use Rattle.frame.specs.declared.Read.the-variants.{Standard, Extended, R
 
 -- ---- writing
 
--- A wire length, or the number of a refusal.
-pub data WriteAnswer : Type 0 where
-  wrote : (len : ℕ) → WriteAnswer
-  notWritten : (number : ℕ) → WriteAnswer
-
 abbrev pub writtenMeans : Written → WriteAnswer
 writtenMeans (Length n) = wrote n
 writtenMeans (Refused why) = notWritten (numberOf why)
 
--- The answer to writing the bytes `w` with so much room: 2, then 1, then the length.
-unfoldable pub writeAnswer : List ℕ → ℕ → WriteAnswer
-writeAnswer w room = pick (leb (length w) 120) (pick (leb (length w) room) (wrote (length w)) (notWritten 1)) (notWritten 2)
-
--- The output afterwards.
-unfoldable pub writeOut : List ℕ → List ℕ → List ℕ
-writeOut w out = pick (leb (length w) 120) (pick (leb (length w) (length out)) (w ++ drop (length w) out) out) out
+-- The bytes of a frame, or refusal 2 where they are over 120.
+unfoldable pub frameDraft : Frame → Draft
+frameDraft f = pick (leb (length (wireOf f)) 120) (draft (wireOf f)) (noDraft 2)
 
 -- ---- reading
 

@@ -11,10 +11,11 @@ ghost use mathlib.Core.List.{_++_};
 ghost use mathlib.Core.Bool.{false};
 ghost use Prim.Native.Nat.{_+_, _≤_};
 ghost use lib.ListN.{length, take, drop};
+ghost use Rattle.packing.specs.Draft.{draftAnswer, draftOut};
 ghost use Rattle.frame.specs.Stuffing.{unstuff};
-ghost use Rattle.frame.specs.Frame.{standard, extended, wireOf};
+ghost use Rattle.frame.specs.Frame.{standard, extended};
 ghost use Rattle.frame.specs.Verdict.{kindOf, judge, verdict};
-ghost use Rattle.frame.specs.Answers.{writtenMeans, writeAnswer, writeOut, readMeans, judgeAnswer, readAnswer, readOut, leftIn};
+ghost use Rattle.frame.specs.Answers.{writtenMeans, frameDraft, readMeans, judgeAnswer, readAnswer, readOut, leftIn};
 ghost use Rattle.frame.specs.Steps.{frameOf, readAs, bytesOf};
 
 const STANDARD_START: u8 = 0xF1;
@@ -56,16 +57,16 @@ pub enum Read {
 
 // Writes a standard frame. Refusals 2 and 1.
 pub fn write_standard(contents: &[u8], out: &mut [u8]) -> Written
-    ensures { λ r. ⌜ writtenMeans r ≡ writeAnswer (wireOf (standard (now (contents .entry)))) (length (now (out .entry))) ⌝ }
-    ensures { λ r. ⌜ now (out .exit) ≡ writeOut (wireOf (standard (now (contents .entry)))) (now (out .entry)) ⌝ }
+    ensures { λ r. ⌜ writtenMeans r ≡ draftAnswer (frameDraft (standard (now (contents .entry)))) (length (now (out .entry))) ⌝ }
+    ensures { λ r. ⌜ now (out .exit) ≡ draftOut (frameDraft (standard (now (contents .entry)))) (now (out .entry)) ⌝ }
 {
     write_frame(Header::Plain, contents, out)
 }
 
 // Writes an extended frame. Refusals 2 and 1.
 pub fn write_extended(to: u8, from: u8, contents: &[u8], out: &mut [u8]) -> Written
-    ensures { λ r. ⌜ writtenMeans r ≡ writeAnswer (wireOf (extended to from (now (contents .entry)))) (length (now (out .entry))) ⌝ }
-    ensures { λ r. ⌜ now (out .exit) ≡ writeOut (wireOf (extended to from (now (contents .entry)))) (now (out .entry)) ⌝ }
+    ensures { λ r. ⌜ writtenMeans r ≡ draftAnswer (frameDraft (extended to from (now (contents .entry)))) (length (now (out .entry))) ⌝ }
+    ensures { λ r. ⌜ now (out .exit) ≡ draftOut (frameDraft (extended to from (now (contents .entry)))) (now (out .entry)) ⌝ }
 {
     write_frame(Header::Addressed { to, from }, contents, out)
 }
@@ -130,8 +131,8 @@ pub fn judge_array(kind: Kind, bytes: &mut [u8; 118], len: usize) -> Read
 
 // The length is found first, so that nothing is written where the frame does not fit.
 fn write_frame(header: Header, contents: &[u8], out: &mut [u8]) -> Written
-    ensures { λ r. ⌜ writtenMeans r ≡ writeAnswer (wireOf (frameOf header (now (contents .entry)))) (length (now (out .entry))) ⌝ }
-    ensures { λ r. ⌜ now (out .exit) ≡ writeOut (wireOf (frameOf header (now (contents .entry)))) (now (out .entry)) ⌝ }
+    ensures { λ r. ⌜ writtenMeans r ≡ draftAnswer (frameDraft (frameOf header (now (contents .entry)))) (length (now (out .entry))) ⌝ }
+    ensures { λ r. ⌜ now (out .exit) ≡ draftOut (frameDraft (frameOf header (now (contents .entry)))) (now (out .entry)) ⌝ }
 {
     if CONTENTS_LIMIT < contents.len() {
         return Written::Refused(Refusal::TooLong);

@@ -2,3 +2,4 @@ pub mod Cases
 pub mod Splices
 pub mod Lists
 pub mod Tests
+pub mod Drafts

@@ -1,12 +1,12 @@
 -- The laws of a list put into another at a place.
-use Prim.Native.Nat.{ℕ, _+_, _≤_, _<_}
+use Prim.Native.Nat.{ℕ, _+_, _≤_, _<_, _-_}
 use mathlib.Core.Path.{_≡_, sym, ap, _∙_}
-use mathlib.Core.List.{List, [], _∷_, _++_, append-assoc}
+use mathlib.Core.List.{List, [], _∷_, _++_, append-assoc, append-nil}
 use native.Mathlib.Nat.{add-zero, add-assoc}
 use native.Mathlib.Numerals.{add-one}
 use native.Mathlib.Omega.{arith}
-use lib.ListN.{length, getD, take, drop, set, length-append, take-append-drop, length-drop, length-set}
-use lib.Seq.{set-split, take-at, take-all, drop-drop, length-take-le, drop-append-add, paste, paste-suc}
+use lib.ListN.{length, getD, take, drop, set, length-append, take-append-drop, length-drop, length-set, drop-of-length-le}
+use lib.Seq.{set-split, take-at, take-all, drop-drop, length-take-le, drop-append-add, paste, paste-suc, take-length}
 use Rattle.packing.specs.Splice.{splice}
 
 pub splice-nil : (out : List ℕ) (at : ℕ) → splice out at [] ≡ out
@@ -73,3 +73,14 @@ module _ (out₀ : List ℕ) (at : ℕ) (s out : List ℕ) (i : ℕ) (e : out �
       let n : i ≡ length s = omega arith in
       e ∙ ap (λ (m : ℕ). take at out₀ ++ take i s ++ drop (at + m) out₀) n ∙ ap (λ (l : List ℕ). take at out₀ ++ l ++ drop (at + length s) out₀) (take-all i s k)
       ∙ append-assoc (take at out₀) s (drop (at + length s) out₀)
+
+-- A list copied to the front of the part from an index on, put back into the whole.
+pub part-splice : (xs d last : List ℕ) (at : ℕ) → at + length d ≤ length xs → last ≡ take (length d) d ++ drop (length d) (take (length xs - at) (drop at xs))
+    → take at xs ++ (last ++ drop (length xs - at) (drop at xs)) ≡ splice xs at d
+part-splice xs d last at h e =
+    let l = length-drop at xs in
+    ap (λ (y : List ℕ). take at xs ++ (last ++ y)) (drop-of-length-le (drop at xs) {i = length xs - at} (omega arith))
+    ∙ ap (λ (y : List ℕ). take at xs ++ y) (append-nil last ∙ e)
+    ∙ ap (λ (y : List ℕ). take at xs ++ (y ++ drop (length d) (take (length xs - at) (drop at xs)))) (take-length d)
+    ∙ ap (λ (y : List ℕ). take at xs ++ (d ++ drop (length d) y)) (take-all (length xs - at) (drop at xs) (omega arith))
+    ∙ ap (λ (y : List ℕ). take at xs ++ (d ++ y)) (drop-drop (length d) at xs)

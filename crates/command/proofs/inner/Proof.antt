@@ -3,36 +3,24 @@ use Rattle.command.proofs.WalkLaws.{inner-fits, inner-is, inner-none}
 use borrow.Author.Needs.{needs}
 use Rattle.command.proofs.inner.Statement.{statement}
 use Rattle.command.proofs.inner.Tie as tie
-use Rattle.command.proofs.inner.Reads as reads
-use Rattle.command.proofs.inner.Lts as lts
-use Rattle.command.proofs.entries.part.Reads as part-reads
-use Rattle.command.proofs.is_wrapper.Reads as is-wrapper-reads
-use Rattle.command.proofs.nth.Reads as nth-reads
-use Rattle.command.proofs.shift.Reads as shift-reads
 
--- src/lib.rt:81:8
 is-wrapper-requires : tie.Need-is-wrapper-requires
 is-wrapper-requires c κs = search needs
 
--- src/lib.rt:82:13
 part-requires : tie.Need-part-requires
 part-requires c κs = search needs
 
--- src/lib.rt:83:13
 nth-requires : tie.Need-nth-requires
 nth-requires c κs = search needs
 
--- src/lib.rt:84:9
 shift-requires : tie.Need-shift-requires
 shift-requires c κs = let s = c .before .before .before .before .before in inner-fits (s .args .contents .now) (s .args .start) (s .args .len) (s .args .n) (s .pre) (omega arith) _ (c .before .part .ensures) _ (c .nth .ensures)
 
--- src/lib.rt:84:9
 returns : tie.Need-returns
-returns c = 
+returns c =
     let a = c .before .before .before .before .before .before .args in
     inner-is (a .contents .now) (a .byte) (a .start) (a .len) (a .n) (c .before .before .before .before .is-wrapper .ensures) (c .before .before .before .if1 .taken) (c .before .before .part .ensures) _ (c .before .nth .ensures) (c .shift .ensures)
 
--- src/lib.rt:77:1
 returns-2 : tie.Need-returns-2
 returns-2 c = let a = c .before .before .before .args in inner-none (a .contents .now) (a .byte) (a .start) (a .len) (a .n) (c .before .is-wrapper .ensures) (c .if1 .left)
 

@@ -1,41 +1,31 @@
-use mathlib.Core.Path.{_≡_, refl, sym, ap, _∙_, subst}
+use mathlib.Core.Path.{sym, subst}
 use Rattle.command.specs.Steps.{Within}
 use Rattle.command.proofs.WalkLaws.{part-fits, outer-is, outer-none}
 use Rattle.command.proofs.Places.{within-command}
 use borrow.Author.Needs.{needs}
 use Rattle.command.proofs.nth_inside.Statement.{statement}
 use Rattle.command.proofs.nth_inside.Tie as tie
-use Rattle.command.proofs.nth_inside.Reads as reads
-use Rattle.command.proofs.nth_inside.Lts as lts
-use Rattle.command.proofs.inner.Reads as inner-reads
-use Rattle.command.proofs.nth.Reads as nth-reads
 
--- src/lib.rt:39:9
 nth-requires : tie.Need-nth-requires
 nth-requires c κs = search needs
 
--- src/lib.rt:41:21
 enum-known-outer : tie.Need-enum-known-outer
 enum-known-outer c = search needs
 
--- src/lib.rt:41:43
 inner-requires : tie.Need-inner-requires
-inner-requires c κs = 
+inner-requires c κs =
     let a = c .before .before .before .before .before .args in
     part-fits (a .contents .now) _ _ _ _ (c .before .outer .given .1) (subst (Within (a .contents .now)) (sym (c .before .before .before .nth .ensures)) (within-command (a .contents .now) (a .w)))
 
--- src/lib.rt:42:24
 enum-known-outer-2 : tie.Need-enum-known-outer-2
 enum-known-outer-2 c = search needs
 
--- src/lib.rt:36:1
 returns : tie.Need-returns
-returns c = 
+returns c =
     let k = c .before in
     let a = k .before .before .before .before .before .args in
     outer-is (a .contents .now) (a .w) (a .n) _ (k .before .before .before .nth .ensures) (k .before .outer .given .1) (c .inner .ensures)
 
--- src/lib.rt:36:1
 returns-2 : tie.Need-returns-2
 returns-2 c = let a = c .before .before .before .before .before .args in outer-none (a .contents .now) (a .w) (a .n) _ (c .before .before .before .nth .ensures) _ (c .before .outer2 .given .1)
 

@@ -3,26 +3,19 @@ use Rattle.command.proofs.WalkLaws.{shift-fits, shift-is, shift-none}
 use borrow.Author.Needs.{needs}
 use Rattle.command.proofs.shift.Statement.{statement}
 use Rattle.command.proofs.shift.Tie as tie
-use Rattle.command.proofs.shift.Reads as reads
-use Rattle.command.proofs.shift.Lts as lts
 
--- src/lib.rt:95:21
 enum-known-found : tie.Need-enum-known-found
 enum-known-found c = search needs
 
--- src/lib.rt:97:20
 add-t8 : tie.Need-add-t8
 add-t8 c = let s = c .before .before .before in omega (arith, shift-fits (s .args .by) (s .args .found) _ _ _ (c .before .found .given .1) (s .pre))
 
--- src/lib.rt:100:24
 enum-known-found-2 : tie.Need-enum-known-found-2
 enum-known-found-2 c = search needs
 
--- src/lib.rt:90:1
 returns : tie.Need-returns
 returns c = shift-is (c .before .before .before .args .by) _ _ _ _ (c .before .found .given .1)
 
--- src/lib.rt:90:1
 returns-2 : tie.Need-returns-2
 returns-2 c = shift-none (c .before .before .before .args .by) _ _ (c .before .found2 .given .1)
 

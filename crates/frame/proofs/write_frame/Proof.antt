@@ -5,10 +5,11 @@ use mathlib.Core.List.{List}
 use lib.ListN.{length, length-set}
 use Rattle.frame.specs.Stuffing.{stuffByte}
 use Rattle.frame.specs.Checksum.{checksum}
-use Rattle.frame.specs.Frame.{wireOf}
-use Rattle.frame.specs.Answers.{wrote}
+use Rattle.frame.specs.Frame.{Frame, wireOf}
+use Rattle.packing.specs.Draft.{wrote}
+use Rattle.packing.proofs.Drafts.{writes-refusal, writes-no-room, writes-done}
 use Rattle.frame.specs.Steps.{frameOf}
-use Rattle.frame.proofs.WireLaws.{wire-length, header-between, write-long, write-no-room, write-done, put-parts}
+use Rattle.frame.proofs.WireLaws.{wire-length, header-between, draft-long, draft-fits, put-parts}
 use Rattle.frame.proofs.StuffingLaws.{stuff-between, stuffByte-between}
 use borrow.Author.Needs.{needs}
 use Rattle.frame.proofs.write_frame.Statement.{statement}
@@ -17,8 +18,11 @@ use Rattle.frame.proofs.write_frame.Tie as tie
 abbrev St : tie.After-width → tie.Start
 St w = w .before .before .before .before .before .before .before
 
+abbrev F : tie.After-width → Frame
+F w = frameOf (St w .args .header) (St w .args .contents .now)
+
 abbrev W : tie.After-width → List ℕ
-W w = wireOf (frameOf (St w .args .header) (St w .args .contents .now))
+W w = wireOf (F w)
 
 abbrev sum : tie.After-width → ℕ
 sum w = w .before .before .before .sum-of .result
@@ -48,7 +52,7 @@ returns : tie.Need-returns
 returns c =
     let a = c .before .before .before .args in
     let s = a .contents .now in
-    write-long _ (a .out .now) (omega (arith, wire-length (a .header) s, header-between (a .header), stuff-between s, stuffByte-between (checksum s)))
+    writes-refusal _ 2 (a .out .now) (draft-long (frameOf (a .header) s) (omega (arith, wire-length (a .header) s, header-between (a .header), stuff-between s, stuffByte-between (checksum s))))
 
 sum-of-requires : tie.Need-sum-of-requires
 sum-of-requires c κs = search needs
@@ -72,10 +76,10 @@ add-n-3 : tie.Need-add-n-3
 add-n-3 c = omega (arith, header-between (St c .args .header), stuff-between (St c .args .contents .now), stuffByte-between (sum c))
 
 returns-2 : tie.Need-returns-2
-returns-2 c = write-long (W (c .before)) _ (omega (arith, counted (c .before)))
+returns-2 c = writes-refusal _ 2 _ (draft-long (F (c .before)) (omega (arith, counted (c .before))))
 
 returns-3 : tie.Need-returns-3
-returns-3 c = let w = c .before .before in write-no-room (W w) _ (omega (arith, counted w)) (omega (arith, counted w))
+returns-3 c = let w = c .before .before in writes-no-room _ (W w) _ (draft-fits (F w) (omega (arith, counted w))) (omega (arith, counted w))
 
 put-header-requires : tie.Need-put-header-requires
 put-header-requires c κs = let w = c .before .before .before in omega (arith, counted w, w .before .header-len .ensures)
@@ -113,11 +117,10 @@ returns-4 c =
     let h = Hs s in
     let w = Wh h in
     let a = St w .args in
-    let done = write-done (W w) (a .out .now) (omega (arith, counted w, h .before .before .before)) (omega (arith, counted w, h .before .before .if3 .left)) in (
-      ap wrote (counted w) ∙ done .0,
-      put-parts (a .header) (a .contents .now) (a .out .now) _ _ _ (sum w) _ _ _ (is-sum w) (omega (arith, counted w, h .before .before .if3 .left)) (p .put-byte .kept .1 .0 ∙ kept s) (h .put-header .ensures .0) (h .put-header .ensures .1) (s .put-stuffed .ensures .0) (s .put-stuffed .ensures .1) (p .put-byte .ensures .0) (p .put-byte .ensures .1)
-          ∙ done .1,
-    )
+    let done =
+    writes-done _ (W w) (a .out .now) _ (draft-fits (F w) (omega (arith, counted w, h .before .before .before))) (omega (arith, counted w, h .before .before .if3 .left))
+    (put-parts (a .header) (a .contents .now) (a .out .now) _ _ _ (sum w) _ _ _ (is-sum w) (omega (arith, counted w, h .before .before .if3 .left)) (p .put-byte .kept .1 .0 ∙ kept s) (h .put-header .ensures .0) (h .put-header .ensures .1) (s .put-stuffed .ensures .0) (s .put-stuffed .ensures .1) (p .put-byte .ensures .0) (p .put-byte .ensures .1)) in
+    (ap wrote (counted w) ∙ done .0, done .1)
 
 pub write-frame-spec : {M : Type 1} → statement M
 write-frame-spec =

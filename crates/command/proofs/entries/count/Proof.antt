@@ -1,18 +1,15 @@
-use mathlib.Core.Path.{_≡_, refl, sym, ap, _∙_, subst}
-use Prim.Native.Nat.{ℕ, _+_, _-_, _≤_, _<_}
+use mathlib.Core.Path.{_≡_, _∙_}
+use Prim.Native.Nat.{ℕ, _-_, _≤_}
 use native.Mathlib.Omega.{arith}
 use mathlib.Core.List.{List}
-use lib.ListN.{length, take, drop}
-use Rattle.command.specs.Answers.{counted, countedMeans, foundMeans, partOf}
-use Rattle.command.specs.Entries.{entry, parse, nthIn, found, Answer}
-use Rattle.command.specs.declared.entries.Step.the-variants.{End, Broken, Entry}
+use lib.ListN.{length, drop}
+use Rattle.command.specs.Answers.{counted}
+use Rattle.command.specs.Entries.{entry, parse}
+use Rattle.command.specs.declared.entries.Step.the-variants.{End, Broken}
 use Rattle.command.proofs.EntryLaws.{Stands, told, told-stands, plus, plus-none, count-end, count-broken, count-more}
 use borrow.Author.Needs.{needs}
 use Rattle.command.proofs.entries.count.Statement.{statement}
 use Rattle.command.proofs.entries.count.Tie as tie
-use Rattle.command.proofs.entries.count.Reads as reads
-use Rattle.command.proofs.entries.count.Lts as lts
-use Rattle.command.proofs.entries.Cursor.step.Reads as step-reads
 
 abbrev Inv-loop : tie.InvT-loop
 Inv-loop limit s cursor₀ n₀ cursor n = (n ≤ cursor .at) × (plus n (counted (parse limit (drop (cursor .at) s) 0)) ≡ counted (parse limit (drop (cursor₀ .at) s) 0))
@@ -31,48 +28,38 @@ there : (c : tie.After-known-told Inv-loop μ-loop)
     → Stands (L c .before .before .args .limit) (S c) (L c .loop .cursor .at) (c .before .step2 .given .0 .0) (c .before .step2 .given .0 .1 .0) (c .before .step2 .given .0 .1 .1 .0) (c .before .step2 .given .0 .1 .1 .1 .0 .at)
 there c = told-stands _ _ _ (c .before .before .before .step .ensures) _ _ _ _ (c .before .step2 .given .1)
 
--- src/entries.rt:79:5
 loop-holds : tie.Need-loop-holds Inv-loop μ-loop
 loop-holds c = (search needs, plus-none _)
 
--- src/entries.rt:80:13
 step-requires : tie.Need-step-requires Inv-loop μ-loop
 step-requires c κs = search needs
 
--- src/entries.rt:83:17
 enum-told : tie.Need-enum-told Inv-loop μ-loop
 enum-told c = search needs
 
--- src/entries.rt:83:17
 returns : tie.Need-returns Inv-loop μ-loop
 returns c = let l = c .before .before .before in count-end (l .loop .n) _ (told _ _ (l .loop .cursor .at) (c .before .before .step .ensures) End (c .enum-told .given .1)) ∙ l .loop .inv .1
 
--- src/entries.rt:86:17
 enum-told-2 : tie.Need-enum-told-2 Inv-loop μ-loop
 enum-told-2 c = search needs
 
--- src/entries.rt:86:17
 returns-2 : tie.Need-returns-2 Inv-loop μ-loop
 returns-2 c = let l = c .before .before .before in count-broken (l .loop .n) _ (told _ _ (l .loop .cursor .at) (c .before .before .step .ensures) Broken (c .enum-told2 .given .1)) ∙ l .loop .inv .1
 
--- src/entries.rt:92:17
 enum-known-step : tie.Need-enum-known-step Inv-loop μ-loop
 enum-known-step c = search needs
 
--- src/entries.rt:94:21
 add-n : tie.Need-add-n Inv-loop μ-loop
 add-n c = omega (arith, there c, L c .before)
 
--- src/entries.rt:79:5
 loop-less : tie.Need-loop-less Inv-loop μ-loop
 loop-less c = omega (arith, there c)
 
--- src/entries.rt:79:5
 loop-again : tie.Need-loop-again Inv-loop μ-loop
 loop-again c = (
-      omega (arith, there c),
-      count-more (L c .loop .n) _ _ _ (told _ _ (L c .loop .cursor .at) (c .before .before .before .step .ensures) _ (c .before .step2 .given .1)) ∙ L c .loop .inv .1,
-    )
+  omega (arith, there c),
+  count-more (L c .loop .n) _ _ _ (told _ _ (L c .loop .cursor .at) (c .before .before .before .step .ensures) _ (c .before .step2 .given .1)) ∙ L c .loop .inv .1,
+)
 
 pub count-spec : {M : Type 1} → statement M
 count-spec =

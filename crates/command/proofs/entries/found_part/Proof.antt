@@ -1,33 +1,24 @@
-use mathlib.Core.Path.{_≡_, refl, sym, ap, _∙_, subst}
+use mathlib.Core.Path.{_∙_}
 use Rattle.command.proofs.WalkLaws.{part-is}
 use borrow.Author.Needs.{needs}
 use Rattle.command.proofs.entries.found_part.Statement.{statement}
 use Rattle.command.proofs.entries.found_part.Tie as tie
-use Rattle.command.proofs.entries.found_part.Reads as reads
-use Rattle.command.proofs.entries.found_part.Lts as lts
-use Rattle.command.proofs.entries.part.Reads as part-reads
 
--- src/entries.rt:165:13
 enum-known-found : tie.Need-enum-known-found
 enum-known-found c = search needs
 
--- src/entries.rt:167:14
 part-requires : tie.Need-part-requires
 part-requires c κs = search needs
 
--- src/entries.rt:168:30
 enum-told : tie.Need-enum-told
 enum-told c = search needs
 
--- src/entries.rt:168:30
 slice-aggregate-result : tie.Need-slice-aggregate-result
 slice-aggregate-result c = search needs
 
--- src/entries.rt:159:1
 returns : tie.Need-returns
 returns c = c .part .ensures ∙ part-is (c .before .before .before .before .before .args .s .now) _ _ _ _ (c .before .before .found .given .1)
 
--- src/entries.rt:159:1
 returns-2 : tie.Need-returns-2
 returns-2 c = search needs
 

@@ -1,19 +1,14 @@
-use mathlib.Core.Path.{_≡_, refl, sym, ap, _∙_, subst}
-use Prim.Native.Nat.{ℕ, _+_, _-_, _≤_, _<_}
+use mathlib.Core.Path.{_≡_, refl, _∙_}
+use Prim.Native.Nat.{ℕ, _-_}
 use native.Mathlib.Omega.{arith}
 use mathlib.Core.List.{List}
-use lib.ListN.{length, take, drop}
-use Rattle.command.specs.Answers.{counted, countedMeans, foundMeans, partOf}
-use Rattle.command.specs.Entries.{entry, parse, nthIn, found, Answer}
+use lib.ListN.{length, drop}
+use Rattle.command.specs.Entries.{entry, parse, nthIn}
 use Rattle.command.specs.declared.entries.Step.the-variants.{End, Broken, Entry}
 use Rattle.command.proofs.EntryLaws.{Stands, after, told, told-stands, nth-end, nth-broken, nth-found, nth-more}
 use borrow.Author.Needs.{needs}
 use Rattle.command.proofs.entries.nth.Statement.{statement}
 use Rattle.command.proofs.entries.nth.Tie as tie
-use Rattle.command.proofs.entries.nth.Reads as reads
-use Rattle.command.proofs.entries.nth.Lts as lts
-use Rattle.command.proofs.entries.Cursor.step.Reads as step-reads
-use Rattle.command.proofs.entries.if_sound.Reads as if-sound-reads
 
 abbrev Inv-loop : tie.InvT-loop
 Inv-loop limit s n cursor₀ left₀ cursor left = nthIn limit (cursor .at) (parse limit (drop (cursor .at) s) 0) left ≡ nthIn limit (cursor₀ .at) (parse limit (drop (cursor₀ .at) s) 0) n
@@ -36,51 +31,39 @@ there c = told-stands _ _ _ (c .before .before .before .step .ensures) _ _ _ _ (
 split : (c : tie.After-known-told Inv-loop μ-loop) → parse (L c .before .before .args .limit) (drop (L c .loop .cursor .at) (S c)) 0 ≡ after (L c .before .before .args .limit) (S c) (Entry (c .before .step2 .given .0 .0) (c .before .step2 .given .0 .1 .0) (c .before .step2 .given .0 .1 .1 .0) (c .before .step2 .given .0 .1 .1 .1 .0))
 split c = told _ _ (L c .loop .cursor .at) (c .before .before .before .step .ensures) _ (c .before .step2 .given .1)
 
--- src/entries.rt:107:5
 loop-holds : tie.Need-loop-holds Inv-loop μ-loop
 loop-holds c = refl
 
--- src/entries.rt:108:13
 step-requires : tie.Need-step-requires Inv-loop μ-loop
 step-requires c κs = search needs
 
--- src/entries.rt:111:39
 enum-told : tie.Need-enum-told Inv-loop μ-loop
 enum-told c = search needs
 
--- src/entries.rt:111:17
 returns : tie.Need-returns Inv-loop μ-loop
 returns c = let l = c .before .before .before in nth-end _ _ _ (l .loop .left) (told _ _ (l .loop .cursor .at) (c .before .before .step .ensures) End (c .enum-told .given .1)) ∙ l .loop .inv
 
--- src/entries.rt:114:39
 enum-told-2 : tie.Need-enum-told-2 Inv-loop μ-loop
 enum-told-2 c = search needs
 
--- src/entries.rt:114:17
 returns-2 : tie.Need-returns-2 Inv-loop μ-loop
 returns-2 c = let l = c .before .before .before in nth-broken _ _ _ (l .loop .left) (told _ _ (l .loop .cursor .at) (c .before .before .step .ensures) Broken (c .enum-told2 .given .1)) ∙ l .loop .inv
 
--- src/entries.rt:117:17
 enum-known-step : tie.Need-enum-known-step Inv-loop μ-loop
 enum-known-step c = search needs
 
--- src/entries.rt:124:21
 if-sound-requires : tie.Need-if-sound-requires Inv-loop μ-loop
 if-sound-requires c κs = search needs
 
--- src/entries.rt:124:21
 returns-3 : tie.Need-returns-3 Inv-loop μ-loop
 returns-3 c = let k = c .before .before in c .if-sound .ensures ∙ nth-found (there k) _ _ _ (split k) (c .before .if1 .taken) ∙ L k .loop .inv
 
--- src/entries.rt:126:24
 sub-left : tie.Need-sub-left Inv-loop μ-loop
 sub-left c = search needs
 
--- src/entries.rt:107:5
 loop-less : tie.Need-loop-less Inv-loop μ-loop
 loop-less c = omega (arith, there (c .before))
 
--- src/entries.rt:107:5
 loop-again : tie.Need-loop-again Inv-loop μ-loop
 loop-again c = let k = c .before in nth-more (there k) _ _ _ (split k) (c .if1 .left) ∙ L k .loop .inv
 

@@ -1,78 +1,60 @@
-use borrow.Author.Tests.{lt-ltb, le-ltb, le-leb, lt-leb, eq-eqb, ne-eqb}
-use Rattle.command.specs.Steps.{stepAt, ifSound}
+use borrow.Author.Tests.{lt-ltb, le-ltb, le-leb, lt-leb}
+use Rattle.command.specs.Steps.{stepAt}
 use native.Mathlib.Omega.{arith}
-use Prim.Native.Nat.{ℕ, _+_, _-_, _≤_, _<_}
+use Prim.Native.Nat.{_+_, _-_}
 use borrow.Author.Needs.{needs}
 use Rattle.command.proofs.entries.Cursor.step.Statement.{statement}
 use Rattle.command.proofs.entries.Cursor.step.Tie as tie
-use Rattle.command.proofs.entries.Cursor.step.Reads as reads
-use Rattle.command.proofs.entries.Cursor.step.Lts as lts
 
--- src/entries.rt:45:13
 returns : tie.Need-returns
 unfolding stepAt
 returns c = simp (le-ltb _ _ (c .if1 .taken))
 
--- src/entries.rt:47:20
 shared-slice-read-byte : tie.Need-shared-slice-read-byte
 shared-slice-read-byte c = search needs
 
--- src/entries.rt:48:21
 cast-if2 : tie.Need-cast-if2
 cast-if2 c = omega (arith, c .shared-slice-known .given (c .before .before .args .self .at))
 
--- src/entries.rt:51:24
 add-t12 : tie.Need-add-t12
 add-t12 c = search needs
 
--- src/entries.rt:53:36
 add-t13 : tie.Need-add-t13
 add-t13 c = search needs
 
--- src/entries.rt:49:13
 returns-2 : tie.Need-returns-2
 unfolding stepAt
 returns-2 c = simp (lt-ltb _ _ (c .before .before .if1 .left), le-ltb _ _ (c .if2 .taken))
 
--- src/entries.rt:56:23
 add-if3 : tie.Need-add-if3
 add-if3 c = search needs
 
--- src/entries.rt:57:13
 returns-3 : tie.Need-returns-3
 unfolding stepAt
 returns-3 c = simp (lt-ltb _ _ (c .before .before .before .if1 .left), lt-ltb _ _ (c .before .if2 .left), le-ltb _ _ (c .if3 .taken))
 
--- src/entries.rt:59:21
 add-len : tie.Need-add-len
 add-len c = search needs
 
--- src/entries.rt:59:19
 shared-slice-read-len : tie.Need-shared-slice-read-len
 shared-slice-read-len c = search needs
 
--- src/entries.rt:59:19
 cast-len : tie.Need-cast-len
 cast-len c = omega (arith, c .shared-slice-known2 .given (c .before .before .before .before .before .args .self .at + 1))
 
--- src/entries.rt:60:21
 add-start : tie.Need-add-start
 add-start c = search needs
 
--- src/entries.rt:61:12
 sub-if4 : tie.Need-sub-if4
 sub-if4 c = search needs
 
--- src/entries.rt:62:13
 returns-4 : tie.Need-returns-4
 unfolding stepAt
 returns-4 c = simp (lt-ltb _ _ (c .before .before .before .before .before .if1 .left), lt-ltb _ _ (c .before .before .before .if2 .left), lt-ltb _ _ (c .before .before .if3 .left), lt-leb _ _ (c .if4 .taken))
 
--- src/entries.rt:68:32
 add-t15 : tie.Need-add-t15
 add-t15 c = search needs
 
--- src/entries.rt:40:5
 returns-5 : tie.Need-returns-5
 unfolding stepAt
 returns-5 c = simp (lt-ltb _ _ (c .before .before .before .before .before .if1 .left), lt-ltb _ _ (c .before .before .before .if2 .left), lt-ltb _ _ (c .before .before .if3 .left), le-leb _ _ (c .if4 .left))

@@ -1,0 +1,27 @@
+-- Lists that tell readings of document 01 apart, computed.
+use mathlib.Core.Path.{_≡_, refl}
+use mathlib.Core.List.{[], _∷_}
+use Rattle.command.specs.Entries.{bytesOf, put, parse, found, refused, nthOf, nthIn}
+use Rattle.command.specs.Commands.{nthCommand, inside, nthInside}
+
+pub examples :
+    -- an empty list is sound, and so is an empty wrapper
+    (nthCommand [] 0 ≡ refused 15)
+    × (nthInside (0x76 ∷ 0x00 ∷ []) 0 0 ≡ refused 15)
+    -- a short command and a wrapper
+    × (nthCommand (0x80 ∷ 0x81 ∷ []) 1 ≡ found 0x81 2 0)
+    × (nthInside (0x80 ∷ 0x76 ∷ 0x02 ∷ 0x13 ∷ 0x00 ∷ []) 1 0 ≡ found 0x13 5 0)
+    -- inside what is no wrapper there is none; only the wrapper that is walked is looked into
+    × (nthInside (0x80 ∷ 0x76 ∷ 0x01 ∷ 0x13 ∷ []) 0 0 ≡ refused 15)
+    × (nthInside (0x80 ∷ 0x76 ∷ 0x01 ∷ 0x13 ∷ []) 1 0 ≡ refused 7)
+    × (nthInside (0x80 ∷ 0x76 ∷ 0x01 ∷ 0x13 ∷ []) 2 0 ≡ refused 15)
+    × (nthCommand (0x76 ∷ 0x01 ∷ 0x13 ∷ []) 0 ≡ found 0x76 2 1)
+    -- every count of the list is checked, not only those up to the n-th
+    × (nthCommand (0x80 ∷ 0x20 ∷ 0x05 ∷ []) 0 ≡ refused 7)
+    -- inside a wrapper no byte is a wrapper
+    × (nthInside (0x76 ∷ 0x04 ∷ 0x1A ∷ 0x02 ∷ 0x05 ∷ 0x09 ∷ []) 0 0 ≡ found 0x1A 4 2)
+    -- a count that leaves its list
+    × (nthCommand (0x76 ∷ 0x02 ∷ 0x13 ∷ 0x02 ∷ 0x01 ∷ 0x02 ∷ []) 0 ≡ refused 7)
+    × (nthInside (0x76 ∷ 0x02 ∷ 0x13 ∷ 0x02 ∷ 0x80 ∷ 0x80 ∷ []) 0 0 ≡ refused 7)
+unfolding bytesOf put parse nthOf nthIn nthCommand inside nthInside
+examples = (refl, refl, refl, refl, refl, refl, refl, refl, refl, refl, refl, refl)

@@ -1,0 +1,154 @@
+-- Laws of replies that the functions' proofs cite.
+use Prim.Native.Nat.{ℕ, _+_, _/_, _%_, _≤_, _<_}
+use mathlib.Core.Path.{_≡_, refl, sym, ap, _∙_}
+use mathlib.Core.Bool.{Bool}
+use mathlib.Core.List.{List, [], _∷_, _++_, append-assoc}
+use native.Mathlib.Omega.{arith}
+use lib.Dec.{leb}
+use lib.ListN.{length, getD, take, drop, set, length-append, length-set}
+use lib.Seq.{take-length}
+use borrow.Author.Tests.{le-leb, lt-leb, lt-ltb}
+use Rattle.packing.specs.Draft.{draft, noDraft}
+use Rattle.packing.specs.Splice.{splice}
+use Rattle.packing.proofs.Cases.{by-bool}
+use Rattle.packing.proofs.Splices.{length-splice, splice-next, set-splice}
+use Rattle.command.specs.Entries.{entry, items, bytesOf, Parsed, unsound, sound, parse, Answer, refused, nthIn}
+use Rattle.command.specs.Answers.{uncounted, entries, counted}
+use Rattle.reply.specs.Status.{StatusAnswer, status, noStatus, soundStatus, statusIn, statusMeans}
+use Rattle.reply.specs.Replies.{Reply, reply, noReply, headIn, afterStatus, replyIn, answered, notAnswered, replyAnswer, itemOf, nthItem, statusDraft, withItem, afterReply, itemDraft}
+use Rattle.reply.specs.declared.status.StatusRead.{StatusRead}
+
+-- ---- the status at the head
+
+pub head-short : (s : List ℕ) → length s ≡ 0 → noStatus 4 ≡ headIn s
+unfolding headIn
+head-short [] h = refl
+head-short (b ∷ s) h = absurd (omega arith)
+
+pub head-is : (s : List ℕ) → (length s ≡ 0 → ⊥) → {a : StatusAnswer} → a ≡ statusIn (getD s 0 0) → a ≡ headIn s
+unfolding headIn
+head-is [] h e = absurd (h refl)
+head-is (b ∷ s) h e = e
+
+-- contents as a reply, where a call's result x is found to be y
+pub headed : (s : List ℕ) {x : StatusRead} (y : StatusRead) → statusMeans x ≡ headIn s → x ≡ y → replyIn s ≡ afterStatus (statusMeans y) (parse items (drop 1 s) 0)
+unfolding replyIn
+headed s y d e = ap (λ (a : StatusAnswer). afterStatus a (parse items (drop 1 s) 0)) (sym d ∙ ap statusMeans e)
+
+-- ---- reading
+
+pub read-refused : (s : List ℕ) (k : ℕ) → replyIn s ≡ afterStatus (noStatus k) (parse items (drop 1 s) 0) → notAnswered k ≡ replyAnswer (replyIn s)
+unfolding afterStatus replyAnswer
+read-refused s k h = sym (ap replyAnswer h)
+
+pub items-unsound : (t : Bool) (p s : ℕ) (q : Parsed) → counted q ≡ uncounted → notAnswered 7 ≡ replyAnswer (afterStatus (status t p s) q)
+unfolding afterStatus replyAnswer counted
+items-unsound t p s unsound e = refl
+items-unsound t p s (sound es) e = let z : _≡_ {A = ℕ} 0 1 = cc in absurd (omega arith)
+
+pub items-counted : (t : Bool) (p s : ℕ) (q : Parsed) (n : ℕ) → counted q ≡ entries n → answered t p s n ≡ replyAnswer (afterStatus (status t p s) q)
+unfolding afterStatus replyAnswer counted
+items-counted t p s unsound n e = let z : _≡_ {A = ℕ} 0 1 = cc in absurd (omega arith)
+items-counted t p s (sound es) n e = let m : n ≡ length es = cc in ap (answered t p s) m
+
+pub item-refused : (s : List ℕ) (n k : ℕ) → replyIn s ≡ afterStatus (noStatus k) (parse items (drop 1 s) 0) → refused k ≡ nthItem s n
+unfolding afterStatus itemOf
+item-refused s n k h = sym (ap (λ (r : Reply). itemOf r n) h)
+
+pub item-is : (s : List ℕ) (n : ℕ) (t : Bool) (p x : ℕ) → replyIn s ≡ afterStatus (status t p x) (parse items (drop 1 s) 0)
+    → {a : Answer} → a ≡ nthIn items 1 (parse items (drop 1 s) 0) n → a ≡ nthItem s n
+unfolding afterStatus itemOf nthIn
+item-is s n t p x h e = e ∙ of-parsed (parse items (drop 1 s) 0) ∙ sym (ap (λ (r : Reply). itemOf r n) h)
+  where
+    of-parsed : (q : Parsed) → nthIn items 1 q n ≡ itemOf (afterStatus (status t p x) q) n
+    of-parsed unsound = refl
+    of-parsed (sound es) = refl
+
+-- ---- the draft of a status byte
+
+pub status-refused : (b k : ℕ) → noStatus k ≡ statusIn b → statusDraft b ≡ noDraft k
+unfolding statusIn statusDraft
+status-refused b k e =
+    by-bool (soundStatus b)
+    (λ y. let q : noStatus k ≡ status (leb 128 b) (b / 16 % 4) (b % 16) = simp y at e in
+    let z : _≡_ {A = ℕ} 0 1 = cc in absurd (omega arith))
+    (λ y. let q : noStatus k ≡ noStatus 8 = simp y at e in
+    let m : k ≡ 8 = cc in (simp y) ∙ ap noDraft (sym m))
+
+pub status-sound : (b : ℕ) (t : Bool) (p s : ℕ) → status t p s ≡ statusIn b → statusDraft b ≡ draft (b ∷ [])
+unfolding statusIn statusDraft
+status-sound b t p s e =
+    by-bool (soundStatus b)
+    (λ y. simp y)
+    (λ y. let q : status t p s ≡ noStatus 8 = simp y at e in
+    let z : _≡_ {A = ℕ} 0 1 = cc in absurd (omega arith))
+
+-- ---- the draft of an item
+
+pub item-bytes : (b : ℕ) (d : List ℕ) → b < 256 → bytesOf items (entry b d) ≡ b ∷ length d ∷ d
+unfolding bytesOf
+item-bytes b d h = simp (lt-ltb b 256 h)
+
+module _ (s : List ℕ) (b : ℕ) (d : List ℕ) (byte : b < 256) where
+  abbrev whole : List ℕ
+  whole = s ++ (b ∷ length d ∷ d)
+
+  pub whole-length : length whole ≡ length s + 2 + length d
+  whole-length = length-append s (b ∷ length d ∷ d) ∙ omega arith
+
+  is-whole : s ++ bytesOf items (entry b d) ≡ whole
+  is-whole = ap (λ (l : List ℕ). s ++ l) (item-bytes b d byte)
+
+  pub item-count : 255 < length d → withItem s b d ≡ noDraft 7
+  unfolding withItem
+  item-count h = simp (lt-leb (length d) 255 h)
+
+  pub item-long : length d ≤ 255 → 117 < length s + 2 + length d → withItem s b d ≡ noDraft 2
+  unfolding withItem
+  item-long h k = simp (le-leb (length d) 255 h, is-whole, lt-leb (length whole) 117 (omega (arith, whole-length)))
+
+  pub item-fits : length d ≤ 255 → length s + 2 + length d ≤ 117 → withItem s b d ≡ draft whole
+  unfolding withItem
+  item-fits h k = simp (le-leb (length d) 255 h, is-whole, le-leb (length whole) 117 (omega (arith, whole-length)))
+
+-- ---- writing an item after the contents so far
+
+pub put-written : (s d out o₁ o₄ : List ℕ) (b : ℕ) → length s + 2 + length d ≤ length out → o₁ ≡ splice out 0 s
+    → o₄ ≡ splice (set (set o₁ (length s) b) (length s + 1) (length d)) (length s + 2) d → o₄ ≡ splice out 0 (s ++ (b ∷ length d ∷ d))
+put-written s d out o₁ o₄ b room e f =
+    let n = length d in
+    let l₁ : length o₁ ≡ length out = ap length e ∙ length-splice out 0 s (omega arith) in
+    let p = s ++ (b ∷ []) in
+    let q = p ++ (n ∷ []) in
+    let lp : length p ≡ length s + 1 = length-append s (b ∷ []) in
+    let lq : length q ≡ length s + 2 = length-append p (n ∷ []) ∙ omega arith in
+    let e₂ : set o₁ (length s) b ≡ splice out 0 p = splice-next out 0 s (b ∷ []) (length s) (omega arith) e (omega arith) (set-splice o₁ (length s) b (omega arith)) in
+    let l₂ : length (set o₁ (length s) b) ≡ length out = length-set o₁ (length s) b ∙ l₁ in
+    let e₃ : set (set o₁ (length s) b) (length s + 1) n ≡ splice out 0 q =
+    splice-next out 0 p (n ∷ []) (length s + 1) (omega arith) e₂ (omega arith) (set-splice (set o₁ (length s) b) (length s + 1) n (omega arith)) in
+    splice-next out 0 q d (length s + 2) (omega arith) e₃ (omega arith) f
+    ∙ ap (splice out 0) (append-assoc p (n ∷ []) d ∙ append-assoc s (b ∷ []) (n ∷ d))
+
+-- what a copy to the front of a list, and to the front of a part of it, leaves
+pub copied-first : (s out last : List ℕ) → last ≡ take (length s) s ++ drop (length s) out → last ≡ splice out 0 s
+copied-first s out last e =
+    let z : 0 + length s ≡ length s = omega arith in
+    e ∙ ap (λ (l : List ℕ). l ++ drop (length s) out) (take-length s) ∙ ap (λ (n : ℕ). s ++ drop n out) (sym z)
+
+-- ---- after the contents so far are read
+
+pub prior-refused : (s : List ℕ) (b : ℕ) (d : List ℕ) (k : ℕ) → notAnswered k ≡ replyAnswer (replyIn s) → itemDraft s b d ≡ noDraft k
+unfolding replyAnswer itemDraft afterReply
+prior-refused s b d k e = of-reply (replyIn s) e
+  where
+    of-reply : (r : Reply) → notAnswered k ≡ replyAnswer r → afterReply r (withItem s b d) ≡ noDraft k
+    of-reply (reply t p x es) e = let z : _≡_ {A = ℕ} 0 1 = cc in absurd (omega arith)
+    of-reply (noReply m) e = let i : k ≡ m = cc in ap noDraft (sym i)
+
+pub prior-sound : (s : List ℕ) (b : ℕ) (d : List ℕ) (t : Bool) (p x n : ℕ) → answered t p x n ≡ replyAnswer (replyIn s) → withItem s b d ≡ itemDraft s b d
+unfolding replyAnswer itemDraft afterReply
+prior-sound s b d t p x n e = of-reply (replyIn s) e
+  where
+    of-reply : (r : Reply) → answered t p x n ≡ replyAnswer r → withItem s b d ≡ afterReply r (withItem s b d)
+    of-reply (reply t′ p′ x′ es) e = refl
+    of-reply (noReply m) e = let z : _≡_ {A = ℕ} 0 1 = cc in absurd (omega arith)
