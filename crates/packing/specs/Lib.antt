@@ -1,3 +1,4 @@
 pub mod Choice
 pub mod Splice
 pub mod Draft
+pub mod Number

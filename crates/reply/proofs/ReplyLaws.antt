@@ -5,8 +5,7 @@ use mathlib.Core.Bool.{Bool}
 use mathlib.Core.List.{List, [], _∷_, _++_, append-assoc}
 use native.Mathlib.Omega.{arith}
 use lib.Dec.{leb}
-use lib.ListN.{length, getD, take, drop, set, length-append, length-set}
-use lib.Seq.{take-length}
+use lib.ListN.{length, getD, drop, set, length-append, length-set}
 use borrow.Author.Tests.{le-leb, lt-leb, lt-ltb}
 use Rattle.packing.specs.Draft.{draft, noDraft}
 use Rattle.packing.specs.Splice.{splice}
@@ -128,12 +127,6 @@ put-written s d out o₁ o₄ b room e f =
     splice-next out 0 p (n ∷ []) (length s + 1) (omega arith) e₂ (omega arith) (set-splice (set o₁ (length s) b) (length s + 1) n (omega arith)) in
     splice-next out 0 q d (length s + 2) (omega arith) e₃ (omega arith) f
     ∙ ap (splice out 0) (append-assoc p (n ∷ []) d ∙ append-assoc s (b ∷ []) (n ∷ d))
-
--- what a copy to the front of a list, and to the front of a part of it, leaves
-pub copied-first : (s out last : List ℕ) → last ≡ take (length s) s ++ drop (length s) out → last ≡ splice out 0 s
-copied-first s out last e =
-    let z : 0 + length s ≡ length s = omega arith in
-    e ∙ ap (λ (l : List ℕ). l ++ drop (length s) out) (take-length s) ∙ ap (λ (n : ℕ). s ++ drop n out) (sym z)
 
 -- ---- after the contents so far are read
 

@@ -6,8 +6,8 @@ use native.Mathlib.Omega.{arith}
 use Rattle.packing.specs.Draft.{wrote}
 use Rattle.packing.proofs.Drafts.{writes-refusal, writes-no-room, writes-done}
 use mathlib.Core.List.{List, _∷_, _++_}
-use Rattle.packing.proofs.Splices.{part-splice}
-use Rattle.reply.proofs.ReplyLaws.{item-count, item-long, item-fits, whole-length, copied-first, put-written}
+use Rattle.packing.proofs.Splices.{part-splice, copied-first}
+use Rattle.reply.proofs.ReplyLaws.{item-count, item-long, item-fits, whole-length, put-written}
 use borrow.Rule.Slice.PartMut.{same-len-mid}
 use borrow.Author.Needs.{needs}
 use Rattle.reply.proofs.put_item.Statement.{statement}

@@ -1,0 +1,55 @@
+-- Laws of a workout's value and of writing it.
+use Prim.Native.Nat.{ℕ, _%_, _≤_}
+use mathlib.Core.Path.{_≡_, refl, sym, ap, _∙_, subst}
+use mathlib.Core.Bool.{true, false}
+use mathlib.Core.List.{List, _++_}
+use native.Mathlib.Omega.{arith}
+use lib.Dec.{eqb}
+use lib.ListN.{length, take, drop}
+use Rattle.packing.specs.Draft.{draft, noDraft, wrote}
+use Rattle.packing.specs.Number.{bytesOf}
+use Rattle.packing.specs.Splice.{splice}
+use Rattle.packing.proofs.Cases.{by-bool}
+use Rattle.packing.proofs.Splices.{copied-first}
+use Rattle.packing.proofs.Drafts.{Writes, writes-done}
+use Rattle.workout.specs.Limits.{Limits}
+use Rattle.workout.specs.Workout.{Programmed, distance, time, goalMeans, programmed, withinLimits, layout, distanceBytes, timeBytes, contentsOf}
+use Rattle.workout.specs.Answers.{workoutDraft}
+use Rattle.workout.specs.declared.Workout.{Workout}
+use Rattle.workout.specs.declared.Goal.{Goal}
+
+-- what is known of a workout's goal, of what the workout means
+pub by-goal : {A : Type 0} (f : Programmed → A) (w : Workout) {g : Goal} → w .goal ≡ g → f (goalMeans g (w .watts)) ≡ f (programmed w)
+by-goal f w e = ap (λ (g : Goal). f (goalMeans g (w .watts))) (sym e)
+
+pub contents-length : (w : Programmed) → length (contentsOf w) ≡ 23
+unfolding contentsOf layout distanceBytes timeBytes bytesOf
+contents-length (distance goal split watts) = by-bool (eqb (goal % 1000) 0) (λ y. simp y) (λ n. simp n)
+contents-length (time goal split watts) = refl
+
+module _ (limits : Limits) (w : Programmed) where
+  pub draft-outside : withinLimits limits w ≡ false → workoutDraft limits w ≡ noDraft 12
+  unfolding workoutDraft
+  draft-outside e = simp e
+
+  pub draft-inside : withinLimits limits w ≡ true → workoutDraft limits w ≡ draft (contentsOf w)
+  unfolding workoutDraft
+  draft-inside e = simp e
+
+  -- a draft is of the contents, and is made only within the limits
+  pub draft-is : (c : List ℕ) → workoutDraft limits w ≡ draft c → (withinLimits limits w ≡ true) × (c ≡ contentsOf w)
+  unfolding workoutDraft
+  draft-is c e =
+      by-bool (withinLimits limits w)
+      (λ y. let q : draft (contentsOf w) ≡ draft c = simp y at e in
+      let r : c ≡ contentsOf w = cc in (y, r))
+      (λ y. let q : noDraft 12 ≡ draft c = simp y at e in
+      let x : _≡_ {A = ℕ} 0 1 = cc in absurd (omega arith))
+
+-- the 23 bytes at the front of the output, with the answer
+pub write-done : (limits : Limits) (w : Programmed) {contents last : List ℕ} (out : List ℕ) → withinLimits limits w ≡ true → 23 ≤ length out → contents ≡ contentsOf w
+    → last ≡ take (length contents) contents ++ drop (length contents) out → Writes (workoutDraft limits w) out (wrote 23) last
+write-done limits w {contents} {last} out e h p q =
+    subst (λ (n : ℕ). Writes (workoutDraft limits w) out (wrote n) last) (contents-length w)
+    (writes-done (workoutDraft limits w) (contentsOf w) out last (draft-inside limits w e) (omega (arith, contents-length w))
+    (copied-first contents out last q ∙ ap (splice out 0) p))

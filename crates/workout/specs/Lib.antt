@@ -1,0 +1,6 @@
+pub mod Limits
+pub mod Workout
+pub mod Form
+pub mod Answers
+pub mod Conditions
+pub mod Steps

@@ -1,0 +1,75 @@
+-- A programmed workout and its bytes: document 01, "Workout card".
+use Prim.Native.Nat.{ℕ, _/_, _%_, _<_}
+use mathlib.Core.Path.{_≡_}
+use mathlib.Core.Logic.{_⊎_}
+use mathlib.Core.Bool.{Bool}
+use mathlib.Core.List.{List, [], _∷_, _++_}
+use lib.Dec.{eqb}
+use Rattle.packing.specs.Choice.{pick}
+use Rattle.packing.specs.Number.{bytesOf}
+use Rattle.workout.specs.Limits.{Limits, withinGoal}
+use Rattle.workout.specs.declared.Workout.{Workout}
+use Rattle.workout.specs.declared.Goal.{Goal}
+use Rattle.workout.specs.declared.Goal.the-variants.{Distance, Time}
+use Rattle.workout.specs.declared.layout.Kind.{Kind}
+use Rattle.workout.specs.declared.layout.Kind.the-variants.{Distance as OfDistance, Time as OfTime}
+
+-- A workout as plain numbers (document 01: a card). A distance and its split are in metres, a time is in seconds and its split in hundredths of a second.
+pub data Programmed : Type 0 where
+  distance : (goal split watts : ℕ) → Programmed
+  time : (goal split watts : ℕ) → Programmed
+
+abbrev pub goalMeans : Goal → ℕ → Programmed
+goalMeans (Distance goal split) watts = distance (goal .0) (split .0) watts
+goalMeans (Time goal split) watts = time (goal .0) (split .0) watts
+
+abbrev pub programmed : Workout → Programmed
+programmed w = goalMeans (w .goal) (w .watts)
+
+abbrev pub wattsOf : Programmed → ℕ
+wattsOf (distance goal split watts) = watts
+wattsOf (time goal split watts) = watts
+
+-- Whether it is within the limits. A distance and its split have one unit; a second is 100 hundredths.
+unfoldable pub withinLimits : Limits → Programmed → Bool
+withinLimits limits (distance goal split watts) = withinGoal (limits .distance) (limits .splits) 1 goal split
+withinLimits limits (time goal split watts) = withinGoal (limits .time) (limits .splits) 100 goal split
+
+-- ---- the bytes
+
+-- The command that sets the goal.
+abbrev pub commandOf : Kind → ℕ
+commandOf OfDistance = 0x21
+commandOf OfTime = 0x20
+
+-- The identifier of the split.
+abbrev pub identifierOf : Kind → ℕ
+identifierOf OfDistance = 0x80
+identifierOf OfTime = 0x00
+
+-- The 23 bytes, with the three of the goal, the four of the split and the two of the power. The commands are one that sets the goal,
+-- a wrapper round the one that sets the split, one that sets the power in watts, and one that selects the programmed workout.
+unfoldable pub layout : Kind → (goal split power : List ℕ) → List ℕ
+layout kind goal split power =
+    (commandOf kind ∷ 0x03 ∷ goal)
+    ++ ((0x1A ∷ 0x07 ∷ 0x05 ∷ 0x05 ∷ identifierOf kind ∷ split)
+    ++ ((0x34 ∷ 0x03 ∷ power ++ (0x58 ∷ []))
+    ++ (0x24 ∷ 0x02 ∷ 0x00 ∷ 0x00 ∷ [])))
+
+-- A distance low, high and its unit: km where it is a whole number of km, else metres.
+unfoldable pub distanceBytes : ℕ → List ℕ
+distanceBytes metres = pick (eqb (metres % 1000) 0) (bytesOf 2 (metres / 1000) ++ (0x21 ∷ [])) (bytesOf 2 metres ++ (0x24 ∷ []))
+
+-- Hours, minutes and seconds.
+unfoldable pub timeBytes : ℕ → List ℕ
+timeBytes seconds = bytesOf 1 (seconds / 3600) ++ (seconds / 60 % 60 ∷ seconds % 60 ∷ [])
+
+-- The contents of a workout.
+unfoldable pub contentsOf : Programmed → List ℕ
+contentsOf (distance goal split watts) = layout OfDistance (distanceBytes goal) (bytesOf 4 split) (bytesOf 2 watts)
+contentsOf (time goal split watts) = layout OfTime (timeBytes goal) (bytesOf 4 split) (bytesOf 2 watts)
+
+-- What the bytes can hold: a distance of 16 bits in metres or in whole km, hours of 8 bits, a power of 16 bits. Document 01's limits let no other goal through.
+abbrev pub Sendable : Programmed → Type 0
+Sendable (distance goal split watts) = ((goal < 65536) ⊎ ((goal % 1000 ≡ 0) × (goal < 65536000))) × (watts < 65536)
+Sendable (time goal split watts) = (goal < 921600) × (watts < 65536)

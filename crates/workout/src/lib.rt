@@ -1,0 +1,182 @@
+// Programmed workouts: read from a frame's contents, and written.
+// Document 01, "Workout card".
+mod layout;
+mod limits;
+
+use frame::Written;
+use layout::GoalBytes;
+use layout::Kind;
+use limits::Limits;
+use refusal::Refusal;
+ghost use mathlib.Core.Path.{_≡_};
+ghost use Prim.Native.Nat.{_<_};
+ghost use lib.ListN.{length};
+ghost use Rattle.packing.specs.Draft.{draftAnswer, draftOut};
+ghost use Rattle.frame.specs.Answers.{writtenMeans};
+ghost use Rattle.workout.specs.Limits.{pm3Limits, Divisible};
+ghost use Rattle.workout.specs.Workout.{Programmed, programmed, contentsOf};
+ghost use Rattle.workout.specs.Answers.{readMeans, readAnswer, workoutDraft};
+ghost use Rattle.workout.specs.Steps.{limitsOf, distanceRead, timeRead, limitedRead};
+
+// The most minutes and the most seconds that a time goal has beside its hours.
+const CLOCK_LIMIT: u8 = 59;
+
+pub struct Metres(pub u32);
+
+pub struct Seconds(pub u32);
+
+// Hundredths of a second.
+pub struct Hundredths(pub u32);
+
+// What is to be rowed: a distance with splits in metres, or a time with splits in hundredths of a second.
+pub enum Goal {
+    Distance { goal: Metres, split: Metres },
+    Time { goal: Seconds, split: Hundredths },
+}
+
+// A goal, and the power to row it at.
+pub struct Workout {
+    pub goal: Goal,
+    pub watts: u16,
+}
+
+// The answer to reading: the workout, or why the contents were refused.
+pub enum WorkoutRead {
+    Sound(Workout),
+    Refused(Refusal),
+}
+
+// Reads the contents of a frame that are to be a workout. Refusals 13 and 12.
+pub fn read_workout(contents: &[u8]) -> WorkoutRead
+    ensures { λ r. ⌜ readMeans r ≡ readAnswer pm3Limits (now (contents .entry)) ⌝ }
+{
+    read_within(limits::PM3, contents)
+}
+
+// Writes the contents of a workout first in the output. Refusals 12 and 1.
+pub fn write_workout(workout: Workout, out: &mut [u8]) -> Written
+    ensures { λ r. ⌜ writtenMeans r ≡ draftAnswer (workoutDraft pm3Limits (programmed workout)) (length (now (out .entry))) ⌝ }
+    ensures { λ r. ⌜ now (out .exit) ≡ draftOut (workoutDraft pm3Limits (programmed workout)) (now (out .entry)) ⌝ }
+{
+    write_within(limits::PM3, workout, out)
+}
+
+// The form of all bytes is looked at before any limit.
+fn read_within(limits: Limits, contents: &[u8]) -> WorkoutRead
+    requires { ⌜ Divisible (limitsOf limits) ⌝ }
+    ensures { λ r. ⌜ readMeans r ≡ readAnswer (limitsOf limits) (now (contents .entry)) ⌝ }
+{
+    if contents.len() != layout::LEN {
+        return WorkoutRead::Refused(Refusal::NotWorkout);
+    }
+    let kind = layout::kind_of(contents[0]);
+    let goal = GoalBytes(contents[2], contents[3], contents[4]);
+    let split = layout::number_at(contents, layout::SPLIT_AT, 4);
+    let watts = layout::number_at(contents, layout::POWER_AT, 2) as u16;
+    let expected = layout::lay_out(kind, goal, split, watts);
+    if !layout::same(contents, &expected) {
+        return WorkoutRead::Refused(Refusal::NotWorkout);
+    }
+    match kind {
+        Kind::Distance => {
+            let amount = layout::number_at(contents, layout::DISTANCE_AT, 2);
+            read_distance(limits, amount, goal.2, split, watts)
+        }
+        Kind::Time => read_time(limits, goal, split, watts),
+    }
+}
+
+fn read_distance(limits: Limits, amount: u32, unit: u8, split: u32, watts: u16) -> WorkoutRead
+    requires { ⌜ Divisible (limitsOf limits) ⌝ }
+    requires { ⌜ amount < 65536 ⌝ }
+    ensures { λ r. ⌜ readMeans r ≡ distanceRead (limitsOf limits) amount unit split watts ⌝ }
+{
+    if unit == layout::KILOMETRES {
+        return limited(limits, distance(layout::KILOMETRE * amount, split, watts));
+    }
+    if unit == layout::METRES {
+        return limited(limits, distance(amount, split, watts));
+    }
+    WorkoutRead::Refused(Refusal::NotWorkout)
+}
+
+fn read_time(limits: Limits, clock: GoalBytes, split: u32, watts: u16) -> WorkoutRead
+    requires { ⌜ Divisible (limitsOf limits) ⌝ }
+    ensures { λ r. ⌜ readMeans r ≡ timeRead (limitsOf limits) (clock .0) (clock .1) (clock .2) split watts ⌝ }
+{
+    if CLOCK_LIMIT < clock.1 {
+        return WorkoutRead::Refused(Refusal::OutOfLimits);
+    }
+    if CLOCK_LIMIT < clock.2 {
+        return WorkoutRead::Refused(Refusal::OutOfLimits);
+    }
+    limited(limits, time(layout::seconds_in(clock), split, watts))
+}
+
+fn distance(metres: u32, split: u32, watts: u16) -> Workout
+    ensures { λ r. ⌜ programmed r ≡ Programmed.distance metres split watts ⌝ }
+{
+    Workout {
+        goal: Goal::Distance {
+            goal: Metres(metres),
+            split: Metres(split),
+        },
+        watts,
+    }
+}
+
+fn time(seconds: u32, split: u32, watts: u16) -> Workout
+    ensures { λ r. ⌜ programmed r ≡ Programmed.time seconds split watts ⌝ }
+{
+    Workout {
+        goal: Goal::Time {
+            goal: Seconds(seconds),
+            split: Hundredths(split),
+        },
+        watts,
+    }
+}
+
+fn limited(limits: Limits, workout: Workout) -> WorkoutRead
+    requires { ⌜ Divisible (limitsOf limits) ⌝ }
+    ensures { λ r. ⌜ readMeans r ≡ limitedRead (limitsOf limits) (programmed workout) ⌝ }
+{
+    if limits::within_limits(limits, workout) {
+        return WorkoutRead::Sound(workout);
+    }
+    WorkoutRead::Refused(Refusal::OutOfLimits)
+}
+
+// Nothing is written where the workout is out of the limits or does not fit.
+fn write_within(limits: Limits, workout: Workout, out: &mut [u8]) -> Written
+    requires { ⌜ Divisible (limitsOf limits) ⌝ }
+    ensures { λ r. ⌜ writtenMeans r ≡ draftAnswer (workoutDraft (limitsOf limits) (programmed workout)) (length (now (out .entry))) ⌝ }
+    ensures { λ r. ⌜ now (out .exit) ≡ draftOut (workoutDraft (limitsOf limits) (programmed workout)) (now (out .entry)) ⌝ }
+{
+    if !limits::within_limits(limits, workout) {
+        return Written::Refused(Refusal::OutOfLimits);
+    }
+    if out.len() < layout::LEN {
+        return Written::Refused(Refusal::NoRoom);
+    }
+    let contents = contents_of(workout);
+    bytes::copy(&contents, out);
+    Written::Length(layout::LEN)
+}
+
+fn contents_of(workout: Workout) -> [u8; 23]
+    ensures { λ r. ⌜ r ≡ contentsOf (programmed workout) ⌝ }
+{
+    let watts = workout.watts;
+    let goal = workout.goal;
+    match goal {
+        Goal::Distance { goal, split } => {
+            let bytes = layout::distance_bytes(goal.0);
+            layout::lay_out(Kind::Distance, bytes, split.0, watts)
+        }
+        Goal::Time { goal, split } => {
+            let bytes = layout::time_bytes(goal.0);
+            layout::lay_out(Kind::Time, bytes, split.0, watts)
+        }
+    }
+}
