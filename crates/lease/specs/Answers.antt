@@ -1,0 +1,27 @@
+-- What each case of an answer means, in document 01's numbers, and the output afterwards.
+use Prim.Native.Nat.{ℕ}
+use mathlib.Core.List.{List, [], _++_}
+use lib.ListN.{length, drop}
+use Rattle.packing.specs.Draft.{WriteAnswer, wrote, notWritten}
+use Rattle.refusal.specs.Number.{numberOf}
+use Rattle.lease.specs.Lease.{Answer, accepted, refused}
+use Rattle.lease.specs.declared.Outcome.{Outcome}
+use Rattle.lease.specs.declared.Outcome.the-variants.{Done, Refused}
+
+-- Hold and release write nothing.
+abbrev pub outcomeMeans : Outcome → Answer
+outcomeMeans Done = accepted []
+outcomeMeans (Refused why) = refused (numberOf why)
+
+-- A stop tells the length of what it wrote.
+abbrev pub told : Answer → WriteAnswer
+told (accepted w) = wrote (length w)
+told (refused n) = notWritten n
+
+abbrev pub writtenIn : Answer → List ℕ
+writtenIn (accepted w) = w
+writtenIn (refused n) = []
+
+-- The output afterwards: what was written, and then the bytes that were there.
+abbrev pub outAfter : Answer → List ℕ → List ℕ
+outAfter r out = writtenIn r ++ drop (length (writtenIn r)) out

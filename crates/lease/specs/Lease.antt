@@ -1,0 +1,88 @@
+-- The lease table (document 01, "Stop desk"): what each call answers, writes and leaves, given the token at its address.
+use Prim.Native.Nat.{ℕ, _*_}
+use mathlib.Core.Bool.{Bool, true, false}
+use mathlib.Core.List.{List, [], _∷_, _++_}
+use lib.Dec.{leb, eqb}
+use lib.ListN.{length, getD, set, drop}
+use Rattle.packing.specs.Choice.{pick, within}
+use Rattle.frame.specs.Frame.{wireOf, extended}
+use Rattle.packing.specs.Number.{numbers, put}
+
+-- A call, with the length of the output that a stop is lent.
+pub data Call : Type 0 where
+  hold : (address token : ℕ) → Call
+  release : (address token : ℕ) → Call
+  stop : (address token room : ℕ) → Call
+
+abbrev pub addressOf : Call → ℕ
+addressOf (hold a t) = a
+addressOf (release a t) = a
+addressOf (stop a t room) = a
+
+abbrev pub tokenOf : Call → ℕ
+tokenOf (hold a t) = t
+tokenOf (release a t) = t
+tokenOf (stop a t room) = t
+
+-- Accepted, with the bytes that are written (none but by a stop), or refused with document 01's number.
+pub data Answer : Type 0 where
+  accepted : (written : List ℕ) → Answer
+  refused : (number : ℕ) → Answer
+
+-- The addresses of machines and consoles.
+abbrev pub inRange : ℕ → Bool
+inRange a = within 0x01 0xFC a
+
+-- The holder's token: not 0, and the one that is held.
+abbrev pub owns : (token held : ℕ) → Bool
+owns t held = pick (eqb t 0) false (eqb t held)
+
+-- The frame that stops the machine at an address: from 00, terminate workout.
+unfoldable pub stopFrame : ℕ → List ℕ
+stopFrame a = wireOf (extended a 0x00 (0x76 ∷ 0x04 ∷ 0x13 ∷ 0x02 ∷ 0x01 ∷ 0x02 ∷ []))
+
+-- The answer, where `held` is the token at the call's address, 0 for free. Hold 9, 14, 10; release 9, 11; stop 9, 11, 1.
+unfoldable pub answerOf : Call → (held : ℕ) → Answer
+answerOf (hold a t) held = pick (inRange a) (pick (eqb t 0) (refused 14) (pick (eqb held 0) (accepted []) (refused 10))) (refused 9)
+answerOf (release a t) held = pick (inRange a) (pick (owns t held) (accepted []) (refused 11)) (refused 9)
+answerOf (stop a t room) held =
+    pick (inRange a)
+    (pick (owns t held) (pick (leb (length (stopFrame a)) room) (accepted (stopFrame a)) (refused 1)) (refused 11))
+    (refused 9)
+
+-- What an accepted call leaves at its address.
+abbrev pub leaves : Call → (held : ℕ) → ℕ
+leaves (hold a t) held = t
+leaves (release a t) held = 0
+leaves (stop a t room) held = held
+
+abbrev pub ifAccepted : Answer → (new old : ℕ) → ℕ
+ifAccepted (accepted w) new old = new
+ifAccepted (refused n) new old = old
+
+-- The token at the call's address afterwards.
+unfoldable pub heldAfter : Call → (held : ℕ) → ℕ
+heldAfter c held = ifAccepted (answerOf c held) (leaves c held) held
+
+-- ---- a table: a list of 256 tokens
+
+abbrev pub answerTo : Call → List ℕ → Answer
+answerTo c tokens = answerOf c (getD tokens (addressOf c) 0)
+
+-- The table afterwards: only the call's address may have changed.
+abbrev pub tableAfter : Call → List ℕ → List ℕ
+tableAfter c tokens = set tokens (addressOf c) (heldAfter c (getD tokens (addressOf c) 0))
+
+-- ---- lent bytes: eight for each address in order, lowest first
+
+abbrev pub tableOf : List ℕ → List ℕ
+tableOf bytes = numbers 8 256 0 bytes
+
+-- 18 before everything else, then as the table that the bytes are.
+unfoldable pub lentAnswer : Call → List ℕ → Answer
+lentAnswer c bytes = pick (eqb (length bytes) 2048) (answerTo c (tableOf bytes)) (refused 18)
+
+-- The address's own eight bytes are those of its token in the table afterwards.
+unfoldable pub lentAfter : Call → List ℕ → List ℕ
+lentAfter c bytes =
+    pick (eqb (length bytes) 2048) (put 8 (8 * addressOf c) (getD (tableAfter c (tableOf bytes)) (addressOf c) 0) bytes) bytes

@@ -1,0 +1,4 @@
+pub mod Lease
+pub mod Answers
+pub mod Contracts
+pub mod History

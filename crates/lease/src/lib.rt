@@ -1,0 +1,213 @@
+// Who may stop which machine: a token for each address, held, released, and asked for by a stop.
+// Document 01, "Stop desk".
+mod tokens;
+
+use frame::Written;
+use refusal::Refusal;
+ghost use mathlib.Core.Path.{_≡_};
+ghost use lib.ListN.{length, replicate};
+ghost use Prim.Native.Nat.{_≤_};
+ghost use Rattle.frame.specs.Answers.{writtenMeans};
+ghost use Rattle.lease.specs.Lease.{hold, release, stop, answerOf, inRange, owns};
+ghost use Rattle.lease.specs.Answers.{outcomeMeans, told, outAfter};
+ghost use Rattle.lease.specs.Contracts.{TableCall, TableStop, LentCall, LentStop, Settles, settled, settledLent};
+
+// The lowest and the highest address of a machine or a console.
+const FIRST: u32 = 0x01;
+
+const LAST: u32 = 0xFC;
+
+// The bytes of a lent table: eight for each of 256 addresses.
+const TABLE_BYTES: usize = 2048;
+
+// A free address has no token.
+const FREE: u64 = 0;
+
+// What hold and release answer.
+pub enum Outcome {
+    Done,
+    Refused(Refusal),
+}
+
+// One token for each of 256 addresses, 0 for free (document 01: the desk and its passes).
+pub struct LeaseTable {
+    pub tokens: [u64; 256],
+}
+
+// An answer, and the table afterwards.
+pub struct Leased {
+    pub outcome: Outcome,
+    pub table: LeaseTable,
+}
+
+impl LeaseTable {
+    // A table on which every address is free.
+    pub fn new() -> LeaseTable
+        ensures { λ r. ⌜ r .tokens ≡ replicate 256 0 ⌝ }
+    {
+        LeaseTable {
+            tokens: [FREE; 256],
+        }
+    }
+
+    // Takes a free address. Refusals 9, 14 and 10.
+    pub fn hold(self, address: u32, token: u64) -> Leased
+        ensures { λ r. ⌜ TableCall (hold address token) (self .tokens) (outcomeMeans (r .outcome)) (r .table .tokens) ⌝ }
+    {
+        let held = tokens::token_at(&self.tokens, address);
+        let outcome = judge_hold(address, token, held);
+        settle(self, outcome, address, token)
+    }
+
+    // Frees an address for its holder. Refusals 9 and 11.
+    pub fn release(self, address: u32, token: u64) -> Leased
+        ensures { λ r. ⌜ TableCall (release address token) (self .tokens) (outcomeMeans (r .outcome)) (r .table .tokens) ⌝ }
+    {
+        let held = tokens::token_at(&self.tokens, address);
+        let outcome = judge_release(address, token, held);
+        settle(self, outcome, address, FREE)
+    }
+
+    // Writes the stop frame for the holder, who keeps the address. Refusals 9, 11 and 1.
+    pub fn stop(self, address: u32, token: u64, out: &mut [u8]) -> Written
+        ensures { λ r. ⌜ TableStop address token (self .tokens) (now (out .entry)) (writtenMeans r) (now (out .exit)) ⌝ }
+    {
+        let held = tokens::token_at(&self.tokens, address);
+        write_stop(address, token, held, out)
+    }
+}
+
+// As `LeaseTable::hold`, on the bytes of a table. Refusal 18 comes first.
+pub fn hold_lent(table: &mut [u8], address: u32, token: u64) -> Outcome
+    ensures { λ r. ⌜ LentCall (hold address token) (now (table .entry)) (outcomeMeans r) (now (table .exit)) ⌝ }
+{
+    if table.len() != TABLE_BYTES {
+        return Outcome::Refused(Refusal::BadTable);
+    }
+    let held = tokens::token_in(table, address);
+    let outcome = judge_hold(address, token, held);
+    settle_lent(table, outcome, address, token)
+}
+
+// As `LeaseTable::release`, on the bytes of a table. Refusal 18 comes first.
+pub fn release_lent(table: &mut [u8], address: u32, token: u64) -> Outcome
+    ensures { λ r. ⌜ LentCall (release address token) (now (table .entry)) (outcomeMeans r) (now (table .exit)) ⌝ }
+{
+    if table.len() != TABLE_BYTES {
+        return Outcome::Refused(Refusal::BadTable);
+    }
+    let held = tokens::token_in(table, address);
+    let outcome = judge_release(address, token, held);
+    settle_lent(table, outcome, address, FREE)
+}
+
+// As `LeaseTable::stop`, on the bytes of a table. Refusal 18 comes first.
+pub fn stop_lent(table: &[u8], address: u32, token: u64, out: &mut [u8]) -> Written
+    ensures { λ r. ⌜ LentStop address token (now (table .entry)) (now (out .entry)) (writtenMeans r) (now (out .exit)) ⌝ }
+{
+    if table.len() != TABLE_BYTES {
+        return Written::Refused(Refusal::BadTable);
+    }
+    let held = tokens::token_in(table, address);
+    write_stop(address, token, held, out)
+}
+
+// Whether a number is an address of a machine or a console.
+fn in_range(address: u32) -> bool
+    ensures { λ r. ⌜ r ≡ inRange address ⌝ }
+{
+    if FIRST <= address {
+        address <= LAST
+    } else {
+        false
+    }
+}
+
+// Whether a token is the holder's: a free address has no holder.
+fn is_holder(token: u64, held: u64) -> bool
+    ensures { λ r. ⌜ r ≡ owns token held ⌝ }
+{
+    if token == FREE { false } else { token == held }
+}
+
+// What hold answers where `held` is the address's token.
+fn judge_hold(address: u32, token: u64, held: u64) -> Outcome
+    ensures { λ r. ⌜ outcomeMeans r ≡ answerOf (hold address token) held ⌝ }
+{
+    if !in_range(address) {
+        return Outcome::Refused(Refusal::BadAddress);
+    }
+    if token == FREE {
+        return Outcome::Refused(Refusal::ZeroToken);
+    }
+    if held != FREE {
+        return Outcome::Refused(Refusal::AlreadyHeld);
+    }
+    Outcome::Done
+}
+
+// What release answers where `held` is the address's token.
+fn judge_release(address: u32, token: u64, held: u64) -> Outcome
+    ensures { λ r. ⌜ outcomeMeans r ≡ answerOf (release address token) held ⌝ }
+{
+    if !in_range(address) {
+        return Outcome::Refused(Refusal::BadAddress);
+    }
+    if !is_holder(token, held) {
+        return Outcome::Refused(Refusal::NotHolder);
+    }
+    Outcome::Done
+}
+
+// Writes the stop frame where `held` is the address's token and the caller has it.
+fn write_stop(address: u32, token: u64, held: u64, out: &mut [u8]) -> Written
+    ensures { λ r. ⌜ writtenMeans r ≡ told (answerOf (stop address token (length (now (out .entry)))) held) ⌝ }
+    ensures { λ r. ⌜ now (out .exit) ≡ outAfter (answerOf (stop address token (length (now (out .entry)))) held) (now (out .entry)) ⌝ }
+{
+    if !in_range(address) {
+        return Written::Refused(Refusal::BadAddress);
+    }
+    if !is_holder(token, held) {
+        return Written::Refused(Refusal::NotHolder);
+    }
+    let terminate = [0x76u8, 0x04, 0x13, 0x02, 0x01, 0x02];
+    frame::write_extended(address as u8, 0x00, &terminate, out)
+}
+
+// The store of hold and of release: an accepted call leaves `token` at the address.
+fn settle(mut table: LeaseTable, outcome: Outcome, address: u32, token: u64) -> Leased
+    requires { ⌜ Settles address (outcomeMeans outcome) ⌝ }
+    ensures { λ r. ⌜ (outcomeMeans (r .outcome) ≡ outcomeMeans outcome) × (r .table .tokens ≡ settled (outcomeMeans outcome) address token (table .tokens)) ⌝ }
+{
+    match outcome {
+        Outcome::Done => {
+            let at = address as usize;
+            table.tokens[at] = token;
+            Leased {
+                outcome: Outcome::Done,
+                table,
+            }
+        }
+        Outcome::Refused(why) => Leased {
+            outcome: Outcome::Refused(why),
+            table,
+        },
+    }
+}
+
+// The same on the bytes of a table.
+fn settle_lent(table: &mut [u8], outcome: Outcome, address: u32, token: u64) -> Outcome
+    requires { ⌜ length (now table) ≡ 2048 ⌝ }
+    requires { ⌜ Settles address (outcomeMeans outcome) ⌝ }
+    ensures { λ r. ⌜ outcomeMeans r ≡ outcomeMeans outcome ⌝ }
+    ensures { λ r. ⌜ now (table .exit) ≡ settledLent (outcomeMeans outcome) address token (now (table .entry)) ⌝ }
+{
+    match outcome {
+        Outcome::Done => {
+            let at = address as usize;
+            tokens::put_token(table, 8 * at, token);
+            Outcome::Done
+        }
+        Outcome::Refused(why) => Outcome::Refused(why),
+    }
+}
