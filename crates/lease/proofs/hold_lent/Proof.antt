@@ -1,41 +1,29 @@
-use mathlib.Core.Path.{_≡_, refl, sym, ap, _∙_, subst}
 use native.Mathlib.Omega.{arith}
-use Rattle.lease.specs.Lease.{hold, release, stop, answerOf}
+use Rattle.lease.specs.Lease.{hold}
 use Rattle.lease.proofs.LeaseLaws.{settles, lent-size, lent-call}
 use Rattle.lease.specs.Contracts.{Real}
 use borrow.Author.Needs.{needs}
 use Rattle.lease.proofs.hold_lent.Statement.{statement}
 use Rattle.lease.proofs.hold_lent.Tie as tie
-use Rattle.lease.proofs.hold_lent.Reads as reads
-use Rattle.lease.proofs.hold_lent.Lts as lts
-use Rattle.lease.proofs.judge_hold.Reads as judge-hold-reads
-use Rattle.lease.proofs.settle_lent.Reads as settle-lent-reads
-use Rattle.lease.proofs.tokens.token_in.Reads as token-in-reads
 
--- src/lib.rt:85:9
 returns : tie.Need-returns
 returns c =
     let s = c .before .before in
     let q = lent-size (hold (s .args .address) (s .args .token)) (s .args .table .now) (c .if1 .taken) in
     record { answered = q .0; left = q .1; real = record { bytes = λ i. c .before .slice-known .given i .fits; fits = omega arith } }
 
--- src/lib.rt:87:9
 token-in-requires : tie.Need-token-in-requires
 token-in-requires c κs = search needs
 
--- src/lib.rt:88:9
 judge-hold-requires : tie.Need-judge-hold-requires
 judge-hold-requires c κs = search needs
 
--- src/lib.rt:89:5
 settle-lent-requires : tie.Need-settle-lent-requires
 settle-lent-requires c κs = (c .before .before .before .before .if1 .left, settles (hold (c .before .before .before .before .before .before .args .address) (c .before .before .before .before .before .before .args .token)) _ _ (c .before .judge-hold .ensures))
 
--- src/lib.rt:81:1
 same-length : tie.Need-same-length
 same-length c = search needs
 
--- src/lib.rt:81:1
 returns-2 : tie.Need-returns-2
 returns-2 c =
     let s = c .before .before .before .before .before .before .before .before .before in

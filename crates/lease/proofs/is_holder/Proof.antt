@@ -1,14 +1,10 @@
-use borrow.Author.Tests.{le-leb, lt-leb, eq-eqb, ne-eqb, not-true, not-false}
+use borrow.Author.Tests.{eq-eqb, ne-eqb}
 use Rattle.lease.proofs.is_holder.Statement.{statement}
 use Rattle.lease.proofs.is_holder.Tie as tie
-use Rattle.lease.proofs.is_holder.Reads as reads
-use Rattle.lease.proofs.is_holder.Lts as lts
 
--- src/lib.rt:127:1
 returns : tie.Need-returns
 returns c = simp (eq-eqb _ _ (c .if1 .taken))
 
--- src/lib.rt:127:1
 returns-2 : tie.Need-returns-2
 returns-2 c = simp (ne-eqb _ _ (c .if1 .left))
 

@@ -1,33 +1,24 @@
-use borrow.Author.Tests.{le-leb, lt-leb, eq-eqb, ne-eqb, not-true, not-false}
-use mathlib.Core.Path.{_≡_, refl, sym, ap, _∙_, subst}
-use Rattle.lease.specs.Lease.{hold, release, stop, answerOf}
+use borrow.Author.Tests.{not-true, not-false}
+use mathlib.Core.Path.{sym, _∙_}
+use Rattle.lease.specs.Lease.{answerOf}
 use borrow.Author.Needs.{needs}
 use Rattle.lease.proofs.judge_release.Statement.{statement}
 use Rattle.lease.proofs.judge_release.Tie as tie
-use Rattle.lease.proofs.judge_release.Reads as reads
-use Rattle.lease.proofs.judge_release.Lts as lts
-use Rattle.lease.proofs.in_range.Reads as in-range-reads
-use Rattle.lease.proofs.is_holder.Reads as is-holder-reads
 
--- src/lib.rt:153:9
 in-range-requires : tie.Need-in-range-requires
 in-range-requires c κs = search needs
 
--- src/lib.rt:154:9
 returns : tie.Need-returns
 unfolding answerOf
 returns c = simp (sym (c .before .in-range .ensures) ∙ not-true _ (c .if1 .taken))
 
--- src/lib.rt:156:9
 is-holder-requires : tie.Need-is-holder-requires
 is-holder-requires c κs = search needs
 
--- src/lib.rt:157:9
 returns-2 : tie.Need-returns-2
 unfolding answerOf
 returns-2 c = simp (sym (c .before .before .before .in-range .ensures) ∙ not-false _ (c .before .before .if1 .left), sym (c .before .is-holder .ensures) ∙ not-true _ (c .if2 .taken))
 
--- src/lib.rt:150:1
 returns-3 : tie.Need-returns-3
 unfolding answerOf
 returns-3 c = simp (sym (c .before .before .before .in-range .ensures) ∙ not-false _ (c .before .before .if1 .left), sym (c .before .is-holder .ensures) ∙ not-false _ (c .if2 .left))

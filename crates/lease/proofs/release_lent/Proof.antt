@@ -1,41 +1,29 @@
-use mathlib.Core.Path.{_≡_, refl, sym, ap, _∙_, subst}
 use native.Mathlib.Omega.{arith}
-use Rattle.lease.specs.Lease.{hold, release, stop, answerOf}
+use Rattle.lease.specs.Lease.{release}
 use Rattle.lease.proofs.LeaseLaws.{settles, lent-size, lent-call}
 use Rattle.lease.specs.Contracts.{Real}
 use borrow.Author.Needs.{needs}
 use Rattle.lease.proofs.release_lent.Statement.{statement}
 use Rattle.lease.proofs.release_lent.Tie as tie
-use Rattle.lease.proofs.release_lent.Reads as reads
-use Rattle.lease.proofs.release_lent.Lts as lts
-use Rattle.lease.proofs.judge_release.Reads as judge-release-reads
-use Rattle.lease.proofs.settle_lent.Reads as settle-lent-reads
-use Rattle.lease.proofs.tokens.token_in.Reads as token-in-reads
 
--- src/lib.rt:97:9
 returns : tie.Need-returns
 returns c =
     let s = c .before .before in
     let q = lent-size (release (s .args .address) (s .args .token)) (s .args .table .now) (c .if1 .taken) in
     record { answered = q .0; left = q .1; real = record { bytes = λ i. c .before .slice-known .given i .fits; fits = omega arith } }
 
--- src/lib.rt:99:9
 token-in-requires : tie.Need-token-in-requires
 token-in-requires c κs = search needs
 
--- src/lib.rt:100:9
 judge-release-requires : tie.Need-judge-release-requires
 judge-release-requires c κs = search needs
 
--- src/lib.rt:101:5
 settle-lent-requires : tie.Need-settle-lent-requires
 settle-lent-requires c κs = (c .before .before .before .before .if1 .left, settles (release (c .before .before .before .before .before .before .args .address) (c .before .before .before .before .before .before .args .token)) _ _ (c .before .judge-release .ensures))
 
--- src/lib.rt:93:1
 same-length : tie.Need-same-length
 same-length c = search needs
 
--- src/lib.rt:93:1
 returns-2 : tie.Need-returns-2
 returns-2 c =
     let s = c .before .before .before .before .before .before .before .before .before in

@@ -1,39 +1,28 @@
-use mathlib.Core.Path.{_≡_, refl, sym, ap, _∙_, subst}
+use mathlib.Core.Path.{sym, ap, _∙_}
 use native.Mathlib.Omega.{arith}
-use Rattle.lease.specs.Lease.{hold, release, stop, answerOf}
+use Rattle.lease.specs.Lease.{stop, answerOf, Answer}
 use lib.ListN.{length}
-use Rattle.lease.specs.Lease.{lentAnswer}
 use Rattle.lease.specs.Answers.{told, outAfter}
 use Rattle.lease.proofs.LeaseLaws.{stop-by, lent-size, lent-answer}
-use Rattle.lease.specs.Lease.{Answer}
 use borrow.Author.Needs.{needs}
 use Rattle.lease.proofs.stop_lent.Statement.{statement}
 use Rattle.lease.proofs.stop_lent.Tie as tie
-use Rattle.lease.proofs.stop_lent.Reads as reads
-use Rattle.lease.proofs.stop_lent.Lts as lts
-use Rattle.lease.proofs.tokens.token_in.Reads as token-in-reads
-use Rattle.lease.proofs.write_stop.Reads as write-stop-reads
 
--- src/lib.rt:109:9
 returns : tie.Need-returns
 returns c =
     let s = c .before .before .before in
     let q = lent-size (stop (s .args .address) (s .args .token) (length (s .args .out .now))) (s .args .table .now) (c .if1 .taken) .0 in
     record { answered = ap told q; written = ap (λ (x : Answer). outAfter x (s .args .out .now)) q; real = record { bytes = λ i. c .before .before .shared-slice-known .given i .fits; fits = omega arith } }
 
--- src/lib.rt:111:9
 token-in-requires : tie.Need-token-in-requires
 token-in-requires c κs = search needs
 
--- src/lib.rt:112:5
 write-stop-requires : tie.Need-write-stop-requires
 write-stop-requires c κs = search needs
 
--- src/lib.rt:105:1
 same-length : tie.Need-same-length
 same-length c = search needs
 
--- src/lib.rt:105:1
 returns-2 : tie.Need-returns-2
 returns-2 c =
     let s = c .before .before .before .before .before .before .before .before in

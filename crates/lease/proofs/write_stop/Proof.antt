@@ -1,51 +1,36 @@
-use borrow.Author.Tests.{le-leb, lt-leb, eq-eqb, ne-eqb, not-true, not-false}
-use mathlib.Core.Path.{_≡_, refl, sym, ap, _∙_, subst}
+use borrow.Author.Tests.{not-true, not-false}
+use mathlib.Core.Path.{sym, _∙_}
 use native.Mathlib.Omega.{arith}
-use Rattle.lease.specs.Lease.{hold, release, stop, answerOf}
 use Rattle.lease.proofs.LeaseLaws.{range-means, stop-outside, stop-not-holder, stop-writes}
 use borrow.Author.Needs.{needs}
 use Rattle.lease.proofs.write_stop.Statement.{statement}
 use Rattle.lease.proofs.write_stop.Tie as tie
-use Rattle.lease.proofs.write_stop.Reads as reads
-use Rattle.lease.proofs.write_stop.Lts as lts
-use Rattle.frame.proofs.write_extended.Reads as write-extended-reads
-use Rattle.lease.proofs.in_range.Reads as in-range-reads
-use Rattle.lease.proofs.is_holder.Reads as is-holder-reads
 
--- src/lib.rt:167:9
 in-range-requires : tie.Need-in-range-requires
 in-range-requires c κs = search needs
 
--- src/lib.rt:168:9
 returns : tie.Need-returns
 returns c = let a = c .before .before .before .args in stop-outside (a .address) (a .token) (a .held) (a .out .now) (sym (c .before .in-range .ensures) ∙ not-true _ (c .if1 .taken))
 
--- src/lib.rt:170:9
 is-holder-requires : tie.Need-is-holder-requires
 is-holder-requires c κs = search needs
 
--- src/lib.rt:171:9
 returns-2 : tie.Need-returns-2
 returns-2 c = let a = c .before .before .before .before .before .args in stop-not-holder (a .address) (a .token) (a .held) (a .out .now) (sym (c .before .before .before .in-range .ensures) ∙ not-false _ (c .before .before .if1 .left)) (sym (c .before .is-holder .ensures) ∙ not-true _ (c .if2 .taken))
 
--- src/lib.rt:174:27
 cast-write-extended : tie.Need-cast-write-extended
 cast-write-extended c =
     let m = range-means (c .before .before .before .before .before .args .address) (sym (c .before .before .before .in-range .ensures) ∙ not-false _ (c .before .before .if1 .left)) in omega (arith, m .0, m .1)
 
--- src/lib.rt:174:48
 slice-aggregate-write-extended : tie.Need-slice-aggregate-write-extended
 slice-aggregate-write-extended c = search needs
 
--- src/lib.rt:174:5
 write-extended-requires : tie.Need-write-extended-requires
 write-extended-requires c κs = search needs
 
--- src/lib.rt:163:1
 same-length : tie.Need-same-length
 same-length c = search needs
 
--- src/lib.rt:163:1
 returns-3 : tie.Need-returns-3
 returns-3 c =
     let a = c .before .before .before .before .before .before .before .before .before .before .args in

@@ -1,14 +1,11 @@
-use mathlib.Core.Path.{_≡_, refl, sym, ap, _∙_, subst}
-use Prim.Native.Nat.{ℕ, _+_, _-_, _*_, _^_, _≤_, _<_}
+use mathlib.Core.Path.{_≡_, refl}
+use Prim.Native.Nat.{_+_, _-_, _^_, _≤_, _<_}
 use native.Mathlib.Omega.{arith}
-use Rattle.packing.specs.Number.{number, put}
+use Rattle.packing.specs.Number.{number}
 use Rattle.packing.proofs.Numbers.{number-down, number-down-bound, number-all}
 use borrow.Author.Needs.{needs}
 use Rattle.lease.proofs.tokens.number_at.Statement.{statement}
 use Rattle.lease.proofs.tokens.number_at.Tie as tie
-use Rattle.lease.proofs.tokens.number_at.Reads as reads
-use Rattle.lease.proofs.tokens.number_at.Lts as lts
-use Rattle.lease.proofs.tokens.wide.Reads as wide-reads
 
 abbrev Inv-loop : tie.InvT-loop
 Inv-loop bytes at n₀ left₀ n left = (left ≤ 8) × (n ≡ number (8 - left) (at + left) bytes)
@@ -27,47 +24,37 @@ byte c =
     let l = c .before .before .before in
     omega (arith, c .wide .ensures, l .before .shared-slice-known .given (l .before .before .args .at + (l .loop .left - 1)) .fits)
 
--- src/tokens.rt:55:5
 loop-holds : tie.Need-loop-holds Inv-loop μ-loop
 unfolding number
 loop-holds c = (search needs, refl)
 
--- src/tokens.rt:56:16
 sub-left : tie.Need-sub-left Inv-loop μ-loop
 sub-left c = search needs
 
--- src/tokens.rt:57:24
 add-wide : tie.Need-add-wide Inv-loop μ-loop
 add-wide c = search needs
 
--- src/tokens.rt:57:18
 shared-slice-read-wide : tie.Need-shared-slice-read-wide Inv-loop μ-loop
 shared-slice-read-wide c = search needs
 
--- src/tokens.rt:57:13
 wide-requires : tie.Need-wide-requires Inv-loop μ-loop
 wide-requires c κs = search needs
 
--- src/tokens.rt:57:38
 mul-n : tie.Need-mul-n Inv-loop μ-loop
 mul-n c = record { fits = omega (arith, below c) }
 
--- src/tokens.rt:57:13
 add-n : tie.Need-add-n Inv-loop μ-loop
 add-n c = record { fits = omega (arith, below c, byte c) }
 
--- src/tokens.rt:55:5
 loop-less : tie.Need-loop-less Inv-loop μ-loop
 loop-less c = search needs
 
--- src/tokens.rt:55:5
 loop-again : tie.Need-loop-again Inv-loop μ-loop
 loop-again c =
     let l = c .before .before .before in
     let a = l .before .before .args in
     (search needs, number-down 8 (a .at) (l .loop .left) (l .loop .n) (c .wide .result) (a .bytes .now) (c .before .before .loop-test .taken) (l .loop .inv .0) (l .loop .inv .1) (c .wide .ensures))
 
--- src/tokens.rt:49:1
 returns : tie.Need-returns Inv-loop μ-loop
 returns c = number-all 8 _ (c .before .loop .left) (c .before .loop .n) _ (c .loop-test .left) (c .before .loop .inv .1)
 

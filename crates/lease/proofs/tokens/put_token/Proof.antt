@@ -1,14 +1,12 @@
-use mathlib.Core.Path.{_≡_, refl, sym, ap, _∙_, subst}
-use Prim.Native.Nat.{ℕ, _+_, _-_, _*_, _^_, _≤_, _<_}
-use Rattle.packing.specs.Number.{number, put}
+use mathlib.Core.Path.{_≡_, refl, sym, ap, _∙_}
+use Prim.Native.Nat.{ℕ, _+_, _-_, _≤_}
+use Rattle.packing.specs.Number.{put}
 use lib.ListN.{length, length-set}
 use native.Mathlib.Nat.{add-zero}
 use Rattle.packing.proofs.Numbers.{put-up, put-all}
 use borrow.Author.Needs.{needs}
 use Rattle.lease.proofs.tokens.put_token.Statement.{statement}
 use Rattle.lease.proofs.tokens.put_token.Tie as tie
-use Rattle.lease.proofs.tokens.put_token.Reads as reads
-use Rattle.lease.proofs.tokens.put_token.Lts as lts
 
 abbrev Inv-loop : tie.InvT-loop
 Inv-loop bytes₀ at token n₀ i₀ bytes n i = (i ≤ 8) × (put (8 - i) (at + i) n bytes ≡ put 8 at token bytes₀) × (length bytes ≡ length bytes₀)
@@ -16,39 +14,30 @@ Inv-loop bytes₀ at token n₀ i₀ bytes n i = (i ≤ 8) × (put (8 - i) (at +
 abbrev μ-loop : tie.MeasureT-loop
 μ-loop bytes₀ at token n₀ i₀ bytes n i = 8 - i
 
--- src/tokens.rt:41:5
 loop-holds : tie.Need-loop-holds Inv-loop μ-loop
 loop-holds c = (search needs, ap (λ (j : ℕ). put 8 j (c .args .token) (c .args .bytes .now)) (add-zero (c .args .at)), refl)
 
--- src/tokens.rt:42:25
 cast-bytes : tie.Need-cast-bytes Inv-loop μ-loop
 cast-bytes c = search needs
 
--- src/tokens.rt:42:15
 add-bytes : tie.Need-add-bytes Inv-loop μ-loop
 add-bytes c = search needs
 
--- src/tokens.rt:42:9
 slice-write-bytes : tie.Need-slice-write-bytes Inv-loop μ-loop
 slice-write-bytes c = search needs
 
--- src/tokens.rt:44:9
 add-i : tie.Need-add-i Inv-loop μ-loop
 add-i c = search needs
 
--- src/tokens.rt:41:5
 loop-less : tie.Need-loop-less Inv-loop μ-loop
 loop-less c = search needs
 
--- src/tokens.rt:41:5
 loop-again : tie.Need-loop-again Inv-loop μ-loop
 loop-again c = let l = c .before in (search needs, sym (put-up 8 _ (l .loop .i) _ _ (c .loop-test .taken)) ∙ l .loop .inv .1, length-set (l .loop .bytes) _ _ ∙ l .loop .inv .2)
 
--- src/tokens.rt:35:1
 same-length : tie.Need-same-length Inv-loop μ-loop
 same-length c = search needs
 
--- src/tokens.rt:35:1
 returns : tie.Need-returns Inv-loop μ-loop
 returns c = sym (put-all 8 (c .before .before .args .at) (c .before .loop .i) (c .before .loop .n) _ (c .loop-test .left)) ∙ c .before .loop .inv .1
 

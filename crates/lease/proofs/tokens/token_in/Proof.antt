@@ -1,26 +1,19 @@
-use mathlib.Core.Path.{_≡_, refl, sym, ap, _∙_, subst}
+use mathlib.Core.Path.{sym, _∙_}
 use native.Mathlib.Omega.{arith}
 use Rattle.lease.proofs.LeaseLaws.{token-none, token-lent}
 use borrow.Author.Needs.{needs}
 use Rattle.lease.proofs.tokens.token_in.Statement.{statement}
 use Rattle.lease.proofs.tokens.token_in.Tie as tie
-use Rattle.lease.proofs.tokens.token_in.Reads as reads
-use Rattle.lease.proofs.tokens.token_in.Lts as lts
-use Rattle.lease.proofs.tokens.number_at.Reads as number-at-reads
 
--- src/tokens.rt:28:9
 returns : tie.Need-returns
 returns c = sym (token-none (c .before .before .args .bytes .now) (c .before .before .args .address) (c .if1 .taken))
 
--- src/tokens.rt:31:22
 mul-number-at : tie.Need-mul-number-at
 mul-number-at c = search needs
 
--- src/tokens.rt:31:5
 number-at-requires : tie.Need-number-at-requires
 number-at-requires c κs = search needs
 
--- src/tokens.rt:23:1
 returns-2 : tie.Need-returns-2
 returns-2 c = c .number-at .ensures ∙ sym (token-lent (c .before .before .before .args .bytes .now) (c .before .before .before .args .address) (omega arith))
 
