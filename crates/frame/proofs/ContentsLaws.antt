@@ -1,6 +1,7 @@
 -- Laws of a sound body's contents, copied out or brought to the front of the body itself.
-use lib.ListN.{length-drop, length, take, drop, length-append, take-append-drop}
-use Rattle.frame.specs.Verdict.{judge, judgeBytes, frameIn, addressCount, lastOf, contentsIn, Verdict, accepted, refused}
+use borrow.Author.Tests.{leb-true}
+use lib.ListN.{length-drop, length, getD, take, drop, length-append, take-append-drop}
+use Rattle.frame.specs.Verdict.{judge, judgeBytes, frameIn, addressCount, lastOf, contentsIn, Verdict, accepted, refused, kindOf, bodyOf, isTerminated, verdict}
 use Prim.Native.Nat.{_-_, ℕ, _+_, _≤_}
 use lib.Dec.{leb, eqb}
 use Rattle.packing.proofs.Cases.{by-bool}
@@ -88,12 +89,12 @@ unfolding contentsOf frameIn
 frame-shorter Standard u = take-shorter (length u - 1) u
 frame-shorter Extended u = omega (arith, take-shorter (length u - 3) (drop 2 u), length-drop 2 u)
 
--- the contents of a body that is accepted are no longer than the body
-judge-shrinks : (kind : Kind) (body : List ℕ) (f : Frame) → judge kind body ≡ accepted f → length (contentsOf f) ≤ length body
+-- the contents of a body that is accepted are no longer than the body, which is within the limit
+judge-shrinks : (kind : Kind) (body : List ℕ) (f : Frame) → judge kind body ≡ accepted f → (length (contentsOf f) ≤ length body) × (length body ≤ 118)
 unfolding judge judgeBytes bytesOf
 judge-shrinks kind body f e =
     by-bool (leb (length body + 2) 120)
-    (λ l. of-bytes (unstuff false body) (simp l at e) (unstuff-shrinks false body))
+    (λ l. (of-bytes (unstuff false body) (simp l at e) (unstuff-shrinks false body), omega (arith, leb-true (length body + 2) 120 l)))
     (λ l. let q : refused 2 ≡ accepted f = simp l at e in
     let z : _≡_ {A = ℕ} 0 1 = cc in absurd (omega arith))
   where
@@ -117,4 +118,13 @@ left-length kind n s = of-verdict (judge kind (take n s)) refl
     of-verdict : (v : Verdict) → judge kind (take n s) ≡ v → length (leftIn v s) ≡ length s
     of-verdict (refused m) e = refl
     of-verdict (accepted f) e =
-        omega (arith, length-append (contentsOf f) (drop (length (contentsOf f)) s), length-drop (length (contentsOf f)) s, judge-shrinks kind (take n s) f e, take-shorter n s)
+        omega (arith, length-append (contentsOf f) (drop (length (contentsOf f)) s), length-drop (length (contentsOf f)) s, judge-shrinks kind (take n s) f e .0, take-shorter n s)
+
+-- the contents of a frame that is accepted are at most the bytes that may stand between flags
+pub accepted-short : (w : List ℕ) (f : Frame) → verdict w ≡ accepted f → length (contentsOf f) ≤ 118
+unfolding verdict
+accepted-short w f e =
+    by-bool (isTerminated w)
+    (λ y. let j = judge-shrinks (kindOf (getD w 0 0)) (bodyOf w) f (simp y at e) in omega (arith, j .0, j .1))
+    (λ y. let q : refused 6 ≡ accepted f = simp y at e in
+    let z : _≡_ {A = ℕ} 0 1 = cc in absurd (omega arith))

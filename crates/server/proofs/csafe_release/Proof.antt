@@ -1,0 +1,23 @@
+use Rattle.lease.specs.Lease.{Answer}
+use Rattle.server.specs.Answers.{leaseFields}
+use Rattle.server.specs.Packed.{Tells}
+use mathlib.Core.Path.{subst}
+use borrow.Author.Needs.{needs}
+use Rattle.server.proofs.csafe_release.Statement.{statement}
+use Rattle.server.proofs.csafe_release.Tie as tie
+
+release-lent-requires : tie.Need-release-lent-requires
+release-lent-requires c κs = search needs
+
+of-outcome-requires : tie.Need-of-outcome-requires
+of-outcome-requires c κs = search needs
+
+same-length : tie.Need-same-length
+same-length c = search needs
+
+returns : tie.Need-returns
+returns c = let e = c .before .before .before .release-lent .ensures in (subst (λ (a : Answer). Tells (c .of-outcome .result) (leaseFields a)) (e .answered) (c .of-outcome .ensures), e .left)
+
+pub csafe-release-spec : {M : Type 1} → statement M
+csafe-release-spec =
+    tie.close (tie.spec release-lent-requires of-outcome-requires same-length returns)

@@ -1,0 +1,137 @@
+/*
+ * CSAFE frames, programmed workouts and machine leases.
+ *
+ * Link target/staticlib/libserver.a, which `rt staticlib server` makes.
+ *
+ * A slice is a pointer and a length. Every function takes any numbers and any slices, returns, and answers one
+ * 64-bit number: a result or a refusal. A refusal changes no lent byte. After a result the bytes of the output past
+ * it are as they were. The slices of one call must not overlap. The pointer of an empty slice is not followed.
+ */
+#ifndef CSAFE_H
+#define CSAFE_H
+
+#include <stddef.h>
+#include <stdint.h>
+
+#ifdef __cplusplus
+extern "C" {
+#endif
+
+/* The most bytes of a frame on the wire, and of its contents. */
+#define CSAFE_WIRE_LIMIT 120
+#define CSAFE_CONTENTS_LIMIT 117
+
+/* The bytes of a workout's contents, of a stop on the wire at most, and of a lease table. */
+#define CSAFE_WORKOUT_LEN 23
+#define CSAFE_STOP_LIMIT 12
+#define CSAFE_TABLE_LEN 2048
+
+/* The numbers of the refusals. The functions below give those that their comments name. */
+enum {
+    CSAFE_OK = 0,
+    CSAFE_NO_ROOM = 1,        /* the output is shorter than the result */
+    CSAFE_TOO_LONG = 2,       /* the frame is over 120 bytes on the wire */
+    CSAFE_BAD_ESCAPE = 3,     /* F3 is not followed by 00 to 03 */
+    CSAFE_TOO_SHORT = 4,      /* too few bytes for the kind of frame */
+    CSAFE_BAD_CHECKSUM = 5,   /* the checksum is not the one that the contents have */
+    CSAFE_TRUNCATED = 6,      /* not one frame from its start flag to its stop flag */
+    CSAFE_BAD_ADDRESS = 9,    /* the address is not one of 01 to FC */
+    CSAFE_ALREADY_HELD = 10,  /* the address is held already */
+    CSAFE_NOT_HOLDER = 11,    /* the token is not the holder's, or the address is free */
+    CSAFE_OUT_OF_LIMITS = 12, /* a number of the workout is outside its limits */
+    CSAFE_ZERO_TOKEN = 14,    /* the token is 0 */
+    CSAFE_BAD_TABLE = 18      /* the lease table is not 2,048 bytes long */
+};
+
+/* The kinds of a frame that was read. */
+enum {
+    CSAFE_STANDARD = 0,
+    CSAFE_EXTENDED = 1
+};
+
+/*
+ * The layout of an answer:
+ *
+ *   bits  0 to  7   the refusal's number, 0 for a result
+ *   bits  8 to 15   the kind of the frame that was read
+ *   bits 16 to 23   its destination, 0 for a standard frame
+ *   bits 24 to 31   its source, 0 for a standard frame
+ *   bits 32 to 63   the length of the result: contents read, or bytes written
+ *
+ * A refusal has its number and is 0 otherwise. Kind, destination and source are 0 where nothing is read, and the
+ * length is 0 for hold and release.
+ */
+static inline uint8_t csafe_number(uint64_t answer) { return (uint8_t)(answer & 0xFF); }
+
+static inline uint8_t csafe_kind(uint64_t answer) { return (uint8_t)((answer >> 8) & 0xFF); }
+
+static inline uint8_t csafe_to(uint64_t answer) { return (uint8_t)((answer >> 16) & 0xFF); }
+
+static inline uint8_t csafe_from(uint64_t answer) { return (uint8_t)((answer >> 24) & 0xFF); }
+
+static inline uint32_t csafe_length(uint64_t answer) { return (uint32_t)(answer >> 32); }
+
+/*
+ * Writes a standard frame first in the output.
+ * Refused, in this order: CSAFE_TOO_LONG, CSAFE_NO_ROOM.
+ */
+uint64_t csafe_write_standard(const uint8_t *contents, size_t contents_len, uint8_t *out, size_t out_len);
+
+/*
+ * Writes an extended frame first in the output. Any addresses are taken.
+ * Refused, in this order: CSAFE_TOO_LONG, CSAFE_NO_ROOM.
+ */
+uint64_t csafe_write_extended(uint8_t to, uint8_t from, const uint8_t *contents, size_t contents_len, uint8_t *out,
+                              size_t out_len);
+
+/*
+ * Reads a slice that has to be one frame and puts its contents first in the output. The checksum does not cover
+ * the addresses.
+ * Refused, in this order: CSAFE_TRUNCATED, CSAFE_TOO_LONG, CSAFE_BAD_ESCAPE, CSAFE_TOO_SHORT, CSAFE_BAD_CHECKSUM,
+ * CSAFE_NO_ROOM.
+ */
+uint64_t csafe_read(const uint8_t *wire, size_t wire_len, uint8_t *out, size_t out_len);
+
+/*
+ * Writes the contents of a workout over a distance, CSAFE_WORKOUT_LEN bytes, first in the output. The distance is
+ * 100 to 50,000 m, the split at least 100 m and at most the distance, in at most 30 splits.
+ * Refused, in this order: CSAFE_OUT_OF_LIMITS, CSAFE_NO_ROOM.
+ */
+uint64_t csafe_write_distance_workout(uint32_t metres, uint32_t split_metres, uint16_t watts, uint8_t *out,
+                                      size_t out_len);
+
+/*
+ * Writes the contents of a workout over a time, CSAFE_WORKOUT_LEN bytes, first in the output. The time is 20 to
+ * 35,999 s, the split at least 2,000 hundredths of a second and at most the time, in at most 30 splits.
+ * Refused, in this order: CSAFE_OUT_OF_LIMITS, CSAFE_NO_ROOM.
+ */
+uint64_t csafe_write_time_workout(uint32_t seconds, uint32_t split_hundredths, uint16_t watts, uint8_t *out,
+                                  size_t out_len);
+
+/*
+ * A lease table has eight bytes for each of 256 addresses in order, lowest byte first, all 0 where the address is
+ * free. A new table is all 0. Hold and release change the eight bytes of their own address alone.
+ *
+ * Takes a free address.
+ * Refused, in this order: CSAFE_BAD_TABLE, CSAFE_BAD_ADDRESS, CSAFE_ZERO_TOKEN, CSAFE_ALREADY_HELD.
+ */
+uint64_t csafe_hold(uint8_t *table, size_t table_len, uint32_t address, uint64_t token);
+
+/*
+ * Frees an address for its holder.
+ * Refused, in this order: CSAFE_BAD_TABLE, CSAFE_BAD_ADDRESS, CSAFE_NOT_HOLDER.
+ */
+uint64_t csafe_release(uint8_t *table, size_t table_len, uint32_t address, uint64_t token);
+
+/*
+ * Writes, for the holder, the frame that ends the machine's workout. The holder keeps the address.
+ * Refused, in this order: CSAFE_BAD_TABLE, CSAFE_BAD_ADDRESS, CSAFE_NOT_HOLDER, CSAFE_NO_ROOM.
+ */
+uint64_t csafe_stop(const uint8_t *table, size_t table_len, uint32_t address, uint64_t token, uint8_t *out,
+                    size_t out_len);
+
+#ifdef __cplusplus
+}
+#endif
+
+#endif

@@ -1,0 +1,14 @@
+//! CSAFE frames of rowing machines: reading, writing, a reader for a live line,
+//! the commands, replies and workouts inside, the lease table for stops, and a
+//! listing of recorded traces.
+//!
+//! Every refusal is one of the numbers in [`refusal`].
+
+pub mod command;
+pub mod frame;
+pub mod lease;
+pub mod line;
+pub mod listing;
+pub mod refusal;
+pub mod reply;
+pub mod workout;

@@ -1,0 +1,132 @@
+//! A reader for a live line, fed byte by byte.
+
+use std::ops::Range;
+
+use crate::frame::{self, BODY_MAX, START_EXTENDED, START_STANDARD, STOP};
+use crate::refusal;
+
+/// What a call on the line tells.
+#[derive(Clone, Copy, Debug, PartialEq, Eq)]
+pub enum Answer {
+    Nothing,
+    Frame(frame::Read),
+    Refused(u8),
+}
+
+#[derive(Clone, Copy, Debug, PartialEq, Eq)]
+enum Mode {
+    /// No candidate is open; bytes are stray.
+    Outside,
+    /// A candidate is open that began with this flag.
+    Open(u8),
+    /// The open candidate is over-long and skipped until a flag.
+    Long,
+}
+
+/// The line reader. One buffer serves the open candidate and, once it is
+/// terminated, the contents of its frame, so that never more is kept than may
+/// stand between two flags.
+#[derive(Clone, Debug)]
+pub struct Line {
+    body: [u8; BODY_MAX],
+    len: usize,
+    mode: Mode,
+    contents: Range<usize>,
+}
+
+impl Line {
+    pub fn new() -> Self {
+        Line {
+            body: [0; BODY_MAX],
+            len: 0,
+            mode: Mode::Outside,
+            contents: 0..0,
+        }
+    }
+
+    /// Takes the next byte of the line.
+    #[inline]
+    pub fn feed(&mut self, byte: u8) -> Answer {
+        match byte {
+            START_STANDARD | START_EXTENDED => self.open(byte),
+            STOP => self.terminate(),
+            _ => {
+                self.extend(&[byte]);
+                Answer::Nothing
+            }
+        }
+    }
+
+    /// Ends the input; the reader can be used again as a new one.
+    pub fn finish(&mut self) -> Answer {
+        let answer = self.truncation();
+        self.mode = Mode::Outside;
+        answer
+    }
+
+    /// The contents of the frame told last, until the next start flag.
+    pub fn contents(&self) -> &[u8] {
+        &self.body[self.contents.clone()]
+    }
+
+    pub(crate) fn is_open(&self) -> bool {
+        self.mode != Mode::Outside
+    }
+
+    /// Takes bytes without a flag among them, which never give an answer.
+    #[inline]
+    pub(crate) fn extend(&mut self, bytes: &[u8]) {
+        if !matches!(self.mode, Mode::Open(_)) {
+            return;
+        }
+        match self.body[self.len..].get_mut(..bytes.len()) {
+            Some(room) => {
+                room.copy_from_slice(bytes);
+                self.len += bytes.len();
+            }
+            None => self.mode = Mode::Long,
+        }
+    }
+
+    fn open(&mut self, start: u8) -> Answer {
+        let answer = self.truncation();
+        self.mode = Mode::Open(start);
+        self.len = 0;
+        self.contents = 0..0;
+        answer
+    }
+
+    fn terminate(&mut self) -> Answer {
+        let mode = self.mode;
+        self.mode = Mode::Outside;
+        let told = match mode {
+            Mode::Outside => return Answer::Nothing,
+            Mode::Open(start) => self.judge(start),
+            Mode::Long => Err(refusal::LONG),
+        };
+        told.map_or_else(Answer::Refused, Answer::Frame)
+    }
+
+    fn judge(&mut self, start: u8) -> Result<frame::Read, u8> {
+        let len = frame::unstuff(&mut self.body[..self.len])?;
+        let (frame, contents) = frame::judge(start, &self.body[..len])?;
+        // The contents stand right before the checksum, the last byte.
+        self.contents = len - 1 - contents.len()..len - 1;
+        Ok(frame)
+    }
+
+    /// The answer to whatever ends an open candidate before its stop flag.
+    fn truncation(&self) -> Answer {
+        if self.is_open() {
+            Answer::Refused(refusal::TRUNCATED)
+        } else {
+            Answer::Nothing
+        }
+    }
+}
+
+impl Default for Line {
+    fn default() -> Self {
+        Line::new()
+    }
+}

@@ -1,0 +1,719 @@
+//! The cases that the requirements and the source documents state.
+
+mod examples;
+
+use independent::command::{self, Found};
+use independent::frame::{self, Read};
+use independent::line::{Answer, Line};
+use independent::reply::{self, Status};
+use independent::workout::{self, Goal, Workout};
+use independent::{lease, listing};
+
+/// A value no result of these tests depends on, to see what stays untouched.
+const MARK: u8 = 0xA5;
+const TABLE_LEN: usize = 2_048;
+
+fn bytes(hex: &str) -> Vec<u8> {
+    hex.split_whitespace()
+        .map(|byte| u8::from_str_radix(byte, 16).unwrap())
+        .collect()
+}
+
+fn hex(bytes: &[u8]) -> String {
+    let pairs: Vec<String> = bytes.iter().map(|byte| format!("{byte:02X}")).collect();
+    pairs.join(" ")
+}
+
+/// Runs a writer on a marked output; checks that nothing else is touched.
+fn written(write: impl Fn(&mut [u8]) -> Result<usize, u8>) -> Result<String, u8> {
+    let mut out = [MARK; 300];
+    let result = write(&mut out);
+    let len = result.unwrap_or(0);
+    assert!(out[len..].iter().all(|&byte| byte == MARK));
+    if result.is_ok() {
+        let mut exact = vec![MARK; len];
+        assert_eq!(write(&mut exact), Ok(len));
+        assert_eq!(exact, out[..len]);
+        let mut short = vec![MARK; len - 1];
+        assert_eq!(write(&mut short), Err(1));
+        assert!(short.iter().all(|&byte| byte == MARK));
+    }
+    result.map(|len| hex(&out[..len]))
+}
+
+fn write_frame(frame: Read, contents: &[u8]) -> Result<String, u8> {
+    written(|out| match frame {
+        Read::Standard { .. } => frame::write_standard(contents, out),
+        Read::Extended { to, from, .. } => frame::write_extended(to, from, contents, out),
+    })
+}
+
+/// Reads a frame; checks what is left untouched, and that an accepted frame is
+/// written again with the same bytes.
+fn read_frame(wire: &[u8]) -> Result<(Read, Vec<u8>), u8> {
+    let mut out = [MARK; 200];
+    let result = frame::read(wire, &mut out);
+    let len = match result {
+        Ok(Read::Standard { len } | Read::Extended { len, .. }) => len,
+        Err(_) => 0,
+    };
+    assert!(out[len..].iter().all(|&byte| byte == MARK));
+    let frame = result?;
+    assert_eq!(write_frame(frame, &out[..len]), Ok(hex(wire)));
+    if len > 0 {
+        let mut short = vec![MARK; len - 1];
+        assert_eq!(frame::read(wire, &mut short), Err(1));
+        assert!(short.iter().all(|&byte| byte == MARK));
+    }
+    Ok((frame, out[..len].to_vec()))
+}
+
+fn contents_of(name: &str) -> Vec<u8> {
+    let bare = examples::BARE.iter().find(|example| example.0 == name);
+    if let Some((_, contents)) = bare {
+        return bytes(contents);
+    }
+    let frame = examples::FRAMES.iter().find(|example| example.0 == name);
+    read_frame(&bytes(frame.unwrap().1)).unwrap().1
+}
+
+fn list_text(trace: &[u8]) -> String {
+    let mut text = Vec::new();
+    listing::list(&mut &trace[..], &mut text).unwrap();
+    String::from_utf8(text).unwrap()
+}
+
+/// The answers that are not nothing, with the place of the byte, and the finish.
+fn line_answers(trace: &[u8]) -> Vec<(usize, Answer)> {
+    let mut line = Line::new();
+    let mut answers: Vec<Answer> = trace.iter().map(|&byte| line.feed(byte)).collect();
+    answers.push(line.finish());
+    let told = answers.into_iter().enumerate();
+    told.filter(|(_, answer)| *answer != Answer::Nothing)
+        .collect()
+}
+
+#[test]
+fn bench_frames_read() {
+    let standard = |contents: &str| {
+        let contents = bytes(contents);
+        let len = contents.len();
+        Ok((Read::Standard { len }, contents))
+    };
+    let (to, from, len) = (0x05, 0x00, 0);
+    let empty_extended = Ok((Read::Extended { to, from, len }, vec![]));
+    let cases = [
+        ("F1 F2", Err(4)),
+        ("F1 00 F2", standard("")),
+        ("F0 05 00 F2", Err(4)),
+        ("F0 05 00 00 F2", empty_extended),
+        ("F1 F3 04 F2", Err(3)),
+        ("F1 F3 F2", Err(3)),
+        ("F1 24 02 03 00 25 F2", standard("24 02 03 00")),
+        ("F1 24 02 03 00 24 F2", Err(5)),
+        (
+            "F1 1A 07 05 05 80 64 00 00 00 F9 F2",
+            standard("1A 07 05 05 80 64 00 00 00"),
+        ),
+    ];
+    for (wire, expected) in cases {
+        assert_eq!(read_frame(&bytes(wire)), expected, "{wire}");
+    }
+}
+
+#[test]
+fn bench_frames_written() {
+    let stuffed = written(|out| frame::write_standard(&[0xF1], out));
+    assert_eq!(stuffed.as_deref(), Ok("F1 F3 01 F3 01 F2"));
+    let longest = written(|out| frame::write_standard(&[0; 117], out)).unwrap();
+    assert_eq!(bytes(&longest).len(), 120);
+    let longer = written(|out| frame::write_standard(&[0; 118], out));
+    assert_eq!(longer, Err(2));
+}
+
+#[test]
+fn bench_reply() {
+    let contents = bytes("81 1A 00");
+    let status = Status {
+        toggle: true,
+        previous: Status::PREVIOUS_OK,
+        state: Status::READY,
+    };
+    assert_eq!(reply::read(&contents), Ok((status, 1)));
+    let item = Found {
+        byte: 0x1A,
+        start: 3,
+        len: 0,
+    };
+    assert_eq!(reply::nth_item(&contents, 0), Ok(item));
+    assert_eq!(reply::nth_item(&contents, 1), Err(15));
+}
+
+#[test]
+fn bench_stop() {
+    let mut table = [0; TABLE_LEN];
+    lease::hold(&mut table, 0xF1, 7).unwrap();
+    let stop = written(|out| lease::stop(&table, 0xF1, 7, out));
+    let expected = "F0 F3 01 00 76 04 13 02 01 02 60 F2";
+    assert_eq!(stop.as_deref(), Ok(expected));
+}
+
+fn distance(metres: u32, split: u32) -> Workout {
+    let goal = Goal::Distance { metres, split };
+    Workout { goal, watts: 200 }
+}
+
+fn time(seconds: u32, split: u32) -> Workout {
+    let goal = Goal::Time { seconds, split };
+    Workout { goal, watts: 100 }
+}
+
+#[test]
+fn bench_workouts() {
+    let write = |workout| written(|out| workout::write(workout, out));
+    let example = write(distance(2_000, 500)).unwrap();
+    let expected = "21 03 02 00 21 1A 07 05 05 80 F4 01 00 00 34 03 C8 00 58 24 02 00 00";
+    assert_eq!(example, expected);
+    let wire = written(|out| frame::write_standard(&bytes(&example), out)).unwrap();
+    assert!(wire.ends_with("E8 F2"));
+    let metres = write(distance(2_001, 500)).unwrap();
+    assert!(metres.starts_with("21 03 D1 07 24 "));
+    assert!(write(distance(50_000, 1_667)).is_ok());
+    assert_eq!(write(distance(50_000, 1_666)), Err(12));
+}
+
+#[test]
+fn slip_stuffed_stop_flag_does_not_end_the_frame() {
+    let wire = bytes("F1 F3 02 F3 02 F2");
+    let frame = Read::Standard { len: 1 };
+    assert_eq!(read_frame(&wire), Ok((frame, vec![0xF2])));
+    assert_eq!(line_answers(&wire), [(5, Answer::Frame(frame))]);
+}
+
+#[test]
+fn slip_checksum_does_not_cover_addresses() {
+    let mut table = [0; TABLE_LEN];
+    lease::hold(&mut table, 0x05, 7).unwrap();
+    let stop = written(|out| lease::stop(&table, 0x05, 7, out));
+    let expected = "F0 05 00 76 04 13 02 01 02 60 F2";
+    assert_eq!(stop.as_deref(), Ok(expected));
+    let folded = bytes("F0 05 00 76 04 13 02 01 02 65 F2");
+    assert_eq!(read_frame(&folded), Err(5));
+}
+
+#[test]
+fn slip_token_0_never_holds() {
+    let mut table = [0; TABLE_LEN];
+    assert_eq!(written(|out| lease::stop(&table, 0x05, 0, out)), Err(11));
+    assert_eq!(lease::release(&mut table, 0x05, 0), Err(11));
+    assert_eq!(lease::hold(&mut table, 0x05, 0), Err(14));
+    assert_eq!(table, [0; TABLE_LEN]);
+}
+
+#[test]
+fn slip_frame_after_a_truncated_one_is_found() {
+    let answers = line_answers(&bytes("F1 76 04 F1 24 02 03 00 25 F2"));
+    let frame = Answer::Frame(Read::Standard { len: 4 });
+    assert_eq!(answers, [(3, Answer::Refused(6)), (9, frame)]);
+}
+
+#[test]
+fn example_frames() {
+    for (name, wire, verdict) in examples::FRAMES {
+        let wire = bytes(wire);
+        let read = read_frame(&wire);
+        let told = match &read {
+            Ok((Read::Standard { len }, _)) => format!("std {len}"),
+            Ok((Read::Extended { to, from, len }, _)) => {
+                format!("ext to {to:02X} from {from:02X} {len}")
+            }
+            Err(code) => format!("refused {code}"),
+        };
+        assert_eq!(told, *verdict, "{name}");
+        let mut line = Line::new();
+        let (stop, before) = wire.split_last().unwrap();
+        assert!(before
+            .iter()
+            .all(|&byte| line.feed(byte) == Answer::Nothing));
+        let answer = line.feed(*stop);
+        match read {
+            Ok((frame, contents)) => {
+                assert_eq!(answer, Answer::Frame(frame), "{name}");
+                assert_eq!(line.contents(), contents, "{name}");
+            }
+            Err(code) => assert_eq!(answer, Answer::Refused(code), "{name}"),
+        }
+    }
+}
+
+/// The commands that `nth` finds, until 15, in the notation of the examples.
+fn list_notation(contents: &[u8], nth: impl Fn(usize) -> Result<Found, u8>) -> String {
+    let mut commands = Vec::new();
+    loop {
+        let found = match nth(commands.len()) {
+            Ok(found) => found,
+            Err(code) => {
+                assert_eq!(code, 15);
+                return commands.join(", ");
+            }
+        };
+        let data = hex(&contents[found.start..][..found.len]);
+        commands.push(match found.byte {
+            byte @ 0x80.. => format!("{byte:02X}"),
+            byte @ (0x1A | 0x76 | 0x77 | 0x7E | 0x7F) => format!("{byte:02X}{{{data}}}"),
+            byte => format!("{byte:02X}:{data}"),
+        });
+    }
+}
+
+#[test]
+fn example_commands() {
+    for (name, list) in examples::LISTS {
+        let contents = contents_of(name);
+        let mut told = list_notation(&contents, |n| command::nth(&contents, n));
+        let mut w = 0;
+        while let Ok(wrapper) = command::nth(&contents, w) {
+            let data = hex(&contents[wrapper.start..][..wrapper.len]);
+            let inside = list_notation(&contents, |n| command::nth_inside(&contents, w, n));
+            told = told.replace(&format!("{{{data}}}"), &format!("{{{inside}}}"));
+            w += 1;
+        }
+        assert_eq!(told, *list, "{name}");
+    }
+}
+
+fn reply_notation(contents: &[u8]) -> String {
+    let (status, items) = match reply::read(contents) {
+        Ok(read) => read,
+        Err(code) => return format!("refusal {code}"),
+    };
+    assert_eq!(status.previous, Status::PREVIOUS_OK);
+    let state = match status.state {
+        Status::READY => "ready",
+        Status::OFFLINE => "offline",
+        other => panic!("state {other}"),
+    };
+    assert_eq!(items, 1);
+    assert_eq!(reply::nth_item(contents, 1), Err(15));
+    let item = reply::nth_item(contents, 0).unwrap();
+    let data = &contents[item.start..][..item.len];
+    let again = written(|out| reply::write_item(&contents[..1], item.byte, data, out));
+    assert_eq!(again, Ok(hex(contents)));
+    let toggle = u8::from(status.toggle);
+    let (byte, data) = (item.byte, hex(data));
+    format!("toggle {toggle}, ok, {state}; 1 item: {byte:02X}[{data}]")
+}
+
+#[test]
+fn example_replies() {
+    for (name, reply) in examples::REPLIES {
+        assert_eq!(reply_notation(&contents_of(name)), *reply, "{name}");
+    }
+}
+
+fn workout_notation(contents: &[u8]) -> String {
+    let workout = match workout::read(contents) {
+        Ok(workout) => workout,
+        Err(code) => return format!("refusal {code}"),
+    };
+    let again = written(|out| workout::write(workout, out));
+    assert_eq!(again, Ok(hex(contents)));
+    let watts = workout.watts;
+    match workout.goal {
+        Goal::Distance { metres, split } => format!("distance {metres}, split {split}, {watts} W"),
+        Goal::Time { seconds, split } => format!("time {seconds}, split {split}, {watts} W"),
+    }
+}
+
+#[test]
+fn example_workouts() {
+    for (name, workout) in examples::WORKOUTS {
+        assert_eq!(workout_notation(&contents_of(name)), *workout, "{name}");
+    }
+}
+
+#[test]
+fn listing_example() {
+    let trace = bytes("55 F1 76 04 F0 05 00 76 04 13 02 01 02 60 F2");
+    let text = "n=1 kind=refused code=6\n\
+                n=2 kind=ext to=05 from=00 len=6 stop=yes\n\
+                frames=1 refused=1 loose=1\n";
+    assert_eq!(list_text(&trace), text);
+    let standard = "n=1 kind=std len=4 stop=no\nframes=1 refused=0 loose=0\n";
+    assert_eq!(list_text(&bytes("F1 24 02 03 00 25 F2")), standard);
+    assert_eq!(list_text(&[]), "frames=0 refused=0 loose=0\n");
+}
+
+/// Gives a trace one byte at a time, then fails.
+struct Failing<'a>(&'a [u8]);
+
+impl std::io::Read for Failing<'_> {
+    fn read(&mut self, out: &mut [u8]) -> std::io::Result<usize> {
+        if self.0.is_empty() {
+            return Err(std::io::Error::other("no more"));
+        }
+        self.0.read(&mut out[..1])
+    }
+}
+
+#[test]
+fn listing_of_a_failed_read() {
+    let trace = bytes("55 F1 24 02 03 00 25 F2 F1 00");
+    let mut text = Vec::new();
+    let result = listing::list(&mut Failing(&trace), &mut text);
+    assert_eq!(result.unwrap_err().to_string(), "no more");
+    assert_eq!(text, b"n=1 kind=std len=4 stop=no\n");
+}
+
+#[test]
+fn listing_of_a_long_trace() {
+    let frame = bytes("F0 05 FD 76 04 13 02 01 02 60 F2 F2 00");
+    let count = 50_000;
+    let mut text = String::new();
+    for n in 1..=count {
+        text += &format!("n={n} kind=ext to=05 from=FD len=6 stop=yes\n");
+    }
+    let stray = 2 * count;
+    text += &format!("frames={count} refused=0 loose={stray}\n");
+    assert!(list_text(&frame.repeat(count)) == text);
+}
+
+#[test]
+fn listing_marks_stops() {
+    let cases = [
+        ("76 04 13 02 01 02", "yes"),
+        ("76 04 13 02 01 02 20", "no"),
+        ("76 04 13 02 01 02 1A 01 05", "yes"),
+        ("76 01 13 76 04 13 02 01 02", "yes"),
+        ("76 05 13 02 01 02 01", "no"),
+        ("81 76 04 13 02 01 02", "yes"),
+        ("81 76 01 13", "no"),
+        ("76 05 13 03 01 02 00", "no"),
+        ("13 02 01 02", "no"),
+        ("1A 04 13 02 01 02", "no"),
+        ("77 04 13 02 01 02", "no"),
+        ("7E 04 13 02 01 02", "no"),
+        ("7F 04 13 02 01 02", "no"),
+    ];
+    for (contents, stop) in cases {
+        let contents = bytes(contents);
+        let wire = written(|out| frame::write_standard(&contents, out)).unwrap();
+        let len = contents.len();
+        let text = format!("n=1 kind=std len={len} stop={stop}\nframes=1 refused=0 loose=0\n");
+        assert_eq!(list_text(&bytes(&wire)), text);
+    }
+}
+
+#[test]
+fn one_frame_reader_wants_one_whole_candidate() {
+    let cases = [
+        "",
+        "F1",
+        "F2",
+        "55",
+        "F1 00",
+        "F1 00 F2 F2",
+        "F1 00 F2 55",
+        "55 F1 00 F2",
+        "F1 00 F2 F1 00 F2",
+        "F1 F1 00 F2",
+        "F1 F3 F1 00 F2",
+        "F2 00 F2",
+    ];
+    for wire in cases {
+        assert_eq!(read_frame(&bytes(wire)), Err(6), "{wire}");
+    }
+    let mut long = vec![0; 200];
+    long[0] = 0xF1;
+    assert_eq!(read_frame(&long), Err(6));
+}
+
+#[test]
+fn frame_refusals_in_order() {
+    let long = format!("F1 F3 04 {} F2", "00 ".repeat(117));
+    assert_eq!(read_frame(&bytes(&long)), Err(2));
+    let flagged = format!("F1 F3 04 F2 {} F2", "00 ".repeat(117));
+    assert_eq!(read_frame(&bytes(&flagged)), Err(6));
+    assert_eq!(read_frame(&bytes("F0 05 F3 04 F2")), Err(3));
+    assert_eq!(read_frame(&bytes("F0 05 F3 00 F2")), Err(4));
+    assert_eq!(frame::read(&bytes("F1 05 04 F2"), &mut []), Err(5));
+    assert_eq!(frame::read(&bytes("F1 05 05 F2"), &mut []), Err(1));
+    assert_eq!(frame::write_standard(&[0; 118], &mut []), Err(2));
+    assert_eq!(frame::write_standard(&[], &mut [0; 2]), Err(1));
+}
+
+#[test]
+fn frame_length_counts_addresses_and_escapes() {
+    let extended = |to, contents: &[u8]| {
+        let wire = written(|out| frame::write_extended(to, 0x00, contents, out));
+        wire.map(|wire| bytes(&wire).len())
+    };
+    assert_eq!(extended(0x05, &[0; 115]), Ok(120));
+    assert_eq!(extended(0x05, &[0; 116]), Err(2));
+    assert_eq!(extended(0xF2, &[0; 114]), Ok(120));
+    assert_eq!(extended(0xF2, &[0; 115]), Err(2));
+    // An even number of equal bytes has checksum 00, an odd one that byte.
+    let standard = |len| {
+        let wire = written(|out| frame::write_standard(&vec![0xF3; len], out));
+        wire.map(|wire| bytes(&wire).len())
+    };
+    assert_eq!(standard(58), Ok(119));
+    assert_eq!(standard(59), Err(2));
+    assert_eq!(standard(57), Ok(118));
+}
+
+#[test]
+fn line_length() {
+    let candidate = |body: usize, last: u8| {
+        let mut trace = vec![0; body + 2];
+        trace[0] = 0xF1;
+        trace[body + 1] = last;
+        line_answers(&trace)
+    };
+    let longest = Answer::Frame(Read::Standard { len: 117 });
+    assert_eq!(candidate(118, 0xF2), [(119, longest)]);
+    assert_eq!(candidate(119, 0xF2), [(120, Answer::Refused(2))]);
+    let truncated = Answer::Refused(6);
+    assert_eq!(candidate(400, 0xF1), [(401, truncated), (402, truncated)]);
+    assert_eq!(candidate(400, 0x00), [(402, truncated)]);
+}
+
+#[test]
+fn line_finds_flags_before_escapes() {
+    let answers = line_answers(&bytes("F1 F3 F1 00 F2"));
+    let frame = Answer::Frame(Read::Standard { len: 0 });
+    assert_eq!(answers, [(2, Answer::Refused(6)), (4, frame)]);
+}
+
+/// The rule for the line, on whole candidates kept without limit.
+fn rule(open: &mut Option<Vec<u8>>, call: Option<u8>) -> Answer {
+    match call {
+        None | Some(0xF0 | 0xF1) => {
+            let truncated = open.is_some();
+            *open = call.map(|flag| vec![flag]);
+            if truncated {
+                Answer::Refused(6)
+            } else {
+                Answer::Nothing
+            }
+        }
+        Some(byte) => {
+            let Some(candidate) = open else {
+                return Answer::Nothing;
+            };
+            candidate.push(byte);
+            if byte != 0xF2 {
+                return Answer::Nothing;
+            }
+            let judged = frame::read(candidate, &mut [0; 200]);
+            *open = None;
+            judged.map_or_else(Answer::Refused, Answer::Frame)
+        }
+    }
+}
+
+#[test]
+fn line_follows_its_rule() {
+    const BYTES: [u8; 8] = [0xF0, 0xF1, 0xF2, 0xF2, 0xF3, 0x00, 0x01, 0x55];
+    let (mut line, mut open) = (Line::new(), None);
+    let mut random = 1u64;
+    for _ in 0..500_000 {
+        random = random
+            .wrapping_mul(6_364_136_223_846_793_005)
+            .wrapping_add(1);
+        let draw = (random >> 33) as usize;
+        let call = (!draw.is_multiple_of(50)).then_some(BYTES[draw / 50 % BYTES.len()]);
+        let answer = match call {
+            Some(byte) => line.feed(byte),
+            None => line.finish(),
+        };
+        assert_eq!(answer, rule(&mut open, call));
+    }
+}
+
+fn found(byte: u8, start: usize, len: usize) -> Result<Found, u8> {
+    Ok(Found { byte, start, len })
+}
+
+#[test]
+fn walk_at_the_top() {
+    let cases = [
+        ("", 0, Err(15)),
+        ("80 20 05", 0, Err(7)),
+        ("20", 0, Err(7)),
+        ("76 01 13", 0, found(0x76, 2, 1)),
+        ("76 02 13 02 01 02", 0, Err(7)),
+        ("76 00 80", 0, found(0x76, 2, 0)),
+        ("76 00 80", 1, found(0x80, 3, 0)),
+        ("76 00 80", 2, Err(15)),
+    ];
+    for (contents, n, expected) in cases {
+        assert_eq!(command::nth(&bytes(contents), n), expected, "{contents}");
+    }
+}
+
+#[test]
+fn walk_in_a_wrapper() {
+    let cases = [
+        ("80 76 02 13 00", 1, 0, found(0x13, 5, 0)),
+        ("80 76 01 13", 0, 0, Err(15)),
+        ("80 76 01 13", 1, 0, Err(7)),
+        ("80 76 01 13", 2, 0, Err(15)),
+        ("76 04 1A 02 05 09", 0, 0, found(0x1A, 4, 2)),
+        ("76 02 13 02 80 80", 0, 0, Err(7)),
+        ("76 00", 0, 0, Err(15)),
+        ("76 02 80 81 20", 0, 0, Err(7)),
+        ("7F 02 80 81", 0, 1, found(0x81, 4, 0)),
+    ];
+    for (contents, w, n, expected) in cases {
+        let told = command::nth_inside(&bytes(contents), w, n);
+        assert_eq!(told, expected, "{contents}");
+    }
+}
+
+#[test]
+fn status_bytes() {
+    for byte in 0..=0xFF {
+        let state = byte & 0x0F;
+        let sound = byte & 0x40 == 0 && [0, 1, 2, 3, 5, 6, 7, 8, 9].contains(&state);
+        let status = Status {
+            toggle: byte >= 0x80,
+            previous: byte % 0x40 / 0x10,
+            state,
+        };
+        let expected = if sound { Ok(status) } else { Err(8) };
+        assert_eq!(reply::status(byte), expected);
+        let alone = written(|out| reply::write_status(byte, out));
+        assert_eq!(alone, expected.map(|_| hex(&[byte])));
+    }
+}
+
+#[test]
+fn replies_refused_and_written() {
+    assert_eq!(reply::read(&[]), Err(4));
+    assert_eq!(reply::read(&bytes("44 20")), Err(8));
+    assert_eq!(reply::read(&bytes("81 80")), Err(7));
+    assert_eq!(reply::nth_item(&bytes("81 80 00 20 01"), 0), Err(7));
+    let write = |prior: &[u8], data: usize| {
+        let item = vec![0; data];
+        written(|out| reply::write_item(prior, 0x20, &item, out)).map(|text| bytes(&text).len())
+    };
+    assert_eq!(write(&[], 256), Err(4));
+    assert_eq!(write(&[0x44], 256), Err(8));
+    assert_eq!(write(&[0x81, 0x80], 0), Err(7));
+    assert_eq!(write(&[0x81], 256), Err(7));
+    assert_eq!(write(&[0x81], 255), Err(2));
+    assert_eq!(write(&[0x81], 115), Err(2));
+    assert_eq!(write(&[0x81], 114), Ok(117));
+    let mut long = vec![0; 201];
+    long[0] = 0x81;
+    assert_eq!(write(&long, 0), Err(2));
+}
+
+#[test]
+fn workout_limits() {
+    let cases = [
+        (distance(99, 99), false),
+        (distance(100, 100), true),
+        (distance(100, 99), false),
+        (distance(100, 101), false),
+        (distance(50_000, 50_000), true),
+        (distance(50_001, 50_000), false),
+        (distance(0, 0), false),
+        (distance(u32::MAX, u32::MAX), false),
+        (time(19, 2_000), false),
+        (time(20, 2_000), true),
+        (time(20, 1_999), false),
+        (time(20, 2_001), false),
+        (time(600, 2_000), true),
+        (time(601, 2_000), false),
+        (time(35_999, 119_997), true),
+        (time(35_999, 119_996), false),
+        (time(36_000, 120_000), false),
+        (time(u32::MAX, u32::MAX), false),
+    ];
+    for (workout, kept) in cases {
+        let result = written(|out| workout::write(workout, out));
+        match &result {
+            Ok(contents) => assert_eq!(workout::read(&bytes(contents)), Ok(workout)),
+            Err(code) => assert_eq!(*code, 12),
+        }
+        assert_eq!(result.is_ok(), kept, "{workout:?}");
+    }
+}
+
+#[test]
+fn workout_forms() {
+    let cases = [
+        (
+            "21 03 D0 07 24",
+            "80 F4 01 00 00",
+            "00",
+            Ok(distance(2_000, 500)),
+        ),
+        (
+            "21 03 02 00 21",
+            "80 F4 01 00 00",
+            "00",
+            Ok(distance(2_000, 500)),
+        ),
+        ("21 03 02 00 22", "80 F4 01 00 00", "00", Err(13)),
+        ("21 03 02 00 21", "00 F4 01 00 00", "00", Err(13)),
+        ("20 03 00 14 00", "80 C0 5D 00 00", "00", Err(13)),
+        ("20 03 00 3C 00", "00 C0 5D 00 00", "01", Err(13)),
+        ("20 03 00 3C 00", "00 C0 5D 00 00", "00", Err(12)),
+        ("20 03 00 13 3C", "00 C0 5D 00 00", "00", Err(12)),
+        ("20 03 0A 00 00", "00 C0 D4 01 00", "00", Err(12)),
+        ("21 03 33 00 21", "80 10 27 00 00", "00", Err(12)),
+        ("21 03 00 00 21", "80 F4 01 00 00", "00", Err(12)),
+        ("21 03 02 00 21", "80 00 00 00 00", "00", Err(12)),
+        ("21 03 02 00 21", "80 F4 01 00 00", "00 00", Err(13)),
+        ("21 03 02 00 21", "80 F4 01 00 00", "", Err(13)),
+    ];
+    for (goal, split, last, expected) in cases {
+        let contents = format!("{goal} 1A 07 05 05 {split} 34 03 C8 00 58 24 02 00 {last}");
+        assert_eq!(workout::read(&bytes(&contents)), expected, "{contents}");
+    }
+}
+
+#[test]
+fn lease_of_an_address() {
+    const TOKEN: u64 = 0x0807_0605_0403_0201;
+    let mut table = [0; TABLE_LEN];
+    assert_eq!(lease::release(&mut table, 5, TOKEN), Err(11));
+    assert_eq!(lease::hold(&mut table, 5, TOKEN), Ok(()));
+    let mut held = [0; TABLE_LEN];
+    held[40..48].copy_from_slice(&bytes("01 02 03 04 05 06 07 08"));
+    assert_eq!(table, held);
+    assert_eq!(lease::hold(&mut table, 5, TOKEN), Err(10));
+    assert_eq!(lease::hold(&mut table, 5, 0), Err(14));
+    for token in [0, 1, TOKEN + 1] {
+        assert_eq!(lease::release(&mut table, 5, token), Err(11));
+        assert_eq!(written(|out| lease::stop(&table, 5, token, out)), Err(11));
+    }
+    assert!(written(|out| lease::stop(&table, 5, TOKEN, out)).is_ok());
+    assert_eq!(table, held);
+    assert_eq!(lease::release(&mut table, 5, TOKEN), Ok(()));
+    assert_eq!(table, [0; TABLE_LEN]);
+    assert_eq!(lease::hold(&mut table, 5, 1), Ok(()));
+}
+
+#[test]
+fn lease_addresses_and_table_size() {
+    let mut table = [1; TABLE_LEN];
+    let token = 0x0101_0101_0101_0101;
+    for address in [0x00, 0xFD, 0xFE, 0xFF, 0x100, 0x105, u32::MAX] {
+        assert_eq!(lease::hold(&mut table, address, 0), Err(9));
+        assert_eq!(lease::release(&mut table, address, token), Err(9));
+        assert_eq!(lease::stop(&table, address, token, &mut []), Err(9));
+    }
+    assert_eq!(table, [1; TABLE_LEN]);
+    assert_eq!(lease::stop(&table, 0x01, token, &mut []), Err(1));
+    assert!(written(|out| lease::stop(&table, 0xFC, token, out)).is_ok());
+    for len in [0, 8, 2_047, 2_049, 4_096] {
+        let mut table = vec![0; len];
+        assert_eq!(lease::hold(&mut table, 0, 0), Err(18));
+        assert_eq!(lease::release(&mut table, 0, 0), Err(18));
+        assert_eq!(lease::stop(&table, 0, 0, &mut []), Err(18));
+    }
+}

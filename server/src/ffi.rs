@@ -1,0 +1,187 @@
+//! The boundary to the static library. Nothing checks these declarations against the library's source, so they
+//! are kept in the order and with the names of `csafe.h`.
+
+use crate::Error;
+
+#[rustfmt::skip]
+mod exported {
+    extern "C" {
+        pub fn csafe_write_standard(contents: *const u8, contents_len: usize, out: *mut u8, out_len: usize) -> u64;
+        pub fn csafe_write_extended(to: u8, from: u8, contents: *const u8, contents_len: usize, out: *mut u8, out_len: usize) -> u64;
+        pub fn csafe_read(wire: *const u8, wire_len: usize, out: *mut u8, out_len: usize) -> u64;
+        pub fn csafe_write_distance_workout(metres: u32, split_metres: u32, watts: u16, out: *mut u8, out_len: usize) -> u64;
+        pub fn csafe_write_time_workout(seconds: u32, split_hundredths: u32, watts: u16, out: *mut u8, out_len: usize) -> u64;
+        pub fn csafe_hold(table: *mut u8, table_len: usize, address: u32, token: u64) -> u64;
+        pub fn csafe_release(table: *mut u8, table_len: usize, address: u32, token: u64) -> u64;
+        pub fn csafe_stop(table: *const u8, table_len: usize, address: u32, token: u64, out: *mut u8, out_len: usize) -> u64;
+    }
+}
+
+/// What each exported function answers: from the lowest byte on a refusal's number or 0, the kind, the two
+/// addresses, and in the upper half the length.
+#[derive(Clone, Copy)]
+pub(crate) struct Answer(u64);
+
+impl Answer {
+    /// The refusal that the answer tells, or the answer itself.
+    ///
+    /// The library's contracts allow no number outside the table. Should an archive of another version give one,
+    /// it is told as `Truncated`, so that it is never taken for a result.
+    pub(crate) fn accepted(self) -> Result<Answer, Error> {
+        match self.byte(0) {
+            0 => Ok(self),
+            number => Err(Error::from_number(number).unwrap_or(Error::Truncated)),
+        }
+    }
+
+    pub(crate) fn is_extended(self) -> bool {
+        self.byte(1) == 1
+    }
+
+    pub(crate) fn to(self) -> u8 {
+        self.byte(2)
+    }
+
+    pub(crate) fn from(self) -> u8 {
+        self.byte(3)
+    }
+
+    pub(crate) fn len(self) -> usize {
+        (self.0 >> 32) as usize
+    }
+
+    fn byte(self, index: u32) -> u8 {
+        (self.0 >> (8 * index)) as u8
+    }
+}
+
+pub(crate) fn write_standard(contents: &[u8], out: &mut [u8]) -> Answer {
+    // SAFETY: each pointer comes with the length of its slice, and the function stays within them. The exclusive
+    // borrow of the output keeps the two apart.
+    Answer(unsafe {
+        exported::csafe_write_standard(
+            contents.as_ptr(),
+            contents.len(),
+            out.as_mut_ptr(),
+            out.len(),
+        )
+    })
+}
+
+pub(crate) fn write_extended(to: u8, from: u8, contents: &[u8], out: &mut [u8]) -> Answer {
+    // SAFETY: as for `write_standard`; any addresses are taken.
+    Answer(unsafe {
+        exported::csafe_write_extended(
+            to,
+            from,
+            contents.as_ptr(),
+            contents.len(),
+            out.as_mut_ptr(),
+            out.len(),
+        )
+    })
+}
+
+pub(crate) fn read(wire: &[u8], out: &mut [u8]) -> Answer {
+    // SAFETY: as for `write_standard`.
+    Answer(unsafe { exported::csafe_read(wire.as_ptr(), wire.len(), out.as_mut_ptr(), out.len()) })
+}
+
+pub(crate) fn write_distance(metres: u32, split: u32, watts: u16, out: &mut [u8]) -> Answer {
+    // SAFETY: the pointer comes with the length of its slice, which is borrowed exclusively; any numbers are taken.
+    Answer(unsafe {
+        exported::csafe_write_distance_workout(metres, split, watts, out.as_mut_ptr(), out.len())
+    })
+}
+
+pub(crate) fn write_time(seconds: u32, split: u32, watts: u16, out: &mut [u8]) -> Answer {
+    // SAFETY: as for `write_distance`.
+    Answer(unsafe {
+        exported::csafe_write_time_workout(seconds, split, watts, out.as_mut_ptr(), out.len())
+    })
+}
+
+pub(crate) fn hold(table: &mut [u8], address: u32, token: u64) -> Answer {
+    // SAFETY: as for `write_distance`; a table of any length is taken.
+    Answer(unsafe { exported::csafe_hold(table.as_mut_ptr(), table.len(), address, token) })
+}
+
+pub(crate) fn release(table: &mut [u8], address: u32, token: u64) -> Answer {
+    // SAFETY: as for `hold`.
+    Answer(unsafe { exported::csafe_release(table.as_mut_ptr(), table.len(), address, token) })
+}
+
+pub(crate) fn stop(table: &[u8], address: u32, token: u64, out: &mut [u8]) -> Answer {
+    // SAFETY: each pointer comes with the length of its slice, and the table is only read. The exclusive borrow of
+    // the output keeps the two apart.
+    Answer(unsafe {
+        exported::csafe_stop(
+            table.as_ptr(),
+            table.len(),
+            address,
+            token,
+            out.as_mut_ptr(),
+            out.len(),
+        )
+    })
+}
+
+#[cfg(test)]
+mod tests {
+    use super::*;
+
+    #[test]
+    fn an_answer_is_taken_apart() {
+        let answer = Answer(0x0000_0006_F105_0100);
+        assert!(answer.accepted().is_ok());
+        assert!(answer.is_extended());
+        assert_eq!((answer.to(), answer.from(), answer.len()), (0x05, 0xF1, 6));
+        assert!(!Answer(0).is_extended());
+    }
+
+    #[test]
+    fn no_number_but_0_is_a_result() {
+        for number in 1..=u8::MAX {
+            let refused = Answer(u64::from(number)).accepted().err();
+            let expected = Error::from_number(number).unwrap_or(Error::Truncated);
+            assert_eq!(refused, Some(expected), "number {number}");
+        }
+    }
+
+    #[test]
+    fn frame_answers_are_whole_numbers_of_the_layout() {
+        let out = &mut [0; 128];
+        assert_eq!(write_standard(&[0xF1], out).0, 6 << 32);
+        assert_eq!(write_standard(&[0; 118], out).0, 2);
+        assert_eq!(write_extended(0xFF, 0xFD, &[], out).0, 5 << 32);
+        assert_eq!(write_extended(0xFF, 0xFD, &[], &mut out[..4]).0, 1);
+        assert_eq!(read(&[0xF1, 0x41, 0x41, 0xF2], out).0, 1 << 32);
+        let extended = [0xF0, 0xFF, 0xFD, 0x41, 0x41, 0xF2];
+        assert_eq!(read(&extended, out).0, 0x0000_0001_FDFF_0100);
+        assert_eq!(read(&extended, &mut []).0, 1);
+        assert_eq!(read(&extended[..5], out).0, 6);
+    }
+
+    #[test]
+    fn workout_answers_are_whole_numbers_of_the_layout() {
+        let out = &mut [0; 23];
+        assert_eq!(write_distance(2_000, 500, 200, out).0, 23 << 32);
+        assert_eq!(write_distance(99, 99, 200, out).0, 12);
+        assert_eq!(write_time(1_200, 24_000, 100, out).0, 23 << 32);
+        assert_eq!(write_time(1_200, 24_000, 100, &mut []).0, 1);
+    }
+
+    #[test]
+    fn lease_answers_are_whole_numbers_of_the_layout() {
+        let table = &mut [0; 2_048];
+        let out = &mut [0; 16];
+        assert_eq!(hold(table, 0x05, 71).0, 0);
+        assert_eq!(hold(table, 0x05, 71).0, 10);
+        assert_eq!(hold(table, 0x06, 0).0, 14);
+        assert_eq!(stop(table, 0x05, 71, out).0, 11 << 32);
+        assert_eq!(stop(table, 0x105, 71, out).0, 9);
+        assert_eq!(release(table, 0x05, 72).0, 11);
+        assert_eq!(release(table, 0x05, 71).0, 0);
+        assert_eq!(release(&mut table[1..], 0x05, 71).0, 18);
+    }
+}

@@ -1,0 +1,98 @@
+//! Frames that are sound, over-long or damaged.
+
+use crate::common::Xorshift;
+
+pub const EXTENDED_START: u8 = 0xF0;
+pub const STANDARD_START: u8 = 0xF1;
+pub const STOP: u8 = 0xF2;
+pub const ESCAPE: u8 = 0xF3;
+
+/// A header and contents, as they stand before stuffing.
+pub struct Plain {
+    pub addresses: Option<(u8, u8)>,
+    pub contents: Vec<u8>,
+}
+
+impl Plain {
+    pub fn any(random: &mut Xorshift) -> Plain {
+        let len = match random.below(4) {
+            0 => random.below(4),
+            1 => random.below(24),
+            2 => 100 + random.below(24),
+            _ => random.below(160),
+        };
+        let share = [0, 0, 20, 50, 100][random.below(5)];
+        let addresses = match random.below(2) {
+            0 => None,
+            _ => Some((address(random), address(random))),
+        };
+        Plain {
+            addresses,
+            contents: random.bytes(len, share),
+        }
+    }
+
+    /// The bytes on the wire, with no limit to their number.
+    pub fn wire(&self) -> Vec<u8> {
+        let mut body = Vec::new();
+        if let Some((to, from)) = self.addresses {
+            body.extend([to, from]);
+        }
+        body.extend(&self.contents);
+        body.push(self.contents.iter().fold(0, |sum, byte| sum ^ byte));
+        let start = match self.addresses {
+            None => STANDARD_START,
+            Some(_) => EXTENDED_START,
+        };
+        let mut wire = vec![start];
+        for byte in body {
+            match byte {
+                EXTENDED_START..=ESCAPE => wire.extend([ESCAPE, byte - EXTENDED_START]),
+                _ => wire.push(byte),
+            }
+        }
+        wire.push(STOP);
+        wire
+    }
+}
+
+fn address(random: &mut Xorshift) -> u8 {
+    const EDGES: [u8; 10] = [0x00, 0x01, 0xEF, 0xF0, 0xF1, 0xF2, 0xF3, 0xFC, 0xFD, 0xFF];
+    match random.below(2) {
+        0 => EDGES[random.below(EDGES.len())],
+        _ => random.below(256) as u8,
+    }
+}
+
+/// Damages a frame in one place, or leaves it as it is.
+pub fn damage(wire: &mut Vec<u8>, random: &mut Xorshift) {
+    if wire.is_empty() {
+        return;
+    }
+    let at = random.below(wire.len());
+    match random.below(9) {
+        0 => wire[at] ^= 1 << random.below(8),
+        1 => {
+            wire.remove(at);
+        }
+        2 => wire.insert(at, random.below(256) as u8),
+        3 => wire.insert(at, EXTENDED_START + random.below(4) as u8),
+        4 => wire.truncate(at),
+        5 => wire.insert(0, wire[0]),
+        6 => wire.push(STOP),
+        7 => wire[at] = EXTENDED_START + random.below(4) as u8,
+        _ => {}
+    }
+}
+
+/// Changes one byte and the checksum with it, so that the change is not told by the checksum.
+pub fn damage_with_checksum(wire: &mut [u8], random: &mut Xorshift) {
+    if wire.len() < 4 {
+        return;
+    }
+    let change = 1 << random.below(8);
+    let at = 1 + random.below(wire.len() - 3);
+    let checksum = wire.len() - 2;
+    wire[at] ^= change;
+    wire[checksum] ^= change;
+}

@@ -1,0 +1,244 @@
+//! Frames written and read on both sides.
+
+use csafe::{frame, Error, Frame};
+use independent::frame as plain_rust;
+
+use crate::common::Xorshift;
+use crate::frame_damage::{damage, damage_with_checksum, Plain, STANDARD_START, STOP};
+use crate::output::{hex, same, told, Output};
+
+/// Room for every frame and every contents.
+const AMPLE: usize = 256;
+
+/// The bytes that decide what a frame is, and some that don't.
+const ALPHABET: [u8; 7] = [0xF0, 0xF1, 0xF2, 0xF3, 0x00, 0x01, 0x41];
+
+/// Reads a slice on both sides and answers what both said.
+fn read_on_both(wire: &[u8], room: usize) -> Result<Frame, u8> {
+    let (mut our_output, mut their_output) = (Output::new(room), Output::new(room));
+    let ours = frame::read(wire, our_output.lent()).map_err(Error::number);
+    let theirs = plain_rust::read(wire, their_output.lent()).map(|read| match read {
+        plain_rust::Read::Standard { len } => Frame::Standard { len },
+        plain_rust::Read::Extended { to, from, len } => Frame::Extended { to, from, len },
+    });
+    let input = || format!("reading {} with room {room}", hex(wire));
+    same(
+        (&ours, &our_output),
+        (&theirs, &their_output),
+        |read| read.contents_len(),
+        &input,
+    );
+    if let Ok(read) = ours {
+        let contents = our_output.result(read.contents_len());
+        assert!(
+            written_again(read, contents) == wire,
+            "written again it differs: {}",
+            told(&input)
+        );
+    }
+    ours
+}
+
+fn written_again(read: Frame, contents: &[u8]) -> Vec<u8> {
+    let mut out = vec![0; AMPLE];
+    let written = match read {
+        Frame::Standard { .. } => frame::write_standard(contents, &mut out),
+        Frame::Extended { to, from, .. } => frame::write_extended(to, from, contents, &mut out),
+    };
+    out.truncate(written.unwrap_or(0));
+    out
+}
+
+/// Writes a frame on both sides and answers the bytes, or what both said.
+fn written_on_both(plain: &Plain, room: usize) -> Result<Vec<u8>, u8> {
+    let (mut our_output, mut their_output) = (Output::new(room), Output::new(room));
+    let contents = &plain.contents;
+    let (ours, theirs) = match plain.addresses {
+        None => (
+            frame::write_standard(contents, our_output.lent()),
+            plain_rust::write_standard(contents, their_output.lent()),
+        ),
+        Some((to, from)) => (
+            frame::write_extended(to, from, contents, our_output.lent()),
+            plain_rust::write_extended(to, from, contents, their_output.lent()),
+        ),
+    };
+    let ours = ours.map_err(Error::number);
+    let input = || {
+        format!(
+            "writing {} to {:02X?} with room {room}",
+            hex(contents),
+            plain.addresses
+        )
+    };
+    same(
+        (&ours, &our_output),
+        (&theirs, &their_output),
+        |len| *len,
+        &input,
+    );
+    ours.map(|len| our_output.result(len).to_vec())
+}
+
+/// Counts answers by their number, 0 for a result.
+#[derive(Default)]
+struct Tally([usize; 19]);
+
+impl Tally {
+    fn add<T>(&mut self, answer: &Result<T, u8>) {
+        let number = answer.as_ref().err().copied().unwrap_or(0);
+        self.0[usize::from(number)] += 1;
+    }
+
+    /// A comparison shows little of an answer that hardly occurs.
+    fn has_each(&self, numbers: &[usize], least: usize) {
+        for number in numbers {
+            let count = self.0[*number];
+            assert!(
+                count >= least,
+                "answer {number} occurred only {count} times"
+            );
+        }
+    }
+}
+
+#[test]
+fn every_short_slice_is_read_alike() {
+    let mut tally = Tally::default();
+    for len in 0..=6 {
+        for number in 0..ALPHABET.len().pow(len) {
+            let mut rest = number;
+            let mut wire = Vec::new();
+            for _ in 0..len {
+                wire.push(ALPHABET[rest % ALPHABET.len()]);
+                rest /= ALPHABET.len();
+            }
+            for room in [0, 1, 8] {
+                tally.add(&read_on_both(&wire, room));
+            }
+        }
+    }
+    tally.has_each(&[0, 1, 3, 4, 5, 6], 20);
+}
+
+#[test]
+fn every_pair_between_flags_is_read_alike() {
+    for first in 0..=u8::MAX {
+        for second in 0..=u8::MAX {
+            for start in [0xF0, 0xF1] {
+                let _ = read_on_both(&[start, first, second, STOP], 4);
+                let _ = read_on_both(&[start, 0x01, first, second, second, STOP], 4);
+            }
+        }
+    }
+}
+
+#[test]
+fn random_and_damaged_frames_are_read_alike() {
+    let mut random = Xorshift::new();
+    let mut tally = Tally::default();
+    for _ in 0..400_000 {
+        let plain = Plain::any(&mut random);
+        let mut wire = match written_on_both(&plain, AMPLE) {
+            Ok(wire) => wire,
+            Err(_) => plain.wire(),
+        };
+        match random.below(4) {
+            0 => {}
+            1 => damage_with_checksum(&mut wire, &mut random),
+            _ => {
+                for _ in 0..=random.below(3) {
+                    damage(&mut wire, &mut random);
+                }
+            }
+        }
+        let room = match random.below(3) {
+            0 => random.below(130),
+            _ => AMPLE,
+        };
+        tally.add(&read_on_both(&wire, room));
+    }
+    tally.has_each(&[0, 1, 2, 3, 4, 5, 6], 300);
+}
+
+#[test]
+fn random_bytes_between_flags_are_read_alike() {
+    let mut random = Xorshift::new();
+    for _ in 0..200_000 {
+        let len = random.below(125);
+        let share = [0, 2, 20][random.below(3)];
+        let mut wire = random.bytes(len, share);
+        wire.insert(0, 0xF0 + random.below(2) as u8);
+        wire.push(STOP);
+        let _ = read_on_both(&wire, random.below(AMPLE));
+    }
+}
+
+#[test]
+fn frames_about_the_limit_are_treated_alike() {
+    let mut tally = Tally::default();
+    for addresses in [None, Some((0x05, 0x00)), Some((0xF1, 0xF3))] {
+        for len in 100..=122 {
+            for escapes in 0..=6 {
+                let mut contents = vec![0x00; len];
+                contents[..escapes].fill(0xF2);
+                let plain = Plain {
+                    addresses,
+                    contents,
+                };
+                let written = written_on_both(&plain, AMPLE);
+                tally.add(&written);
+                let wire = plain.wire();
+                assert_eq!(written.is_ok(), wire.len() <= frame::WIRE_LIMIT);
+                assert_eq!(read_on_both(&wire, AMPLE).is_ok(), written.is_ok());
+            }
+        }
+    }
+    tally.has_each(&[0, 2], 20);
+}
+
+#[test]
+fn random_contents_are_written_alike() {
+    let mut random = Xorshift::new();
+    let mut tally = Tally::default();
+    for _ in 0..200_000 {
+        let mut plain = Plain::any(&mut random);
+        let share = [0, 5, 50][random.below(3)];
+        let len = random.below(201);
+        if random.below(2) == 0 {
+            plain.contents = random.bytes(len, share);
+        }
+        let exact = plain.wire().len();
+        let room = match random.below(3) {
+            0 => random.below(AMPLE),
+            1 => exact + 1 - random.below(3),
+            _ => AMPLE,
+        };
+        let written = written_on_both(&plain, room);
+        tally.add(&written);
+        if let Ok(wire) = written {
+            assert_eq!(hex(&wire), hex(&plain.wire()));
+            let read = read_on_both(&wire, plain.contents.len());
+            assert_eq!(read.map(Frame::contents_len), Ok(plain.contents.len()));
+        }
+    }
+    tally.has_each(&[0, 1, 2], 1_000);
+}
+
+#[test]
+fn very_long_slices_are_refused_alike() {
+    for len in [121, 255, 256, 4_096, 65_536, 100_003] {
+        let mut wire = vec![0x00; len];
+        let plain = Plain {
+            addresses: None,
+            contents: wire.clone(),
+        };
+        assert_eq!(written_on_both(&plain, AMPLE), Err(2));
+        assert_eq!(read_on_both(&wire, AMPLE), Err(6));
+        wire[0] = STANDARD_START;
+        wire[len - 1] = STOP;
+        assert_eq!(read_on_both(&wire, AMPLE), Err(2));
+        wire[len / 2] = STOP;
+        assert_eq!(read_on_both(&wire, AMPLE), Err(6));
+    }
+}
