@@ -2,17 +2,10 @@
 ghost use mathlib.Core.Path.{_≡_};
 ghost use mathlib.Core.List.{_++_};
 ghost use Prim.Native.Nat.{_+_, _≤_};
-ghost use lib.Dec.{leb};
 ghost use lib.ListN.{length, take, drop};
 ghost use Rattle.packing.specs.Choice.{pick, within, noneOf};
 ghost use Rattle.packing.specs.Splice.{splice};
 ghost use Rattle.frame.specs.Checksum.{checksum};
-
-pub(crate) fn lesser(a: usize, b: usize) -> usize
-    ensures { λ r. ⌜ r ≡ pick (leb a b) a b ⌝ }
-{
-    if a <= b { a } else { b }
-}
 
 // 1 for a byte between two others, both included, else 0.
 fn mark(b: u8, low: u8, high: u8) -> u8

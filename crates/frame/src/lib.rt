@@ -117,7 +117,7 @@ pub fn judge_in_place(kind: Kind, s: &mut [u8], len: usize) -> Read
     ensures { λ r. ⌜ readMeans r ≡ judgeAnswer (judge kind (take len (now (s .entry)))) ⌝ }
     ensures { λ r. ⌜ now (s .exit) ≡ leftIn (judge kind (take len (now (s .entry)))) (now (s .entry)) ⌝ }
 {
-    let n = bytes::lesser(len, s.len());
+    let n = packing::lesser(len, s.len());
     judge_whole(kind, &mut s[..n])
 }
 

@@ -2,7 +2,7 @@
 ghost use mathlib.Core.Path.{_≡_};
 ghost use Prim.Native.Nat.{_+_, _≤_};
 ghost use lib.ListN.{getD, length};
-ghost use Rattle.packing.specs.Number.{number, put};
+ghost use Rattle.packing.specs.Number.{put};
 ghost use Rattle.lease.specs.Lease.{tableOf};
 
 // The bytes of a token.
@@ -21,14 +21,13 @@ pub(crate) fn token_at(tokens: &[u64], address: u32) -> u64
 
 // The token of an address in the bytes of a table, 0 where there is none.
 pub(crate) fn token_in(bytes: &[u8], address: u32) -> u64
-    requires { ⌜ length (now bytes) ≡ 2048 ⌝ }
     ensures { λ r. ⌜ r ≡ getD (tableOf (now (bytes .entry))) address 0 ⌝ }
 {
     if 255 < address {
         return 0;
     }
     let at = address as usize;
-    number_at(bytes, WIDTH * at)
+    packing::number_at(bytes, WIDTH * at, WIDTH)
 }
 
 // Writes a token into the bytes of an address.
@@ -43,24 +42,4 @@ pub(crate) fn put_token(bytes: &mut [u8], at: usize, token: u64)
         n = n / 256;
         i += 1;
     }
-}
-
-// The number in the eight bytes from an index on, lowest first.
-fn number_at(bytes: &[u8], at: usize) -> u64
-    requires { ⌜ at + 8 ≤ length (now bytes) ⌝ }
-    ensures { λ r. ⌜ r ≡ number 8 at (now (bytes .entry)) ⌝ }
-{
-    let mut n: u64 = 0;
-    let mut left = WIDTH;
-    while 0 < left {
-        left = left - 1;
-        n = wide(bytes[at + left]) + 256 * n;
-    }
-    n
-}
-
-fn wide(b: u8) -> u64
-    ensures { λ r. ⌜ r ≡ b ⌝ }
-{
-    b as u64
 }

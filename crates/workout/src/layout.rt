@@ -1,9 +1,9 @@
 // The 23 bytes of a workout, and the numbers in them.
 ghost use mathlib.Core.Path.{_≡_};
 ghost use mathlib.Core.List.{[], _∷_};
-ghost use Prim.Native.Nat.{_+_, _*_, _/_, _%_, _≤_, _<_};
+ghost use Prim.Native.Nat.{_+_, _*_, _/_, _%_};
 ghost use lib.ListN.{length};
-ghost use Rattle.packing.specs.Number.{number, bytesOf};
+ghost use Rattle.packing.specs.Number.{bytesOf};
 ghost use Rattle.workout.specs.Workout.{layout, commandOf, identifierOf, distanceBytes, timeBytes};
 ghost use Rattle.workout.specs.Form.{kindFor, sameBytes};
 
@@ -163,26 +163,6 @@ pub(crate) fn seconds_in(clock: GoalBytes) -> u32
     ensures { λ r. ⌜ r ≡ 3600 * clock .0 + 60 * clock .1 + clock .2 ⌝ }
 {
     HOUR * (clock.0 as u32) + MINUTE * (clock.1 as u32) + clock.2 as u32
-}
-
-fn wide(b: u8) -> u32
-    ensures { λ r. ⌜ r ≡ b ⌝ }
-{
-    b as u32
-}
-
-// The number of at most four bytes from an index on, lowest first.
-pub(crate) fn number_at(s: &[u8], at: usize, width: usize) -> u32
-    requires { ⌜ (at + width ≤ length (now s)) × (width ≤ 4) ⌝ }
-    ensures { λ r. ⌜ r ≡ number width at (now (s .entry)) ⌝ }
-{
-    let mut n: u32 = 0;
-    let mut left: usize = width;
-    while 0 < left {
-        left = left - 1;
-        n = wide(s[at + left]) + 256 * n;
-    }
-    n
 }
 
 pub(crate) fn same(s: &[u8], t: &[u8]) -> bool

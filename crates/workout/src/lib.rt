@@ -71,15 +71,15 @@ fn read_within(limits: Limits, contents: &[u8]) -> WorkoutRead
     }
     let kind = layout::kind_of(contents[0]);
     let goal = GoalBytes(contents[2], contents[3], contents[4]);
-    let split = layout::number_at(contents, layout::SPLIT_AT, 4);
-    let watts = layout::number_at(contents, layout::POWER_AT, 2) as u16;
+    let split = packing::number_at(contents, layout::SPLIT_AT, 4) as u32;
+    let watts = packing::number_at(contents, layout::POWER_AT, 2) as u16;
     let expected = layout::lay_out(kind, goal, split, watts);
     if !layout::same(contents, &expected) {
         return WorkoutRead::Refused(Refusal::NotWorkout);
     }
     match kind {
         Kind::Distance => {
-            let amount = layout::number_at(contents, layout::DISTANCE_AT, 2);
+            let amount = packing::number_at(contents, layout::DISTANCE_AT, 2) as u32;
             read_distance(limits, amount, goal.2, split, watts)
         }
         Kind::Time => read_time(limits, goal, split, watts),

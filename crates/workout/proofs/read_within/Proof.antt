@@ -1,3 +1,4 @@
+use Prim.Native.Nat.{_<_}
 use borrow.Author.Needs.{needs}
 use mathlib.Core.Path.{_≡_, sym, _∙_}
 use native.Mathlib.Omega.{arith}
@@ -16,6 +17,9 @@ Nn s = s .before .before .before
 
 abbrev Kk : tie.After-number-at2 → tie.After-kind-of
 Kk n = n .before .before .before .before .before
+
+abbrev Ks : tie.After-number-at → tie.After-kind-of
+Ks n = n .before .before .before .before
 
 abbrev St : tie.After-kind-of → tie.Start
 St k = k .before .before .before .before
@@ -50,6 +54,9 @@ shared-slice-read-t18 c = search needs
 number-at-requires : tie.Need-number-at-requires
 number-at-requires c κs = search needs
 
+cast-split : tie.Need-cast-split
+cast-split c = let k = Ks c in record { fits = omega (arith, c .number-at .ensures, number-bound 4 10 (St k .args .contents .now) (bytes k)) }
+
 number-at-requires-2 : tie.Need-number-at-requires-2
 number-at-requires-2 c κs = search needs
 
@@ -76,10 +83,15 @@ enum-told c = search needs
 number-at-requires-3 : tie.Need-number-at-requires-3
 number-at-requires-3 c κs = search needs
 
+-- a distance of two bytes
+amount : (c : tie.After-number-at3) → c .number-at3 .result < 65536
+amount c = let k = Kk (Nn (c .before .before .before .before)) in omega (arith, c .number-at3 .ensures, number-bound 2 2 (St k .args .contents .now) (bytes k))
+
+cast-amount : tie.Need-cast-amount
+cast-amount c = record { fits = omega (arith, amount c) }
+
 read-distance-requires : tie.Need-read-distance-requires
-read-distance-requires c κs =
-    let k = Kk (Nn (c .before .before .before .before)) in
-    (search needs, omega (arith, c .number-at3 .ensures, number-bound 2 2 (St k .args .contents .now) (bytes k)))
+read-distance-requires c κs = (search needs, amount c)
 
 enum-told-2 : tie.Need-enum-told-2
 enum-told-2 c = search needs
@@ -116,6 +128,7 @@ read-within-spec =
     shared-slice-read-t16
     shared-slice-read-t18
     number-at-requires
+    cast-split
     number-at-requires-2
     cast-watts
     lay-out-requires
@@ -124,6 +137,7 @@ read-within-spec =
     returns-2
     enum-told
     number-at-requires-3
+    cast-amount
     read-distance-requires
     enum-told-2
     read-time-requires

@@ -1,6 +1,6 @@
 use borrow.Author.Tests.{le-leb, lt-leb}
-use Rattle.frame.proofs.bytes.lesser.Statement.{statement}
-use Rattle.frame.proofs.bytes.lesser.Tie as tie
+use Rattle.packing.proofs.lesser.Statement.{statement}
+use Rattle.packing.proofs.lesser.Tie as tie
 
 returns : tie.Need-returns
 returns c = simp (le-leb _ _ (c .if1 .taken))
