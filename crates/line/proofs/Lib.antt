@@ -1,3 +1,6 @@
 pub mod Follows
 pub mod Calls
 pub mod Consequences
+pub mod FeedLaws
+pub mod RunLaws
+pub mod ChunkLaws

@@ -1,3 +1,6 @@
 pub mod Outcome
 pub mod Reader
 pub mod Rowing
+pub mod Feed
+pub mod Runs
+pub mod Chunks

@@ -1,5 +1,7 @@
-// The line reader: fed one byte at a time, it tells of each frame and each refusal at the call where it ends.
-// Document 01, "The line".
+// The line reader: fed one byte at a time, or several up to the first that is answered, it tells of each frame and each refusal at the
+// call where it ends. Document 01, "The line".
+mod runs;
+
 use frame::Kind;
 use frame::Read;
 use refusal::Refusal;
@@ -9,6 +11,8 @@ ghost use Prim.Native.Nat.{ℕ};
 ghost use Rattle.frame.specs.Answers.{readMeans};
 ghost use Rattle.line.specs.Outcome.{toldMeans, tells, summaryOf, nothing, contentsBeside};
 ghost use Rattle.line.specs.Reader.{reader, turn, newReader, truncatedIn, restartOf, terminatedIn, leftBy, stopOf, withByte, grownIn, stepOf, finishOf, Moves, Steps, Turn};
+ghost use Rattle.line.specs.declared.Told.the-variants.{Nothing};
+ghost use Rattle.line.specs.Feed.{says, feedOf, Feeds};
 
 const EXTENDED_START: u8 = 0xF0;
 
@@ -62,6 +66,14 @@ pub struct Moved {
     pub told: Told,
     pub len: usize,
     pub mode: Mode,
+}
+
+// The answer to several bytes fed at once, and how many of them were taken.
+pub struct Fed {
+    pub told: Told,
+    pub len: usize,
+    pub mode: Mode,
+    pub taken: usize,
 }
 
 impl LineReader {
@@ -118,6 +130,65 @@ pub fn finish_in(mode: Mode) -> Moved
     ensures { λ r. ⌜ ((bytes : List ℕ) (len : ℕ) → Moves bytes r (finishOf (reader bytes len mode))) ⌝ }
 {
     restart(mode, Mode::Outside)
+}
+
+// Feeds such a reader bytes up to the first that is answered; with no answer it takes all of them. The bytes between two flags go into the
+// array at once, and the flags through `step_in`.
+pub fn feed_in(bytes: &mut [u8; 118], len: usize, mode: Mode, input: &[u8]) -> Fed
+    ensures { λ r. ⌜ Feeds (now (bytes .exit)) r (feedOf (reader (now (bytes .entry)) len mode) (now (input .entry))) ⌝ }
+{
+    let mut n = len;
+    let mut m = mode;
+    let mut i: usize = 0;
+    while i < input.len() {
+        let j = runs::find_flag(input, i);
+        let grown = runs::grow_by(bytes, n, m, &input[i..j]);
+        n = grown.len;
+        m = grown.mode;
+        if input.len() <= j {
+            return unanswered(n, m, j);
+        }
+        let moved = step_in(bytes, n, m, input[j]);
+        n = moved.len;
+        m = moved.mode;
+        i = j + 1;
+        let told = moved.told;
+        if is_answer(told) {
+            return Fed {
+                told,
+                len: n,
+                mode: m,
+                taken: i,
+            };
+        }
+    }
+    unanswered(n, m, i)
+}
+
+fn unanswered(len: usize, mode: Mode, taken: usize) -> Fed
+    ensures { λ r. ⌜ r ≡ record { told = Nothing; len = len; mode = mode; taken = taken } ⌝ }
+{
+    Fed {
+        told: Told::Nothing,
+        len,
+        mode,
+        taken,
+    }
+}
+
+fn is_answer(told: Told) -> bool
+    ensures { λ r. ⌜ r ≡ says (toldMeans told) ⌝ }
+{
+    match told {
+        Told::Nothing => false,
+        Told::Refused(_) => true,
+        Told::Standard { len: _ } => true,
+        Told::Extended {
+            to: _,
+            from: _,
+            len: _,
+        } => true,
+    }
 }
 
 // A start flag, or the end of input: whatever is open is truncated.
