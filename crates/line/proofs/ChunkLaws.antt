@@ -28,7 +28,7 @@ record Goes (r : LineReader) (s : List ℕ) (f : Feeding) : Type 0 where
 -- a byte before a stream, by whether it is answered
 by-first : (b : ℕ) (s : List ℕ) (t : Turn) (f : Feeding) (q : Bool) → isAnswer (t .outcome) ≡ q → Goes (t .next) s f
     → (withAnswer (t .outcome) (singly (t .next) s)
-          ≡ withAnswer (pick q (feeding (t .outcome) (t .next) 1) (plus 1 f) .outcome) (singly (pick q (feeding (t .outcome) (t .next) 1) (plus 1 f) .next) (drop (pick q (feeding (t .outcome) (t .next) 1) (plus 1 f) .taken) (b ∷ s))))
+    ≡ withAnswer (pick q (feeding (t .outcome) (t .next) 1) (plus 1 f) .outcome) (singly (pick q (feeding (t .outcome) (t .next) 1) (plus 1 f) .next) (drop (pick q (feeding (t .outcome) (t .next) 1) (plus 1 f) .taken) (b ∷ s))))
     × (afterBytes (t .next) s ≡ afterBytes (pick q (feeding (t .outcome) (t .next) 1) (plus 1 f) .next) (drop (pick q (feeding (t .outcome) (t .next) 1) (plus 1 f) .taken) (b ∷ s)))
 by-first b s t f true e g = (refl, refl)
 by-first b s t f false e g = let m : 1 + f .taken ≡ suc (f .taken) = omega arith in (simp e (rw m (g .answers)), rw m (g .left))

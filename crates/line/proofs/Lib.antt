@@ -4,3 +4,4 @@ pub mod Consequences
 pub mod FeedLaws
 pub mod RunLaws
 pub mod ChunkLaws
+pub mod FeedBounds

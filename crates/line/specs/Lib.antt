@@ -4,3 +4,4 @@ pub mod Rowing
 pub mod Feed
 pub mod Runs
 pub mod Chunks
+pub mod Within

@@ -1,2 +1,4 @@
 pub mod PackedLaws
 pub mod AnswerLaws
+pub mod LineStateLaws
+pub mod LineAnswerLaws

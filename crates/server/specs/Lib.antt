@@ -1,2 +1,4 @@
 pub mod Packed
 pub mod Answers
+pub mod LineState
+pub mod LineAnswers

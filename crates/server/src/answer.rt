@@ -2,18 +2,25 @@
 use frame::Read;
 use frame::Written;
 use lease::Outcome;
+use line::Told;
 use refusal::Refusal;
 ghost use mathlib.Core.Path.{_≡_};
 ghost use Rattle.refusal.specs.Number.{numberOf};
 ghost use Rattle.frame.specs.Answers.{writtenMeans, readMeans};
 ghost use Rattle.lease.specs.Answers.{outcomeMeans};
+ghost use Rattle.line.specs.Outcome.{toldMeans};
+ghost use Rattle.line.specs.Within.{Within};
 ghost use Rattle.server.specs.Packed.{Fields, Tells};
 ghost use Rattle.server.specs.Answers.{refusalFields, resultFields, writeFields, readFields, leaseFields, WriteShort, ReadShort};
+ghost use Rattle.server.specs.LineAnswers.{lineFields};
 
 // The kinds of frame.
 const STANDARD: u8 = 0;
 
 const EXTENDED: u8 = 1;
+
+// Not a kind: the line reader told nothing.
+const UNTOLD: u8 = 2;
 
 // No refusal, and no address.
 const NONE: u8 = 0;
@@ -88,5 +95,17 @@ pub(crate) fn of_outcome(outcome: Outcome) -> u64
     match outcome {
         Outcome::Done => result(STANDARD, NONE, NONE, 0),
         Outcome::Refused(why) => refused(why),
+    }
+}
+
+pub(crate) fn of_told(told: Told) -> u64
+    requires { ⌜ Within 118 (toldMeans told) ⌝ }
+    ensures { λ r. ⌜ Tells r (lineFields (toldMeans told)) ⌝ }
+{
+    match told {
+        Told::Nothing => result(UNTOLD, NONE, NONE, 0),
+        Told::Refused(why) => refused(why),
+        Told::Standard { len } => result(STANDARD, NONE, NONE, len as u32),
+        Told::Extended { to, from, len } => result(EXTENDED, to, from, len as u32),
     }
 }

@@ -1,6 +1,7 @@
-// The portal's functions: frames, workouts and leases, called with numbers and byte slices.
+// The portal's functions: frames, the line reader, workouts and leases, called with numbers and byte slices.
 // Document 01, "What the box does".
 mod answer;
+mod line_state;
 
 use workout::Goal;
 use workout::Hundredths;
@@ -20,6 +21,9 @@ ghost use Rattle.lease.specs.Lease.{hold, release, stop, lentAnswer, lentAfter}
 ghost use Rattle.lease.specs.Answers.{told, outAfter};
 ghost use Rattle.server.specs.Packed.{Tells};
 ghost use Rattle.server.specs.Answers.{writeFields, readFields, leaseFields};
+ghost use Rattle.server.specs.LineAnswers.{fedTo, finished, FedAs, FinishedAs};
+ghost use mathlib.Core.List.{List};
+ghost use Prim.Native.Nat.{ℕ};
 
 // Writes a standard frame. Refusals 2 and 1.
 #[no_mangle]
@@ -49,6 +53,41 @@ pub extern "C" fn csafe_read(wire: &[u8], out: &mut [u8]) -> u64
 {
     let read = frame::read_frame(wire, out);
     answer::of_read(read)
+}
+
+// Feeds bytes to a line reader up to the first that is answered, and counts those taken. With no answer all are taken. The reader is its array
+// and the number that holds its length and mode, 0 for a new one.
+#[no_mangle]
+pub extern "C" fn csafe_feed(
+    bytes: &mut [u8; 118],
+    state: &mut u64,
+    input: &[u8],
+    taken: &mut u64,
+) -> u64
+    ensures { λ r. ⌜ FedAs r (now (bytes .exit)) (now (state .exit)) (now (taken .exit)) (fedTo (now (bytes .entry)) (now (state .entry)) (now (input .entry))) ⌝ }
+{
+    let before = *state;
+    let len = line_state::len_in(before);
+    let mode = line_state::mode_in(before);
+    let fed = line::feed_in(bytes, len, mode, input);
+    let after = fed.mode;
+    *state = line_state::state_of(fed.len, after);
+    *taken = fed.taken as u64;
+    let told = fed.told;
+    answer::of_told(told)
+}
+
+// Ends the input of such a reader, whose array stays as it is. Refusal 6 where a candidate is open.
+#[no_mangle]
+pub extern "C" fn csafe_finish(state: &mut u64) -> u64
+    ensures { λ r. ⌜ ((bytes : List ℕ) → FinishedAs r (now (state .exit)) (finished bytes (now (state .entry)))) ⌝ }
+{
+    let mode = line_state::mode_in(*state);
+    let ended = line::finish_in(mode);
+    let after = ended.mode;
+    *state = line_state::state_of(ended.len, after);
+    let told = ended.told;
+    answer::of_told(told)
 }
 
 // Writes the contents of a workout over a distance. Refusals 12 and 1.

@@ -1,0 +1,69 @@
+use mathlib.Core.Path.{subst}
+use native.Mathlib.Omega.{arith}
+use borrow.Author.Needs.{needs}
+use Rattle.line.specs.declared.Told.{Told}
+use Rattle.line.specs.Outcome.{toldMeans}
+use Rattle.line.specs.Within.{Within}
+use Rattle.server.proofs.answer.of_told.Statement.{statement}
+use Rattle.server.proofs.answer.of_told.Tie as tie
+
+enum-told : tie.Need-enum-told
+enum-told c = search needs
+
+result-requires : tie.Need-result-requires
+result-requires c κs = search needs
+
+enum-known-told : tie.Need-enum-known-told
+enum-known-told c = search needs
+
+refused-requires : tie.Need-refused-requires
+refused-requires c κs = search needs
+
+enum-known-told-2 : tie.Need-enum-known-told-2
+enum-known-told-2 c = search needs
+
+cast-result : tie.Need-cast-result
+cast-result c = omega (arith, subst (λ (o : Told). Within 118 (toldMeans o)) (c .before .told2 .given .1) (c .before .before .before .pre))
+
+result-requires-2 : tie.Need-result-requires-2
+result-requires-2 c κs = search needs
+
+enum-known-told-3 : tie.Need-enum-known-told-3
+enum-known-told-3 c = search needs
+
+cast-result-2 : tie.Need-cast-result-2
+cast-result-2 c = omega (arith, subst (λ (o : Told). Within 118 (toldMeans o)) (c .before .told3 .given .1) (c .before .before .before .pre))
+
+result-requires-3 : tie.Need-result-requires-3
+result-requires-3 c κs = search needs
+
+returns : tie.Need-returns
+returns c = rw (c .before .enum-told .given .1) (c .result .ensures)
+
+returns-2 : tie.Need-returns-2
+returns-2 c = rw (c .before .before .told .given .1) (c .refused .ensures)
+
+returns-3 : tie.Need-returns-3
+returns-3 c = rw (c .before .before .told2 .given .1) (c .result2 .ensures)
+
+returns-4 : tie.Need-returns-4
+returns-4 c = rw (c .before .before .told3 .given .1) (c .result3 .ensures)
+
+pub of-told-spec : {M : Type 1} → statement M
+of-told-spec =
+    tie.close
+    (tie.spec
+    enum-told
+    result-requires
+    enum-known-told
+    refused-requires
+    enum-known-told-2
+    cast-result
+    result-requires-2
+    enum-known-told-3
+    cast-result-2
+    result-requires-3
+    returns
+    returns-2
+    returns-3
+    returns-4)
