@@ -1,11 +1,12 @@
 /*
- * CSAFE frames, programmed workouts and machine leases.
+ * CSAFE frames, also from a live line, programmed workouts and machine leases.
  *
  * Link target/staticlib/libserver.a, which `rt staticlib server` makes.
  *
  * A slice is a pointer and a length. Every function takes any numbers and any slices, returns, and answers one
- * 64-bit number: a result or a refusal. A refusal changes no lent byte. After a result the bytes of the output past
- * it are as they were. The slices of one call must not overlap. The pointer of an empty slice is not followed.
+ * 64-bit number: a result or a refusal. A refusal changes no lent byte, but that a line reader goes on. After a result
+ * the bytes of the output past it are as they were. The slices and numbers that are lent to one call must not overlap.
+ * The pointer of an empty slice is not followed.
  */
 #ifndef CSAFE_H
 #define CSAFE_H
@@ -20,6 +21,9 @@ extern "C" {
 /* The most bytes of a frame on the wire, and of its contents. */
 #define CSAFE_WIRE_LIMIT 120
 #define CSAFE_CONTENTS_LIMIT 117
+
+/* The bytes of a line reader. */
+#define CSAFE_LINE_LEN 118
 
 /* The bytes of a workout's contents, of a stop on the wire at most, and of a lease table. */
 #define CSAFE_WORKOUT_LEN 23
@@ -43,23 +47,24 @@ enum {
     CSAFE_BAD_TABLE = 18      /* the lease table is not 2,048 bytes long */
 };
 
-/* The kinds of a frame that was read. */
+/* The kinds of a frame that was read, and what stands for a kind where a line reader told nothing. */
 enum {
     CSAFE_STANDARD = 0,
-    CSAFE_EXTENDED = 1
+    CSAFE_EXTENDED = 1,
+    CSAFE_NOTHING = 2
 };
 
 /*
  * The layout of an answer:
  *
  *   bits  0 to  7   the refusal's number, 0 for a result
- *   bits  8 to 15   the kind of the frame that was read
+ *   bits  8 to 15   the kind of the frame that was read, 2 where a line reader told nothing
  *   bits 16 to 23   its destination, 0 for a standard frame
  *   bits 24 to 31   its source, 0 for a standard frame
  *   bits 32 to 63   the length of the result: contents read, or bytes written
  *
- * A refusal has its number and is 0 otherwise. Kind, destination and source are 0 where nothing is read, and the
- * length is 0 for hold and release.
+ * A refusal has its number and is 0 otherwise. Kind, destination and source are 0 for all functions that read no frame,
+ * and the length is 0 for hold and release.
  */
 static inline uint8_t csafe_number(uint64_t answer) { return (uint8_t)(answer & 0xFF); }
 
@@ -91,6 +96,25 @@ uint64_t csafe_write_extended(uint8_t to, uint8_t from, const uint8_t *contents,
  * CSAFE_NO_ROOM.
  */
 uint64_t csafe_read(const uint8_t *wire, size_t wire_len, uint8_t *out, size_t out_len);
+
+/*
+ * A line reader is CSAFE_LINE_LEN bytes and a number that goes with them, its state. A new one has state 0. Any bytes
+ * and any number are a reader.
+ *
+ * Feeds bytes of a line up to the first that is answered and sets `taken` to how many were taken. With no answer, which
+ * is kind CSAFE_NOTHING, all are taken. The next call starts right after the last byte taken. However a stream is cut
+ * into calls, its answers are those of its bytes fed one by one. Contents are the first bytes of the reader.
+ * Refused: CSAFE_TRUNCATED where a start flag comes before the stop flag; at the stop flag, in this order,
+ * CSAFE_TOO_LONG, CSAFE_BAD_ESCAPE, CSAFE_TOO_SHORT, CSAFE_BAD_CHECKSUM.
+ */
+uint64_t csafe_feed(uint8_t bytes[CSAFE_LINE_LEN], uint64_t *state, const uint8_t *input, size_t input_len,
+                    uint64_t *taken);
+
+/*
+ * Ends the input of a line reader, which is as new afterwards. Its bytes stay as they are.
+ * Refused: CSAFE_TRUNCATED where a frame has begun and not ended. Else the kind is CSAFE_NOTHING.
+ */
+uint64_t csafe_finish(uint64_t *state);
 
 /*
  * Writes the contents of a workout over a distance, CSAFE_WORKOUT_LEN bytes, first in the output. The distance is

@@ -1,6 +1,7 @@
 //! The boundary to the static library. Nothing checks these declarations against the library's source, so they
 //! are kept in the order and with the names of `csafe.h`.
 
+use crate::line::HELD_LEN;
 use crate::Error;
 
 #[rustfmt::skip]
@@ -9,6 +10,8 @@ mod exported {
         pub fn csafe_write_standard(contents: *const u8, contents_len: usize, out: *mut u8, out_len: usize) -> u64;
         pub fn csafe_write_extended(to: u8, from: u8, contents: *const u8, contents_len: usize, out: *mut u8, out_len: usize) -> u64;
         pub fn csafe_read(wire: *const u8, wire_len: usize, out: *mut u8, out_len: usize) -> u64;
+        pub fn csafe_feed(bytes: *mut u8, state: *mut u64, input: *const u8, input_len: usize, taken: *mut u64) -> u64;
+        pub fn csafe_finish(state: *mut u64) -> u64;
         pub fn csafe_write_distance_workout(metres: u32, split_metres: u32, watts: u16, out: *mut u8, out_len: usize) -> u64;
         pub fn csafe_write_time_workout(seconds: u32, split_hundredths: u32, watts: u16, out: *mut u8, out_len: usize) -> u64;
         pub fn csafe_hold(table: *mut u8, table_len: usize, address: u32, token: u64) -> u64;
@@ -32,6 +35,11 @@ impl Answer {
             0 => Ok(self),
             number => Err(Error::from_number(number).unwrap_or(Error::Truncated)),
         }
+    }
+
+    /// Whether the line reader told anything. All other functions always do.
+    pub(crate) fn is_told(self) -> bool {
+        self.byte(1) != 2
     }
 
     pub(crate) fn is_extended(self) -> bool {
@@ -85,6 +93,27 @@ pub(crate) fn write_extended(to: u8, from: u8, contents: &[u8], out: &mut [u8]) 
 pub(crate) fn read(wire: &[u8], out: &mut [u8]) -> Answer {
     // SAFETY: as for `write_standard`.
     Answer(unsafe { exported::csafe_read(wire.as_ptr(), wire.len(), out.as_mut_ptr(), out.len()) })
+}
+
+pub(crate) fn feed(bytes: &mut [u8; HELD_LEN], state: &mut u64, input: &[u8]) -> (usize, Answer) {
+    let mut taken = 0;
+    // SAFETY: the first pointer is to as many bytes as the function takes there. The input's comes with its length,
+    // and the function stays within it. The exclusive borrows keep all four apart. Any number is a state.
+    let answer = Answer(unsafe {
+        exported::csafe_feed(
+            bytes.as_mut_ptr(),
+            state,
+            input.as_ptr(),
+            input.len(),
+            &mut taken,
+        )
+    });
+    (taken as usize, answer)
+}
+
+pub(crate) fn finish(state: &mut u64) -> Answer {
+    // SAFETY: the pointer is to a number that is borrowed exclusively, and any number is a state.
+    Answer(unsafe { exported::csafe_finish(state) })
 }
 
 pub(crate) fn write_distance(metres: u32, split: u32, watts: u16, out: &mut [u8]) -> Answer {
@@ -160,6 +189,30 @@ mod tests {
         assert_eq!(read(&extended, out).0, 0x0000_0001_FDFF_0100);
         assert_eq!(read(&extended, &mut []).0, 1);
         assert_eq!(read(&extended[..5], out).0, 6);
+    }
+
+    #[test]
+    fn line_answers_are_whole_numbers_of_the_layout() {
+        let (bytes, state) = (&mut [0; HELD_LEN], &mut 0);
+        let mut feed = |input: &[u8]| {
+            let (taken, answer) = feed(bytes, state, input);
+            (taken, answer.0, *state)
+        };
+        assert_eq!(feed(&[0xF1, 0x00, 0xF2]), (3, 0, 0));
+        assert_eq!(feed(&[]), (0, 0x200, 0));
+        assert_eq!(feed(&[0x41, 0xF2]), (2, 0x200, 0));
+        assert_eq!(feed(&[0xF0, 0xFF, 0xFD]), (3, 0x200, 4 * 2 + 2));
+        assert_eq!(
+            feed(&[0x41, 0x41, 0xF2, 0x41]),
+            (3, 0x0000_0001_FDFF_0100, 0)
+        );
+        assert_eq!(feed(&[0xF1, 0x41, 0x42, 0xF2]), (4, 5, 0));
+        assert_eq!(feed(&[0xF1; 2]), (2, 6, 1));
+        assert_eq!(feed(&[0x41; 119]), (119, 0x200, 3));
+        assert_eq!(feed(&[0xF2]), (1, 2, 0));
+        let mut open = 4 * 2 + 2;
+        assert_eq!((finish(&mut open).0, open), (6, 0));
+        assert_eq!((finish(&mut open).0, open), (0x200, 0));
     }
 
     #[test]

@@ -8,7 +8,7 @@ pub const WIRE_LIMIT: usize = 120;
 /// The most bytes of contents that fit into a frame. An output of this length has room for every frame that is read.
 pub const CONTENTS_LIMIT: usize = 117;
 
-/// What a frame is, apart from its contents, which are the first `len` bytes of the output.
+/// What a frame is, apart from its contents, which are the first `len` bytes of the output or of a line reader.
 #[derive(Clone, Copy, Debug, PartialEq, Eq, Hash)]
 pub enum Frame {
     /// A frame without addresses.
@@ -23,6 +23,19 @@ impl Frame {
         match self {
             Frame::Standard { len } | Frame::Extended { len, .. } => len,
         }
+    }
+
+    /// The frame that an answer tells, which is no refusal.
+    pub(crate) fn told(answer: ffi::Answer) -> Frame {
+        let len = answer.len();
+        if answer.is_extended() {
+            return Frame::Extended {
+                to: answer.to(),
+                from: answer.from(),
+                len,
+            };
+        }
+        Frame::Standard { len }
     }
 }
 
@@ -81,13 +94,5 @@ pub fn write_extended(to: u8, from: u8, contents: &[u8], out: &mut [u8]) -> Resu
 /// # Ok::<(), csafe::Error>(())
 /// ```
 pub fn read(wire: &[u8], out: &mut [u8]) -> Result<Frame, Error> {
-    let answer = ffi::read(wire, out).accepted()?;
-    if answer.is_extended() {
-        return Ok(Frame::Extended {
-            to: answer.to(),
-            from: answer.from(),
-            len: answer.len(),
-        });
-    }
-    Ok(Frame::Standard { len: answer.len() })
+    ffi::read(wire, out).accepted().map(Frame::told)
 }

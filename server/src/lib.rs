@@ -1,8 +1,8 @@
-//! CSAFE frames, programmed workouts and machine leases for a portal's server.
+//! CSAFE frames, also from a live line, programmed workouts and machine leases for a portal's server.
 //!
 //! The work is done by functions that are proved: each takes any bytes and any numbers, returns, and answers a
-//! result or one numbered refusal, an [`Error`]. A refusal leaves every lent byte as it was. After a success the
-//! bytes of the output past the result are as they were.
+//! result or one numbered refusal, an [`Error`]. A refusal leaves every lent byte as it was, but
+//! that a line reader goes on. After a success the bytes of the output past the result are as they were.
 //!
 //! A frame's checksum does not cover its addresses, so an accepted frame says nothing sure about who sent it.
 //!
@@ -25,8 +25,10 @@ mod error;
 mod ffi;
 pub mod frame;
 pub mod lease;
+pub mod line;
 pub mod workout;
 
 pub use error::Error;
 pub use frame::Frame;
 pub use lease::LeaseTable;
+pub use line::LineReader;

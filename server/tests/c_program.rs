@@ -11,6 +11,14 @@ read number=0 kind=1 to=F1 from=00 len=4 bytes=24 02 03 00
 write_standard number=1 kind=0 to=00 from=00 len=0
 write_extended number=2 kind=0 to=00 from=00 len=0
 read number=5 kind=0 to=00 from=00 len=0
+feed number=6 kind=0 to=00 from=00 len=0
+taken=5 state=2
+feed number=0 kind=1 to=F1 from=00 len=1 bytes=41
+taken=6 state=0
+feed number=0 kind=2 to=00 from=00 len=0
+taken=1 state=1
+finish number=6 kind=0 to=00 from=00 len=0
+finish number=0 kind=2 to=00 from=00 len=0
 write_distance_workout number=0 kind=0 to=00 from=00 len=23 bytes=21 03 D1 07 24 1A 07 05 05 80 F4 01 00 00 34 03 C8 00 58 24 02 00 00
 write_distance_workout number=12 kind=0 to=00 from=00 len=0
 write_time_workout number=0 kind=0 to=00 from=00 len=23 bytes=20 03 00 14 00 1A 07 05 05 00 C0 5D 00 00 34 03 64 00 58 24 02 00 00

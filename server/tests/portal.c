@@ -35,6 +35,20 @@ static void frames(void)
     print_written("read", csafe_read(damaged, sizeof damaged, read, sizeof read), read);
 }
 
+static void line(void)
+{
+    static const uint8_t input[] = {0x55, 0xF1, 0x76, 0x04, 0xF0, 0xF3, 0x01, 0x00, 0x41, 0x41, 0xF2, 0xF1};
+    uint8_t bytes[CSAFE_LINE_LEN] = {0};
+    uint64_t state = 0;
+    uint64_t taken = 0;
+    for (size_t at = 0; at < sizeof input; at += taken) {
+        print_written("feed", csafe_feed(bytes, &state, input + at, sizeof input - at, &taken), bytes);
+        printf("taken=%u state=%u\n", (unsigned)taken, (unsigned)state);
+    }
+    print_written("finish", csafe_finish(&state), bytes);
+    print_written("finish", csafe_finish(&state), bytes);
+}
+
 static void workouts(void)
 {
     uint8_t out[CSAFE_WORKOUT_LEN];
@@ -59,6 +73,7 @@ static void leases(void)
 int main(void)
 {
     frames();
+    line();
     workouts();
     leases();
     return 0;

@@ -6,6 +6,7 @@ use independent::frame as plain_rust;
 use crate::common::Xorshift;
 use crate::frame_damage::{damage, damage_with_checksum, Plain, STANDARD_START, STOP};
 use crate::output::{hex, same, told, Output};
+use crate::tally::Tally;
 
 /// Room for every frame and every contents.
 const AMPLE: usize = 256;
@@ -78,28 +79,6 @@ fn written_on_both(plain: &Plain, room: usize) -> Result<Vec<u8>, u8> {
         &input,
     );
     ours.map(|len| our_output.result(len).to_vec())
-}
-
-/// Counts answers by their number, 0 for a result.
-#[derive(Default)]
-struct Tally([usize; 19]);
-
-impl Tally {
-    fn add<T>(&mut self, answer: &Result<T, u8>) {
-        let number = answer.as_ref().err().copied().unwrap_or(0);
-        self.0[usize::from(number)] += 1;
-    }
-
-    /// A comparison shows little of an answer that hardly occurs.
-    fn has_each(&self, numbers: &[usize], least: usize) {
-        for number in numbers {
-            let count = self.0[*number];
-            assert!(
-                count >= least,
-                "answer {number} occurred only {count} times"
-            );
-        }
-    }
 }
 
 #[test]

@@ -9,5 +9,7 @@ mod common;
 mod frame_damage;
 mod frames;
 mod leases;
+mod lines;
 mod output;
+mod tally;
 mod workouts;

@@ -1,0 +1,298 @@
+//! Lines fed to both readers: to ours in chunks of any length, to the independent one byte by byte.
+
+use csafe::line::{self, Told, HELD_LEN};
+use csafe::{Error, Frame, LineReader};
+use independent::frame::Read;
+use independent::line::{Answer, Line};
+
+use crate::common::Xorshift;
+use crate::frame_damage::{
+    damage, damage_with_checksum, Plain, EXTENDED_START, STANDARD_START, STOP,
+};
+use crate::output::{hex, told, Output};
+use crate::tally::Tally;
+
+/// The bytes that decide what becomes of a line, and some that don't.
+const ALPHABET: [u8; 7] = [0xF0, 0xF1, 0xF2, 0xF3, 0x00, 0x01, 0x41];
+
+/// The modes of a reader, as its state counts them.
+const OUTSIDE: u64 = 0;
+const IN_STANDARD: u64 = 1;
+const IN_EXTENDED: u64 = 2;
+const OVERLONG: u64 = 3;
+
+/// What a reader's bytes and state have to be: each byte of an open candidate where it belongs, a frame's contents
+/// first once it is told, and all others as they were.
+struct Held {
+    bytes: Vec<u8>,
+    len: usize,
+    mode: u64,
+}
+
+impl Held {
+    fn take(&mut self, byte: u8, contents: &[u8]) {
+        let start = |mode| (0, mode);
+        (self.len, self.mode) = match byte {
+            EXTENDED_START => start(IN_EXTENDED),
+            STANDARD_START => start(IN_STANDARD),
+            STOP => {
+                self.bytes[..contents.len()].copy_from_slice(contents);
+                (0, OUTSIDE)
+            }
+            _ if self.mode == OUTSIDE || self.mode == OVERLONG => (self.len, self.mode),
+            _ if self.len == HELD_LEN => (0, OVERLONG),
+            _ => {
+                self.bytes[self.len] = byte;
+                (self.len + 1, self.mode)
+            }
+        };
+    }
+
+    fn state(&self) -> u64 {
+        self.mode + 4 * self.len as u64
+    }
+}
+
+/// Both readers. Ours stands twice: on lent bytes between two margins, and as the type that owns its bytes.
+struct Readers {
+    lent: Output,
+    state: u64,
+    owned: LineReader,
+    theirs: Line,
+    held: Held,
+    tally: Tally,
+}
+
+impl Readers {
+    fn new() -> Readers {
+        let lent = Output::new(HELD_LEN);
+        let bytes = lent.result(HELD_LEN).to_vec();
+        Readers {
+            lent,
+            state: 0,
+            owned: LineReader::new(),
+            theirs: Line::new(),
+            held: Held {
+                bytes,
+                len: 0,
+                mode: OUTSIDE,
+            },
+            tally: Tally::default(),
+        }
+    }
+
+    /// Feeds a line, in chunks whose lengths `chunk` chooses from the number of bytes that are left.
+    fn feed(&mut self, line: &[u8], mut chunk: impl FnMut(usize) -> usize) {
+        let mut at = 0;
+        while at < line.len() {
+            let len = chunk(line.len() - at);
+            let input = || format!("{len} bytes from {at} of the line {}", hex(line));
+            at += self.feed_chunk(&line[at..at + len], &input);
+        }
+    }
+
+    fn feed_chunk(&mut self, chunk: &[u8], input: &dyn Fn() -> String) -> usize {
+        let bytes = self
+            .lent
+            .lent()
+            .try_into()
+            .expect("the room is that of a reader");
+        let ours = line::feed(bytes, &mut self.state, chunk);
+        assert_eq!(
+            ours,
+            self.owned.feed(chunk),
+            "lent (left) and owned bytes (right) differ: {}",
+            told(input)
+        );
+        let theirs = self.feed_singly(chunk);
+        assert_eq!(
+            ours,
+            theirs,
+            "ours (left) and the independent answer (right) differ: {}",
+            told(input)
+        );
+        let contents = match ours.1 {
+            Some(Ok(_)) => self.theirs.contents(),
+            _ => &[],
+        };
+        assert!(
+            self.owned.contents() == contents,
+            "the contents differ: ours {}, independent {}: {}",
+            hex(self.owned.contents()),
+            hex(contents),
+            told(input)
+        );
+        self.check_held(input);
+        if let Some(told) = ours.1 {
+            self.tally.add(&told.map_err(Error::number));
+        }
+        ours.0
+    }
+
+    /// The independent reader is fed up to its first answer.
+    fn feed_singly(&mut self, chunk: &[u8]) -> (usize, Told) {
+        for (at, byte) in chunk.iter().enumerate() {
+            let told = as_told(self.theirs.feed(*byte));
+            let contents = match told {
+                Some(Ok(_)) => self.theirs.contents(),
+                _ => &[],
+            };
+            self.held.take(*byte, contents);
+            if told.is_some() {
+                return (at + 1, told);
+            }
+        }
+        (chunk.len(), None)
+    }
+
+    fn finish(&mut self, input: &dyn Fn() -> String) {
+        let ours = line::finish(&mut self.state);
+        let theirs = as_told(self.theirs.finish());
+        self.held.len = 0;
+        self.held.mode = OUTSIDE;
+        assert_eq!(ours, self.owned.finish(), "{}", told(input));
+        assert_eq!(ours.err().map(Err), theirs, "{}", told(input));
+        assert!(self.owned.contents().is_empty(), "{}", told(input));
+        self.check_held(input);
+    }
+
+    fn check_held(&self, input: &dyn Fn() -> String) {
+        assert!(
+            self.lent.result(HELD_LEN) == self.held.bytes,
+            "the reader's bytes are {}, not {}: {}",
+            hex(self.lent.result(HELD_LEN)),
+            hex(&self.held.bytes),
+            told(input)
+        );
+        assert_eq!(self.state, self.held.state(), "the state: {}", told(input));
+        assert!(
+            self.lent.kept_past(HELD_LEN),
+            "bytes around the reader changed: {}",
+            told(input)
+        );
+    }
+}
+
+fn as_told(answer: Answer) -> Told {
+    match answer {
+        Answer::Nothing => None,
+        Answer::Frame(Read::Standard { len }) => Some(Ok(Frame::Standard { len })),
+        Answer::Frame(Read::Extended { to, from, len }) => {
+            Some(Ok(Frame::Extended { to, from, len }))
+        }
+        Answer::Refused(number) => Some(Err(
+            Error::from_number(number).expect("a number of the table")
+        )),
+    }
+}
+
+/// A stretch of a line: a sound frame, a damaged one, stray bytes, or bytes that are mostly flags.
+fn stretch(random: &mut Xorshift) -> Vec<u8> {
+    match random.below(8) {
+        0..=2 => Plain::any(random).wire(),
+        3..=4 => {
+            let mut wire = Plain::any(random).wire();
+            for _ in 0..=random.below(3) {
+                damage(&mut wire, random);
+            }
+            wire
+        }
+        5 => {
+            let mut wire = Plain::any(random).wire();
+            damage_with_checksum(&mut wire, random);
+            wire
+        }
+        6 => {
+            let len = random.below(40);
+            random.bytes(len, 5)
+        }
+        _ => (0..random.below(12))
+            .map(|_| ALPHABET[random.below(ALPHABET.len())])
+            .collect(),
+    }
+}
+
+/// The length of a chunk, often 1 and often all.
+fn any_chunk(random: &mut Xorshift, left: usize) -> usize {
+    match random.below(4) {
+        0 => 1,
+        1 => random.below(8).min(left),
+        2 => random.below(left + 1),
+        _ => left,
+    }
+}
+
+#[test]
+fn every_short_line_is_read_alike() {
+    let mut random = Xorshift::new();
+    for len in 0..=6 {
+        for number in 0..ALPHABET.len().pow(len) {
+            let mut rest = number;
+            let mut line = Vec::new();
+            for _ in 0..len {
+                line.push(ALPHABET[rest % ALPHABET.len()]);
+                rest /= ALPHABET.len();
+            }
+            let mut readers = Readers::new();
+            readers.feed(&line, |left| any_chunk(&mut random, left));
+            readers.finish(&|| format!("finishing after the line {}", hex(&line)));
+        }
+    }
+}
+
+#[test]
+fn random_and_damaged_lines_are_read_alike() {
+    let mut random = Xorshift::new();
+    let mut readers = Readers::new();
+    for number in 0..300_000 {
+        let mut line = Vec::new();
+        for _ in 0..=random.below(4) {
+            line.extend(stretch(&mut random));
+        }
+        if random.below(4) == 0 {
+            line.truncate(random.below(line.len() + 1));
+        }
+        readers.feed(&line, |left| any_chunk(&mut random, left));
+        if random.below(3) == 0 {
+            readers.finish(&|| format!("finishing after line {number}, {}", hex(&line)));
+        }
+    }
+    readers.tally.has_each(&[0, 2, 3, 4, 5, 6], 1_000);
+}
+
+#[test]
+fn candidates_about_the_limit_are_read_alike() {
+    for start in [EXTENDED_START, STANDARD_START] {
+        for len in 110..=130 {
+            for end in [STOP, start] {
+                let mut line = vec![0x00; len + 2];
+                line[0] = start;
+                line[len + 1] = end;
+                for step in 1..=len + 2 {
+                    let mut readers = Readers::new();
+                    readers.feed(&line, |left| step.min(left));
+                    readers.finish(&|| format!("finishing after the line {}", hex(&line)));
+                }
+            }
+        }
+    }
+}
+
+#[test]
+fn long_chunks_are_read_alike() {
+    let mut random = Xorshift::new();
+    let mut line = Vec::new();
+    while line.len() < 1_000_000 {
+        line.extend(stretch(&mut random));
+    }
+    for limit in [65_535, 65_536, 65_537, line.len()] {
+        Readers::new().feed(&line, |left| limit.min(left));
+    }
+    let stray = vec![0x41; 1 << 20];
+    let mut readers = Readers::new();
+    readers.feed(&stray, |left| left);
+    readers.feed(&[STANDARD_START], |left| left);
+    readers.feed(&stray, |left| left);
+    readers.feed(&[STOP], |left| left);
+    readers.tally.has_each(&[2], 1);
+}

@@ -1,0 +1,23 @@
+//! How often each answer occurred.
+
+/// Counts answers by their number, 0 for a result.
+#[derive(Default)]
+pub struct Tally([usize; 19]);
+
+impl Tally {
+    pub fn add<T>(&mut self, answer: &Result<T, u8>) {
+        let number = answer.as_ref().err().copied().unwrap_or(0);
+        self.0[usize::from(number)] += 1;
+    }
+
+    /// A comparison shows little of an answer that hardly occurs.
+    pub fn has_each(&self, numbers: &[usize], least: usize) {
+        for number in numbers {
+            let count = self.0[*number];
+            assert!(
+                count >= least,
+                "answer {number} occurred only {count} times"
+            );
+        }
+    }
+}
