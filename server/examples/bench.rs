@@ -14,13 +14,17 @@ use std::hint::black_box;
 use std::time::Instant;
 
 use common::{Xorshift, SEED};
-use csafe::{frame, lease, Error, Frame};
-use independent::{frame as plain_frame, lease as plain_lease};
+use csafe::{frame, lease, Error, Frame, LineReader};
+use independent::{frame as plain_frame, lease as plain_lease, line as plain_line};
 
 /// Frames of each kind of input, and passes over them in a round.
 const FRAMES: usize = 512;
 const PASSES: usize = 100;
 const ROUNDS: usize = 41;
+
+/// What a line hands over at once, and how often in a pass.
+const CHUNK: usize = 65_536;
+const CHUNKS: usize = 2;
 
 /// The addresses that can be held.
 const MACHINES: std::ops::RangeInclusive<u32> = 0x01..=0xFC;
@@ -186,6 +190,72 @@ fn writing(input: &Input) {
     );
 }
 
+/// A line of so many chunks, made of the pieces again and again.
+fn line_of(pieces: &[Vec<u8>]) -> Vec<u8> {
+    let all = pieces.iter().cycle().flatten().copied();
+    all.take(CHUNK * CHUNKS).collect()
+}
+
+/// A line fed to ours by the chunk and to the plain reader by the byte, which is all that it offers.
+fn reading_line(what: &str, line: &[u8]) {
+    check_line(line);
+    let (mut ours, mut plain) = (LineReader::new(), plain_line::Line::new());
+    row(
+        &format!("line, {what}"),
+        line.len(),
+        1e6,
+        "MB/s",
+        &mut || {
+            for chunk in black_box(line).chunks(CHUNK) {
+                let mut rest = chunk;
+                while !rest.is_empty() {
+                    let (taken, told) = ours.feed(rest);
+                    rest = &rest[taken..];
+                    if let Some(answer) = told {
+                        let _ = black_box((answer, ours.contents()));
+                    }
+                }
+            }
+        },
+        &mut || {
+            for chunk in black_box(line).chunks(CHUNK) {
+                for byte in chunk {
+                    match plain.feed(*byte) {
+                        plain_line::Answer::Nothing => {}
+                        answer => {
+                            black_box((answer, plain.contents()));
+                        }
+                    }
+                }
+            }
+        },
+    );
+}
+
+/// Both sides tell the same frames and refusals at the same bytes, with the same contents.
+fn check_line(line: &[u8]) {
+    let (mut ours, mut plain) = (LineReader::new(), plain_line::Line::new());
+    let mut at = 0;
+    while at < line.len() {
+        let (taken, told) = ours.feed(&line[at..]);
+        let mut last = plain_line::Answer::Nothing;
+        for byte in &line[at..at + taken] {
+            assert_eq!(last, plain_line::Answer::Nothing);
+            last = plain.feed(*byte);
+        }
+        let expected = match last {
+            plain_line::Answer::Nothing => None,
+            plain_line::Answer::Frame(read) => Some(Ok(as_frame(read))),
+            plain_line::Answer::Refused(number) => Some(Err(number)),
+        };
+        assert_eq!(told.map(|told| told.map_err(Error::number)), expected);
+        if let Some(Ok(_)) = told {
+            assert_eq!(ours.contents(), plain.contents());
+        }
+        at += taken;
+    }
+}
+
 /// Calls on every address of a machine, by the holder or by a token that doesn't hold it.
 fn stopping(what: &str, holder: bool) {
     let table = held_table();
@@ -260,6 +330,14 @@ fn main() {
     for input in &inputs {
         writing(input);
     }
+    for input in &inputs {
+        reading_line(input.name, &line_of(&input.wires));
+    }
+    let mut random = Xorshift::new();
+    reading_line("any bytes", &random.bytes(CHUNK * CHUNKS, 0));
+    let stray: Vec<u8> = random.bytes(CHUNK * CHUNKS, 0);
+    let stray: Vec<u8> = stray.iter().map(|byte| byte % 0xF0).collect();
+    reading_line("no flag", &stray);
     stopping("lease stop, by the holder", true);
     stopping("lease stop, refused", false);
 }

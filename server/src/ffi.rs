@@ -30,6 +30,7 @@ impl Answer {
     ///
     /// The library's contracts allow no number outside the table. Should an archive of another version give one,
     /// it is told as `Truncated`, so that it is never taken for a result.
+    #[inline]
     pub(crate) fn accepted(self) -> Result<Answer, Error> {
         match self.byte(0) {
             0 => Ok(self),
@@ -38,26 +39,32 @@ impl Answer {
     }
 
     /// Whether the line reader told anything. All other functions always do.
+    #[inline]
     pub(crate) fn is_told(self) -> bool {
         self.byte(1) != 2
     }
 
+    #[inline]
     pub(crate) fn is_extended(self) -> bool {
         self.byte(1) == 1
     }
 
+    #[inline]
     pub(crate) fn to(self) -> u8 {
         self.byte(2)
     }
 
+    #[inline]
     pub(crate) fn from(self) -> u8 {
         self.byte(3)
     }
 
+    #[inline]
     pub(crate) fn len(self) -> usize {
         (self.0 >> 32) as usize
     }
 
+    #[inline]
     fn byte(self, index: u32) -> u8 {
         (self.0 >> (8 * index)) as u8
     }

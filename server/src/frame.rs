@@ -19,6 +19,7 @@ pub enum Frame {
 
 impl Frame {
     /// The number of bytes of contents.
+    #[inline]
     pub fn contents_len(self) -> usize {
         match self {
             Frame::Standard { len } | Frame::Extended { len, .. } => len,
@@ -26,6 +27,7 @@ impl Frame {
     }
 
     /// The frame that an answer tells, which is no refusal.
+    #[inline]
     pub(crate) fn told(answer: ffi::Answer) -> Frame {
         let len = answer.len();
         if answer.is_extended() {

@@ -15,6 +15,7 @@ pub type Told = Option<Result<Frame, Error>>;
 
 /// As [`LineReader::feed`], on lent bytes and the number that goes with them, which is 0 for a new reader. Any number
 /// and any bytes are a reader. A frame's contents are the first of the bytes.
+#[inline]
 pub fn feed(bytes: &mut [u8; HELD_LEN], state: &mut u64, input: &[u8]) -> (usize, Told) {
     let (taken, answer) = ffi::feed(bytes, state, input);
     let told = answer.is_told().then(|| answer.accepted().map(Frame::told));
@@ -77,6 +78,7 @@ impl LineReader {
     ///
     /// A candidate is refused as [`Error::Truncated`], or, once it has its stop flag, in this order as
     /// [`Error::TooLong`], [`Error::BadEscape`], [`Error::TooShort`] and [`Error::BadChecksum`].
+    #[inline]
     pub fn feed(&mut self, input: &[u8]) -> (usize, Told) {
         let (taken, told) = feed(&mut self.bytes, &mut self.state, input);
         self.contents_len = match told {
@@ -93,6 +95,7 @@ impl LineReader {
     }
 
     /// The contents of the frame that the last call told, and none where it told none.
+    #[inline]
     pub fn contents(&self) -> &[u8] {
         &self.bytes[..self.contents_len]
     }

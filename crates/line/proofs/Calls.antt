@@ -45,10 +45,10 @@ terminated-whole InStandard bytes len = ap judged (left-whole (judge Standard (t
 terminated-whole InExtended bytes len = ap judged (left-whole (judge Extended (take len bytes)) bytes)
 terminated-whole Overlong bytes len = ap judged (left-whole (refused 2) bytes)
 
-abbrev Whole : Turn → Type 0
+abbrev pub Whole : Turn → Type 0
 Whole t = outcomeOf (summaryOf (t .outcome)) (t .next .bytes) ≡ t .outcome
 
-byte-whole : (r : LineReader) (b : ℕ) (t₀ t₁ t₂ : Bool) → Whole (pick t₀ (restartOf r InExtended) (pick t₁ (restartOf r InStandard) (pick t₂ (stopOf r) (growOf r b))))
+pub byte-whole : (r : LineReader) (b : ℕ) (t₀ t₁ t₂ : Bool) → Whole (pick t₀ (restartOf r InExtended) (pick t₁ (restartOf r InStandard) (pick t₂ (stopOf r) (growOf r b))))
 byte-whole r b true t₁ t₂ = truncated-whole (r .mode) (r .bytes)
 byte-whole r b false true t₂ = truncated-whole (r .mode) (r .bytes)
 byte-whole r b false false true = terminated-whole (r .mode) (r .bytes) (r .len)

@@ -39,7 +39,7 @@ module _ (r : LineReader) (s : List ℕ) (i : ℕ) (below : i < length s) where
   abbrev at : Bool → Feeding
   at t = pick t (feeding (stepOf r (getD s i 0) .outcome) (stepOf r (getD s i 0) .next) 1) (plus 1 (feedOf (stepOf r (getD s i 0) .next) (drop (i + 1) s)))
 
-  not-answered : isAnswer (stepOf r (getD s i 0) .outcome) ≡ false
+  pub not-answered : isAnswer (stepOf r (getD s i 0) .outcome) ≡ false
       → plus i (feedOf r (drop i s)) ≡ plus (i + 1) (feedOf (stepOf r (getD s i 0) .next) (drop (i + 1) s))
   not-answered e = ap (plus i) (first ∙ ap at e) ∙ plus-plus i 1 (i + 1) (feedOf (stepOf r (getD s i 0) .next) (drop (i + 1) s)) refl
 

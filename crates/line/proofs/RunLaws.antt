@@ -1,112 +1,68 @@
--- Laws of a run of bytes that are no flags: where it ends, and the reader after it.
+-- Laws of a run of bytes that are no flags, over the loops that skip or hold them.
 use mathlib.Core.Path.{_≡_, refl, sym, ap, _∙_}
-use mathlib.Core.Bool.{true, false, true≢false}
-use mathlib.Core.List.{List, [], _∷_, _++_}
-use native.Mathlib.Numerals.{add-one}
+use mathlib.Core.Bool.{true, false, true≢false, false≢true}
+use mathlib.Core.List.{List}
 use native.Mathlib.Omega.{arith}
-use lib.ListN.{length, take, drop, getD, set, length-drop, take-append-drop, drop-of-length-le}
-use lib.Seq.{drop-cons, take-suc, getD-drop, drop-drop, length-take-le}
-use lib.Dec.{ltb}
-use Prim.Native.Nat.{ℕ, suc, _+_, _-_, _≤_, _<_}
-use borrow.Author.Tests.{lt-ltb, le-ltb, ne-eqb}
-use Rattle.packing.specs.Choice.{pick, noneOf}
+use lib.ListN.{length, drop, getD, set}
+use lib.Dec.{leb}
+use Prim.Native.Nat.{ℕ, _+_, _≤_, _<_}
+use borrow.Author.Tests.{lt-ltb, ne-eqb, leb-true, leb-false}
+use Rattle.packing.specs.Choice.{pick}
 use Rattle.packing.proofs.Cases.{by-bool}
-use Rattle.packing.proofs.Tests.{none-append}
-use Rattle.frame.specs.Stuffing.{isFlag, flagless}
+use Rattle.frame.specs.Stuffing.{isFlag}
 use Rattle.line.specs.Outcome.{nothing}
-use Rattle.line.specs.Reader.{Turn, turn, reader, grownIn, stepOf, Moves}
-use Rattle.line.specs.Feed.{Feeding, plus, feedOf}
-use Rattle.line.specs.Runs.{grownBy, keptBy}
+use Rattle.line.specs.Reader.{Turn, turn, reader, withByte, grownIn, stepOf}
+use Rattle.line.specs.Feed.{isAnswer, plus, feedOf}
+use Rattle.line.specs.Runs.{isHeld, Reaches}
 use Rattle.line.specs.declared.LineReader.{LineReader}
 use Rattle.line.specs.declared.Mode.{Mode}
 use Rattle.line.specs.declared.Mode.the-variants.{Outside, InStandard, InExtended, Overlong}
-use Rattle.line.specs.declared.Moved.{Moved}
-use Rattle.line.proofs.FeedLaws.{plus-zero, plus-plus, fromTurn}
+use Rattle.line.proofs.FeedLaws.{not-answered}
 
--- ---- finding its end
-
-pub run-none : (s : List ℕ) (from : ℕ) → flagless (take (from - from) (drop from s)) ≡ true
-unfolding noneOf
-run-none s from = let z : from - from ≡ 0 = omega arith in ap (λ (n : ℕ). flagless (take n (drop from s))) z
-
-pub run-more : (s : List ℕ) (from i : ℕ) → from ≤ i → i < length s → flagless (take (i - from) (drop from s)) ≡ true → isFlag (getD s i 0) ≡ false
-    → flagless (take (i + 1 - from) (drop from s)) ≡ true
-unfolding noneOf
-run-more s from i h k f e =
-    let a : i + 1 - from ≡ suc (i - from) = omega arith in
-    let b : from + (i - from) ≡ i = omega arith in
-    let g : isFlag (getD (drop from s) (i - from) 0) ≡ false = ap isFlag (getD-drop from s (i - from) 0 ∙ ap (λ (n : ℕ). getD s n 0) b) ∙ e in
-    ap (λ (n : ℕ). flagless (take n (drop from s))) a
-    ∙ ap flagless (take-suc (drop from s) (i - from) 0 (omega (arith, length-drop from s)))
-    ∙ none-append isFlag (take (i - from) (drop from s)) (getD (drop from s) (i - from) 0 ∷ [])
-    ∙ simp (f, g)
-
--- ---- feeding it
+pub stays : (s : List ℕ) (from : ℕ) (r : LineReader) → from ≤ length s → Reaches s from r from r
+stays s from r h = record { onward = omega arith; inside = h; same = refl }
 
 plain-step : (r : LineReader) (b : ℕ) → isFlag b ≡ false → stepOf r b ≡ turn nothing (grownIn (r .mode) r b)
 plain-step r b e =
     simp (ne-eqb b 0xF0 (λ q. true≢false (sym (ap isFlag q) ∙ e)), ne-eqb b 0xF1 (λ q. true≢false (sym (ap isFlag q) ∙ e)), ne-eqb b 0xF2 (λ q. true≢false (sym (ap isFlag q) ∙ e)))
 
-flagless-first : (b : ℕ) (s : List ℕ) → flagless (b ∷ s) ≡ true → (isFlag b ≡ false) × (flagless s ≡ true)
-unfolding noneOf
-flagless-first b s f = by-bool (isFlag b) (λ y. absurd (true≢false (sym f ∙ simp y))) (λ n. (n, simp n at f))
+-- one byte more of a run
+plain-more : (s : List ℕ) (from : ℕ) (r : LineReader) (i : ℕ) (now next : LineReader) → Reaches s from r i now → i < length s → isFlag (getD s i 0) ≡ false
+    → grownIn (now .mode) now (getD s i 0) ≡ next → Reaches s from r (i + 1) next
+plain-more s from r i now next so-far below e grown =
+    let q : stepOf now (getD s i 0) ≡ turn nothing next = plain-step now (getD s i 0) e ∙ ap (turn nothing) grown in
+    record {
+      onward = omega (arith, so-far .onward);
+      inside = omega arith;
+      same = so-far .same ∙ not-answered now s i below (ap (λ (t : Turn). isAnswer (t .outcome)) q) ∙ ap (λ (t : Turn). plus (i + 1) (feedOf (t .next) (drop (i + 1) s))) q;
+    }
 
-run-fed : (r : LineReader) (s rest : List ℕ) → flagless s ≡ true → feedOf r (s ++ rest) ≡ plus (length s) (feedOf (grownBy r s) rest)
-unfolding feedOf grownBy
-run-fed r [] rest f = plus-zero (feedOf r rest)
-run-fed r (b ∷ s) rest f =
-    let k = flagless-first b s f in
-    ap (λ (t : Turn). fromTurn t (s ++ rest)) (plain-step r b (k .0))
-    ∙ ap (plus 1) (run-fed (grownIn (r .mode) r b) s rest (k .1))
-    ∙ plus-plus 1 (length s) (suc (length s)) (feedOf (grownBy (grownIn (r .mode) r b) s) rest) (omega arith)
+unheld : (m : Mode) (r : LineReader) (b : ℕ) → isHeld m ≡ false → grownIn m r b ≡ r
+unheld Outside r b h = refl
+unheld InStandard r b h = absurd (true≢false h)
+unheld InExtended r b h = absurd (true≢false h)
+unheld Overlong r b h = refl
 
--- a turn of a loop over the bytes s, where f is what all of them give: the run from i to j
-pub run-goes-on : (f : Feeding) (r : LineReader) (s : List ℕ) (i j : ℕ) → i ≤ j → j ≤ length s → flagless (take (j - i) (drop i s)) ≡ true
-    → f ≡ plus i (feedOf r (drop i s)) → (bytes : List ℕ) (m : Moved) → Moves bytes m (turn nothing (grownBy r (take (j - i) (drop i s))))
-    → f ≡ plus j (feedOf (reader bytes (m .len) (m .mode)) (drop j s))
-run-goes-on f r s i j h k q so-far bytes m moves =
-    let n : i + (j - i) ≡ j = omega arith in
-    let l : length (take (j - i) (drop i s)) ≡ j - i = length-take-le (j - i) (drop i s) (omega (arith, length-drop i s)) in
-    let d : drop (j - i) (drop i s) ≡ drop j s = drop-drop (j - i) i s ∙ ap (λ (x : ℕ). drop x s) n in
-    so-far
-    ∙ ap (λ (x : List ℕ). plus i (feedOf r x)) (sym (take-append-drop (j - i) (drop i s)))
-    ∙ ap (plus i) (run-fed r (take (j - i) (drop i s)) (drop (j - i) (drop i s)) q)
-    ∙ plus-plus i (length (take (j - i) (drop i s))) j (feedOf (grownBy r (take (j - i) (drop i s))) (drop (j - i) (drop i s))) (omega arith)
-    ∙ ap (λ (x : List ℕ). plus j (feedOf (grownBy r (take (j - i) (drop i s))) x)) d
-    ∙ ap (λ (u : LineReader). plus j (feedOf u (drop j s))) (sym (moves .next-is))
+held : (m : Mode) (r : LineReader) (b : ℕ) → isHeld m ≡ true → grownIn m r b ≡ withByte r b
+held Outside r b h = absurd (false≢true h)
+held InStandard r b h = refl
+held InExtended r b h = refl
+held Overlong r b h = absurd (false≢true h)
 
--- ---- the reader after it
+pub skip-more : (s : List ℕ) (from i : ℕ) → ((r : LineReader) → isHeld (r .mode) ≡ false → Reaches s from r i r) → i < length s → isFlag (getD s i 0) ≡ false
+    → (r : LineReader) → isHeld (r .mode) ≡ false → Reaches s from r (i + 1) r
+skip-more s from i so-far below e r h = plain-more s from r i r r (so-far r h) below e (unheld (r .mode) r (getD s i 0) h)
 
-pub grown-outside : (bytes : List ℕ) (n : ℕ) (s : List ℕ) → reader bytes n Outside ≡ grownBy (reader bytes n Outside) s
-unfolding grownBy
-grown-outside bytes n [] = refl
-grown-outside bytes n (b ∷ s) = grown-outside bytes n s
+pub keep-more : (s : List ℕ) (from : ℕ) (bytes₀ : List ℕ) (len : ℕ) (i : ℕ) (bytes : List ℕ) (n : ℕ)
+    → ((m : Mode) → isHeld m ≡ true → Reaches s from (reader bytes₀ len m) i (reader bytes n m)) → i < length s → isFlag (getD s i 0) ≡ false → n < 118
+    → (m : Mode) → isHeld m ≡ true → Reaches s from (reader bytes₀ len m) (i + 1) (reader (set bytes n (getD s i 0)) (n + 1) m)
+keep-more s from bytes₀ len i bytes n so-far below e l m h =
+    plain-more s from (reader bytes₀ len m) i (reader bytes n m) (reader (set bytes n (getD s i 0)) (n + 1) m) (so-far m h) below e
+    (held m (reader bytes n m) (getD s i 0) h ∙ simp (lt-ltb n 118 l))
 
-pub grown-overlong : (bytes : List ℕ) (n : ℕ) (s : List ℕ) → reader bytes n Overlong ≡ grownBy (reader bytes n Overlong) s
-unfolding grownBy
-grown-overlong bytes n [] = refl
-grown-overlong bytes n (b ∷ s) = grown-overlong bytes n s
-
-pub kept-standard : (bytes : List ℕ) (n : ℕ) (s : List ℕ) → keptBy (reader bytes n InStandard) s ≡ grownBy (reader bytes n InStandard) s
-unfolding grownBy keptBy
-kept-standard bytes n [] = refl
-kept-standard bytes n (b ∷ s) = by-bool (ltb n 118) (λ y. simp y (kept-standard (set bytes n b) (n + 1) s)) (λ y. simp y (grown-overlong bytes 0 s))
-
-pub kept-extended : (bytes : List ℕ) (n : ℕ) (s : List ℕ) → keptBy (reader bytes n InExtended) s ≡ grownBy (reader bytes n InExtended) s
-unfolding grownBy keptBy
-kept-extended bytes n [] = refl
-kept-extended bytes n (b ∷ s) = by-bool (ltb n 118) (λ y. simp y (kept-extended (set bytes n b) (n + 1) s)) (λ y. simp y (grown-overlong bytes 0 s))
-
--- a turn of the loop that keeps the bytes of an open candidate, and its two ends
-module _ (bytes : List ℕ) (n : ℕ) (m : Mode) (s : List ℕ) (k : ℕ) where
-  pub kept-more : k < length s → n < 118 → keptBy (reader bytes n m) (drop k s) ≡ keptBy (reader (set bytes n (getD s k 0)) (n + 1) m) (drop (k + 1) s)
-  unfolding keptBy
-  kept-more h l = ap (keptBy (reader bytes n m)) (drop-cons s k 0 h ∙ ap (λ (x : ℕ). getD s k 0 ∷ drop x s) (sym (add-one k))) ∙ simp (lt-ltb n 118 l)
-
-  pub kept-full : k < length s → 118 ≤ n → keptBy (reader bytes n m) (drop k s) ≡ reader bytes 0 Overlong
-  unfolding keptBy
-  kept-full h l = rw (drop-cons s k 0 h) (simp (le-ltb n 118 l))
-
-  pub kept-end : length s ≤ k → keptBy (reader bytes n m) (drop k s) ≡ reader bytes n m
-  unfolding keptBy
-  kept-end h = ap (keptBy (reader bytes n m)) (drop-of-length-le s {i = k} h)
+-- how far the loop that holds bytes goes
+pub at-most : (room left most : ℕ) → most ≡ pick (leb room left) room left → (most ≤ room) × (most ≤ left)
+at-most room left most e =
+    by-bool (leb room left)
+    (λ y. let q : most ≡ room = e ∙ simp y in (omega arith, omega (arith, leb-true room left y)))
+    (λ y. let q : most ≡ left = e ∙ simp y in (omega (arith, leb-false room left y), omega arith))

@@ -1,18 +1,23 @@
--- A line reader after several bytes that are no flags.
-use mathlib.Core.List.{List, [], _∷_}
-use lib.ListN.{set}
-use lib.Dec.{ltb}
-use Prim.Native.Nat.{ℕ, _+_}
-use Rattle.packing.specs.Choice.{pick}
-use Rattle.line.specs.Reader.{reader, grownIn}
+-- Runs of bytes that are no flags.
+use mathlib.Core.Path.{_≡_}
+use mathlib.Core.Bool.{Bool, true, false}
+use mathlib.Core.List.{List}
+use lib.ListN.{length, drop}
+use Prim.Native.Nat.{ℕ, _≤_}
+use Rattle.line.specs.Feed.{plus, feedOf}
 use Rattle.line.specs.declared.LineReader.{LineReader}
-use Rattle.line.specs.declared.Mode.the-variants.{Overlong}
+use Rattle.line.specs.declared.Mode.{Mode}
+use Rattle.line.specs.declared.Mode.the-variants.{Outside, InStandard, InExtended, Overlong}
 
-unfoldable pub grownBy : LineReader → List ℕ → LineReader
-grownBy r [] = r
-grownBy r (b ∷ bs) = grownBy (grownIn (r .mode) r b) bs
+-- Whether a reader holds the bytes of a run. It does in a candidate that may still be a frame.
+abbrev pub isHeld : Mode → Bool
+isHeld Outside = false
+isHeld InStandard = true
+isHeld InExtended = true
+isHeld Overlong = false
 
--- The same of an open candidate: nothing is held of an over-long one.
-unfoldable pub keptBy : LineReader → List ℕ → LineReader
-keptBy r [] = r
-keptBy r (b ∷ bs) = pick (ltb (r .len) 118) (keptBy (reader (set (r .bytes) (r .len) b) (r .len + 1) (r .mode)) bs) (reader (r .bytes) 0 Overlong)
+-- The bytes of s from an index on give one reader what those from a later index on give the other, both counted from the beginning of s.
+pub record Reaches (s : List ℕ) (from : ℕ) (r : LineReader) (at : ℕ) (next : LineReader) : Type 0 where
+  pub onward : from ≤ at
+  pub inside : at ≤ length s
+  pub same : plus from (feedOf r (drop from s)) ≡ plus at (feedOf next (drop at s))

@@ -132,8 +132,8 @@ pub fn finish_in(mode: Mode) -> Moved
     restart(mode, Mode::Outside)
 }
 
-// Feeds such a reader bytes up to the first that is answered; with no answer it takes all of them. The bytes between two flags go into the
-// array at once, and the flags through `step_in`.
+// Feeds such a reader bytes up to the first that is answered; with no answer it takes all of them. Runs of bytes that
+// are no flags have loops of their own, and the flags go through `step_in`.
 pub fn feed_in(bytes: &mut [u8; 118], len: usize, mode: Mode, input: &[u8]) -> Fed
     ensures { λ r. ⌜ Feeds (now (bytes .exit)) r (feedOf (reader (now (bytes .entry)) len mode) (now (input .entry))) ⌝ }
 {
@@ -141,10 +141,9 @@ pub fn feed_in(bytes: &mut [u8; 118], len: usize, mode: Mode, input: &[u8]) -> F
     let mut m = mode;
     let mut i: usize = 0;
     while i < input.len() {
-        let j = runs::find_flag(input, i);
-        let grown = runs::grow_by(bytes, n, m, &input[i..j]);
-        n = grown.len;
-        m = grown.mode;
+        let run = runs::pass(bytes, n, m, input, i);
+        n = run.len;
+        let j = run.at;
         if input.len() <= j {
             return unanswered(n, m, j);
         }

@@ -1,15 +1,43 @@
-// Bytes that are no flags, many at once.
+// Runs of bytes that are no flags.
 use crate::Mode;
-use crate::Moved;
-use crate::Told;
 ghost use mathlib.Core.Path.{_≡_};
-ghost use mathlib.Core.Bool.{true};
+ghost use mathlib.Core.Bool.{true, false};
 ghost use Prim.Native.Nat.{_≤_, _-_};
-ghost use lib.ListN.{length, take, drop};
-ghost use Rattle.frame.specs.Stuffing.{isFlag, flagless};
-ghost use Rattle.line.specs.Outcome.{nothing};
-ghost use Rattle.line.specs.Reader.{reader, turn, Moves};
-ghost use Rattle.line.specs.Runs.{grownBy, keptBy};
+ghost use lib.ListN.{length};
+ghost use Rattle.frame.specs.Stuffing.{isFlag};
+ghost use Rattle.line.specs.Reader.{reader};
+ghost use Rattle.line.specs.Runs.{isHeld, Reaches};
+ghost use Rattle.line.specs.declared.LineReader.{LineReader};
+ghost use Rattle.line.specs.declared.Mode.{Mode};
+
+// Where a run ends, and how many bytes are held there.
+pub(crate) struct Run {
+    pub(crate) at: usize,
+    pub(crate) len: usize,
+}
+
+// Takes the bytes from an index on up to a flag or to the end, those of an open candidate only while there is room for them.
+pub(crate) fn pass(bytes: &mut [u8; 118], len: usize, mode: Mode, input: &[u8], from: usize) -> Run
+    requires { ⌜ from ≤ length (now input) ⌝ }
+    ensures { λ run. ⌜ Reaches (now (input .entry)) from (reader (now (bytes .entry)) len mode) (run .at) (reader (now (bytes .exit)) (run .len) mode) ⌝ }
+{
+    if is_held(mode) {
+        return keep(bytes, len, input, from);
+    }
+    let at = skip(input, from);
+    Run { at, len }
+}
+
+fn is_held(mode: Mode) -> bool
+    ensures { λ r. ⌜ r ≡ isHeld mode ⌝ }
+{
+    match mode {
+        Mode::Outside => false,
+        Mode::InStandard => true,
+        Mode::InExtended => true,
+        Mode::Overlong => false,
+    }
+}
 
 fn is_flag(b: u8) -> bool
     ensures { λ r. ⌜ r ≡ isFlag b ⌝ }
@@ -20,12 +48,10 @@ fn is_flag(b: u8) -> bool
     b <= crate::STOP
 }
 
-// The index of a flag with no flag before it from an index on, or the end.
-pub(crate) fn find_flag(input: &[u8], from: usize) -> usize
+// Bytes that are not held.
+fn skip(input: &[u8], from: usize) -> usize
     requires { ⌜ from ≤ length (now input) ⌝ }
-    ensures { λ r. ⌜ from ≤ r ⌝ }
-    ensures { λ r. ⌜ r ≤ length (now (input .entry)) ⌝ }
-    ensures { λ r. ⌜ flagless (take (r - from) (drop from (now (input .entry)))) ≡ true ⌝ }
+    ensures { λ at. ⌜ ((r : LineReader) → isHeld (r .mode) ≡ false → Reaches (now (input .entry)) from r at r) ⌝ }
 {
     let mut i = from;
     while i < input.len() {
@@ -37,31 +63,33 @@ pub(crate) fn find_flag(input: &[u8], from: usize) -> usize
     i
 }
 
-// A reader whose array is lent, after a run of bytes that are no flags.
-pub(crate) fn grow_by(bytes: &mut [u8; 118], len: usize, mode: Mode, run: &[u8]) -> Moved
-    ensures { λ r. ⌜ Moves (now (bytes .exit)) r (turn nothing (grownBy (reader (now (bytes .entry)) len mode) (now (run .entry)))) ⌝ }
+// How many bytes more may be held.
+fn room_after(len: usize) -> usize
+    ensures { λ r. ⌜ r ≡ 118 - len ⌝ }
 {
-    match mode {
-        Mode::Outside => crate::unmoved(len, mode),
-        Mode::InStandard => keep(bytes, len, mode, run),
-        Mode::InExtended => keep(bytes, len, mode, run),
-        Mode::Overlong => crate::unmoved(len, mode),
+    if len < crate::ROOM {
+        return crate::ROOM - len;
     }
+    0
 }
 
-// The same where a candidate is open.
-fn keep(bytes: &mut [u8; 118], len: usize, mode: Mode, run: &[u8]) -> Moved
-    ensures { λ r. ⌜ Moves (now (bytes .exit)) r (turn nothing (keptBy (reader (now (bytes .entry)) len mode) (now (run .entry)))) ⌝ }
+// Bytes that are held.
+fn keep(bytes: &mut [u8; 118], len: usize, input: &[u8], from: usize) -> Run
+    requires { ⌜ from ≤ length (now input) ⌝ }
+    ensures { λ run. ⌜ ((mode : Mode) → isHeld mode ≡ true → Reaches (now (input .entry)) from (reader (now (bytes .entry)) len mode) (run .at) (reader (now (bytes .exit)) (run .len) mode)) ⌝ }
 {
+    let most = packing::lesser(room_after(len), input.len() - from);
+    let end = from + most;
     let mut n = len;
-    let mut k: usize = 0;
-    while k < run.len() {
-        if crate::ROOM <= n {
-            return crate::unmoved(crate::FRESH, Mode::Overlong);
+    let mut i = from;
+    while i < end {
+        let b = input[i];
+        if is_flag(b) {
+            return Run { at: i, len: n };
         }
-        bytes[n] = run[k];
+        bytes[n] = b;
         n += 1;
-        k += 1;
+        i += 1;
     }
-    crate::unmoved(n, mode)
+    Run { at: i, len: n }
 }
