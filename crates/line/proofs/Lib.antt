@@ -4,4 +4,5 @@ pub mod Consequences
 pub mod FeedLaws
 pub mod RunLaws
 pub mod ChunkLaws
+pub mod ChunkCalls
 pub mod FeedBounds
