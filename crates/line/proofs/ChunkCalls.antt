@@ -3,7 +3,7 @@ use mathlib.Core.Path.{_≡_, refl, sym, ap, _∙_, subst}
 use mathlib.Core.Bool.{Bool, true, false}
 use mathlib.Core.List.{List, [], _∷_, _++_}
 use lib.Dec.{eqb}
-use lib.ListN.{drop}
+use lib.ListN.{length, drop}
 use Prim.Native.Nat.{ℕ}
 use contract.Lifetimes.{Lfts}
 use denote.Ref.{RefT}
@@ -11,12 +11,13 @@ use Rattle.packing.specs.Choice.{pick}
 use Rattle.framing.specs.Reference.{Reference}
 use Rattle.framing.specs.Demand3.{feed}
 use Rattle.line.specs.Outcome.{Outcome, Summary, toldMeans, summaryOf, outcomeOf}
-use Rattle.line.specs.Reader.{Turn, reader, newReader, stepOf}
+use Rattle.line.specs.Reader.{Turn, reader, stepOf}
 use Rattle.line.specs.Rowing.{rowing}
 use Rattle.line.specs.Feed.{isAnswer, Feeding, feeding, plus, feedOf, Feeds}
 use Rattle.line.specs.Chunks.{withAnswer, answersIn, afterBytes, Chunks, done, chunk}
 use Rattle.line.specs.declared.LineReader.{LineReader}
 use Rattle.line.specs.declared.Mode.{Mode}
+use Rattle.line.specs.declared.Mode.the-variants.{Outside}
 use Rattle.line.specs.declared.Fed.{Fed}
 use Rattle.line.proofs.Calls.{Whole, byte-whole}
 use Rattle.line.proofs.ChunkLaws.{chunks-singly, chunks-follow}
@@ -69,8 +70,8 @@ chunks-in done-in = done
 chunks-in (chunk-in κs ρ ρ′ given {len = len} {mode = mode} {f = f} {rest = rest} {last = last} later k t) =
     one-chunk (reader (ρ .now) len mode) (ρ′ .now) f (given .now) later rest last k (chunks-in t)
 
--- However a stream is cut, from the array, length and mode of a new reader: the answers are those of the reference decoder, and the reader
--- left is that of the bytes fed singly.
-pub lent-chunks-follow : (stream : List ℕ) (answers : List Outcome) (last : LineReader) → ChunksIn (newReader .bytes) (newReader .len) (newReader .mode) stream answers last
-    → (answers ≡ answersIn (Reference rowing (feed stream))) × (last ≡ afterBytes newReader stream)
-lent-chunks-follow stream answers last t = (chunks-follow (chunks-in t), chunks-singly (chunks-in t) .1)
+-- However a stream is cut, from any array and any length outside of a candidate: the answers are those of the reference decoder, and the
+-- reader left is that of the bytes fed singly.
+pub lent-chunks-follow : (bytes : List ℕ) (len : ℕ) → length bytes ≡ 118 → (stream : List ℕ) (answers : List Outcome) (last : LineReader)
+    → ChunksIn bytes len Outside stream answers last → (answers ≡ answersIn (Reference rowing (feed stream))) × (last ≡ afterBytes (reader bytes len Outside) stream)
+lent-chunks-follow bytes len h stream answers last t = (chunks-follow bytes len h (chunks-in t), chunks-singly (chunks-in t) .1)

@@ -3,18 +3,19 @@ use mathlib.Core.Path.{_≡_, refl, sym, ap, _∙_}
 use mathlib.Core.Bool.{Bool, true, false}
 use mathlib.Core.List.{List, [], _∷_, _++_}
 use native.Mathlib.Omega.{arith}
-use lib.ListN.{drop}
+use lib.ListN.{length, drop}
 use Prim.Native.Nat.{ℕ, suc, _+_}
 use Rattle.packing.specs.Choice.{pick}
 use Rattle.framing.specs.Reference.{Reference, run}
 use Rattle.framing.specs.Demand3.{feed}
 use Rattle.line.specs.Outcome.{Outcome}
-use Rattle.line.specs.Reader.{Turn, newReader, stepOf}
+use Rattle.line.specs.Reader.{Turn, reader, stepOf}
 use Rattle.line.specs.Rowing.{rowing, outcomeAt, nextAfter}
 use Rattle.line.specs.Feed.{isAnswer, Feeding, feeding, plus, feedOf}
 use Rattle.line.specs.Chunks.{withAnswer, answersIn, afterBytes, Chunks, done, chunk}
 use Rattle.line.specs.declared.LineReader.{LineReader}
-use Rattle.line.proofs.Follows.{reader-follows}
+use Rattle.line.specs.declared.Mode.the-variants.{Outside}
+use Rattle.line.proofs.Follows.{outside-follows}
 
 -- the answers of bytes fed singly
 abbrev singly : LineReader → List ℕ → List Outcome
@@ -48,7 +49,7 @@ chunks-singly (chunk {r = r} given later t) =
     let k = goes r given later in
     (ap (withAnswer (feedOf r given .outcome)) (chunks-singly t .0) ∙ sym (k .answers), chunks-singly t .1 ∙ sym (k .left))
 
--- From a new reader the answers are those of the reference decoder.
-pub chunks-follow : {last : LineReader} {stream : List ℕ} {answers : List Outcome} → Chunks newReader stream answers last
-    → answers ≡ answersIn (Reference rowing (feed stream))
-chunks-follow {stream = stream} t = chunks-singly t .0 ∙ ap answersIn (reader-follows .same (feed stream))
+-- From a reader that is outside of a candidate, as a new one is, the answers are those of the reference decoder.
+pub chunks-follow : (bytes : List ℕ) (len : ℕ) → length bytes ≡ 118 → {last : LineReader} {stream : List ℕ} {answers : List Outcome}
+    → Chunks (reader bytes len Outside) stream answers last → answers ≡ answersIn (Reference rowing (feed stream))
+chunks-follow bytes len h {stream = stream} t = chunks-singly t .0 ∙ ap answersIn (outside-follows bytes len h .same (feed stream))

@@ -13,7 +13,7 @@ use borrow.Author.Tests.{ltb-true, ltb-false, eqb-true, eqb-false}
 use Rattle.packing.specs.Choice.{pick, noneOf}
 use Rattle.packing.proofs.Cases.{by-bool}
 use Rattle.packing.proofs.Tests.{within-true, none-append}
-use Rattle.framing.specs.Reference.{Call, byte, finish, Role, starts, stops, plain, Candidate, none, opened, byteAnswer, byteAfter, endAnswer, answerTo, after}
+use Rattle.framing.specs.Reference.{Call, byte, finish, Role, starts, stops, plain, Candidate, none, opened, byteAnswer, byteAfter, endAnswer, answerTo, after, run}
 use Rattle.framing.specs.Demand3.{Follows}
 use Rattle.framing.proofs.Restart.{follows}
 use Rattle.frame.specs.Stuffing.{isFlag, flagless}
@@ -24,8 +24,8 @@ use Rattle.frame.specs.declared.Kind.{Kind}
 use Rattle.frame.specs.declared.Kind.the-variants.{Standard, Extended}
 use Rattle.frame.proofs.VerdictLaws.{whole-verdict, judge-long}
 use Rattle.frame.proofs.ContentsLaws.{left-length}
-use Rattle.line.specs.Outcome.{judged}
-use Rattle.line.specs.Reader.{Turn, reader, newReader, truncatedIn, terminatedIn, leftBy, withByte, grownIn, restartOf, stopOf, growOf}
+use Rattle.line.specs.Outcome.{judged, zeros}
+use Rattle.line.specs.Reader.{Turn, reader, truncatedIn, terminatedIn, leftBy, withByte, grownIn, restartOf, stopOf, growOf}
 use Rattle.line.specs.Rowing.{rowing, outcomeAt, nextAfter, readerAnswers}
 use Rattle.line.specs.declared.Mode.{Mode}
 use Rattle.line.specs.declared.Mode.the-variants.{Outside, InStandard, InExtended, Overlong}
@@ -138,6 +138,10 @@ call-at : (r : LineReader) (k : Candidate) (c : Call) → StandsFor r k → (out
 call-at r k (byte b) s = byte-at r k b s (eqb b 0xF0) (eqb b 0xF1) (eqb b 0xF2) refl refl refl
 call-at r k finish s = (truncated-at (r .mode) (r .bytes) (r .len) k 0 (s .1) .1, (s .0, refl))
 
+-- Demand 3 of any reader that is outside of a candidate: what its array and its length are doesn't matter.
+pub outside-follows : (bytes : List ℕ) (len : ℕ) → length bytes ≡ 118 → Follows rowing (run outcomeAt nextAfter (reader bytes len Outside))
+outside-follows bytes len h = follows rowing outcomeAt nextAfter StandsFor call-at (reader bytes len Outside) (h, refl)
+
 -- Demand 3, whole: every list of calls on a new reader is answered as the reference decoder answers it, and D, W and L as the minutes say.
 pub reader-follows : Follows rowing readerAnswers
-reader-follows = follows rowing outcomeAt nextAfter StandsFor call-at newReader (refl, refl)
+reader-follows = outside-follows zeros 0 refl

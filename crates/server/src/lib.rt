@@ -9,6 +9,8 @@ use workout::Metres;
 use workout::Seconds;
 use workout::Workout;
 ghost use mathlib.Core.Path.{_≡_};
+ghost use mathlib.Core.List.{List};
+ghost use Prim.Native.Nat.{ℕ};
 ghost use lib.ListN.{length};
 ghost use Rattle.packing.specs.Draft.{draftAnswer, draftOut};
 ghost use Rattle.frame.specs.Frame.{standard, extended};
@@ -22,8 +24,6 @@ ghost use Rattle.lease.specs.Answers.{told, outAfter};
 ghost use Rattle.server.specs.Packed.{Tells};
 ghost use Rattle.server.specs.Answers.{writeFields, readFields, leaseFields};
 ghost use Rattle.server.specs.LineAnswers.{fedTo, finished, FedAs, FinishedAs};
-ghost use mathlib.Core.List.{List};
-ghost use Prim.Native.Nat.{ℕ};
 
 // Writes a standard frame. Refusals 2 and 1.
 #[no_mangle]
