@@ -105,7 +105,7 @@ pub(crate) fn of_told(told: Told) -> u64
     match told {
         Told::Nothing => result(UNTOLD, NONE, NONE, 0),
         Told::Refused(why) => refused(why),
-        Told::Standard { len } => result(STANDARD, NONE, NONE, len as u32),
-        Told::Extended { to, from, len } => result(EXTENDED, to, from, len as u32),
+        Told::Standard { len } => of_read(Read::Standard { len }),
+        Told::Extended { to, from, len } => of_read(Read::Extended { to, from, len }),
     }
 }

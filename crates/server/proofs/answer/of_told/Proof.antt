@@ -22,20 +22,14 @@ refused-requires c κs = search needs
 enum-known-told-2 : tie.Need-enum-known-told-2
 enum-known-told-2 c = search needs
 
-cast-result : tie.Need-cast-result
-cast-result c = omega (arith, subst (λ (o : Told). Within 118 (toldMeans o)) (c .before .told2 .given .1) (c .before .before .before .pre))
-
-result-requires-2 : tie.Need-result-requires-2
-result-requires-2 c κs = search needs
+of-read-requires : tie.Need-of-read-requires
+of-read-requires c κs = omega (arith, subst (λ (o : Told). Within 118 (toldMeans o)) (c .before .told2 .given .1) (c .before .before .before .pre))
 
 enum-known-told-3 : tie.Need-enum-known-told-3
 enum-known-told-3 c = search needs
 
-cast-result-2 : tie.Need-cast-result-2
-cast-result-2 c = omega (arith, subst (λ (o : Told). Within 118 (toldMeans o)) (c .before .told3 .given .1) (c .before .before .before .pre))
-
-result-requires-3 : tie.Need-result-requires-3
-result-requires-3 c κs = search needs
+of-read-requires-2 : tie.Need-of-read-requires-2
+of-read-requires-2 c κs = omega (arith, subst (λ (o : Told). Within 118 (toldMeans o)) (c .before .told3 .given .1) (c .before .before .before .pre))
 
 returns : tie.Need-returns
 returns c = rw (c .before .enum-told .given .1) (c .result .ensures)
@@ -44,10 +38,10 @@ returns-2 : tie.Need-returns-2
 returns-2 c = rw (c .before .before .told .given .1) (c .refused .ensures)
 
 returns-3 : tie.Need-returns-3
-returns-3 c = rw (c .before .before .told2 .given .1) (c .result2 .ensures)
+returns-3 c = rw (c .before .before .told2 .given .1) (c .of-read .ensures)
 
 returns-4 : tie.Need-returns-4
-returns-4 c = rw (c .before .before .told3 .given .1) (c .result3 .ensures)
+returns-4 c = rw (c .before .before .told3 .given .1) (c .of-read2 .ensures)
 
 pub of-told-spec : {M : Type 1} → statement M
 of-told-spec =
@@ -58,11 +52,9 @@ of-told-spec =
     enum-known-told
     refused-requires
     enum-known-told-2
-    cast-result
-    result-requires-2
+    of-read-requires
     enum-known-told-3
-    cast-result-2
-    result-requires-3
+    of-read-requires-2
     returns
     returns-2
     returns-3
