@@ -3,9 +3,9 @@ use Prim.Native.Nat.{ℕ, _/_, _%_, _^_, _<_}
 use mathlib.Core.Path.{_≡_, sym, ap, _∙_, subst}
 use mathlib.Core.List.{List, []}
 use native.Mathlib.Omega.{arith}
-use Rattle.line.specs.Outcome.{Summary, toldMeans, summaryOf}
+use Rattle.line.specs.Outcome.{Summary, toldMeans}
 use Rattle.line.specs.Within.{Within}
-use Rattle.line.specs.Reader.{Turn, reader, truncatedIn, finishOf, Moves}
+use Rattle.line.specs.Reader.{reader, finishOf, Moves}
 use Rattle.line.specs.Feed.{Feeding, feedOf, Feeds}
 use Rattle.line.specs.declared.LineReader.{LineReader}
 use Rattle.line.specs.declared.Mode.{Mode}
@@ -15,6 +15,7 @@ use Rattle.line.proofs.FeedBounds.{feed-within, truncated-within, feed-len}
 use Rattle.server.specs.Packed.{Tells}
 use Rattle.server.specs.LineState.{modeOf, stateOf, readerIn}
 use Rattle.server.specs.LineAnswers.{lineFields, fedTo, finished, FedAs, FinishedAs}
+use Rattle.server.proofs.LineStateLaws.{state-tells}
 
 module _ (bytes input left : List ℕ) (len : ℕ) (mode : Mode) (f : Fed) (feeds : Feeds left f (feedOf (reader bytes len mode) input)) where
   -- the length that is left has room in the state
@@ -54,3 +55,12 @@ module _ (mode : Mode) (m : Moved) (moves : (bytes : List ℕ) (len : ℕ) → M
         answered = subst (λ (s : Summary). Tells answer (lineFields s)) (k .told-is) t;
         state-left = es ∙ ap (λ (u : LineReader). stateOf (u .len) (u .mode)) (k .next-is);
       })
+
+-- The reader that the next call finds in the array and the state is the one that the bytes left, so a portal's calls are the line reader's.
+pub fed-next : (answer : ℕ) (bytes : List ℕ) (state taken : ℕ) (f : Feeding) → FedAs answer bytes state taken f → readerIn bytes state ≡ f .next
+fed-next answer bytes state taken f k =
+    ap (readerIn bytes) (k .state-left) ∙ state-tells bytes (f .next .len) (f .next .mode) ∙ ap (λ (b : List ℕ). reader b (f .next .len) (f .next .mode)) (k .bytes-left)
+
+pub finished-next : (answer : ℕ) (bytes : List ℕ) (state₀ state : ℕ) → FinishedAs answer state (finished bytes state₀) → readerIn bytes state ≡ finished bytes state₀ .next
+finished-next answer bytes state₀ state k =
+    ap (readerIn bytes) (k .state-left) ∙ state-tells bytes (finished bytes state₀ .next .len) (finished bytes state₀ .next .mode)

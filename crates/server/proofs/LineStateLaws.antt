@@ -10,7 +10,6 @@ use Rattle.packing.specs.Choice.{pick}
 use Rattle.frame.specs.Answers.{ReadAnswer, readStandard, readExtended, notRead}
 use Rattle.line.specs.Outcome.{silent, tells}
 use Rattle.line.specs.Reader.{reader}
-use Rattle.line.specs.declared.LineReader.{LineReader}
 use Rattle.line.specs.declared.Mode.{Mode}
 use Rattle.line.specs.declared.Mode.the-variants.{Outside, InStandard, InExtended, Overlong}
 use Rattle.server.specs.Packed.{Fields, Tells}

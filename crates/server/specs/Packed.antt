@@ -2,7 +2,8 @@
 use Prim.Native.Nat.{ℕ, _+_, _*_, _/_, _%_, _^_, _<_}
 use mathlib.Core.Path.{_≡_}
 
--- What it tells: a refusal's number, 0 for a result; the kind of frame, 0 for standard and 1 for extended; the addresses; the length.
+-- What it tells: a refusal's number, 0 for a result; the kind of frame, 0 for standard, 1 for extended and 2
+-- where a line reader told nothing; the addresses; the length.
 pub record Fields : Type 0 where
   pub number : ℕ
   pub kind : ℕ
