@@ -72,11 +72,13 @@ impl Error {
     ];
 
     /// The number of the table.
+    #[inline]
     pub fn number(self) -> u8 {
         self as u8
     }
 
     /// The refusal with this number. There is none for 0, 16, 17 and anything above 18.
+    #[inline]
     pub fn from_number(number: u8) -> Option<Error> {
         Error::ALL
             .into_iter()

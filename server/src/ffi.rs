@@ -70,6 +70,7 @@ impl Answer {
     }
 }
 
+#[inline]
 pub(crate) fn write_standard(contents: &[u8], out: &mut [u8]) -> Answer {
     // SAFETY: each pointer comes with the length of its slice, and the function stays within them. The exclusive
     // borrow of the output keeps the two apart.
@@ -83,6 +84,7 @@ pub(crate) fn write_standard(contents: &[u8], out: &mut [u8]) -> Answer {
     })
 }
 
+#[inline]
 pub(crate) fn write_extended(to: u8, from: u8, contents: &[u8], out: &mut [u8]) -> Answer {
     // SAFETY: as for `write_standard`; any addresses are taken.
     Answer(unsafe {
@@ -97,11 +99,13 @@ pub(crate) fn write_extended(to: u8, from: u8, contents: &[u8], out: &mut [u8]) 
     })
 }
 
+#[inline]
 pub(crate) fn read(wire: &[u8], out: &mut [u8]) -> Answer {
     // SAFETY: as for `write_standard`.
     Answer(unsafe { exported::csafe_read(wire.as_ptr(), wire.len(), out.as_mut_ptr(), out.len()) })
 }
 
+#[inline]
 pub(crate) fn feed(bytes: &mut [u8; HELD_LEN], state: &mut u64, input: &[u8]) -> (usize, Answer) {
     let mut taken = 0;
     // SAFETY: the first pointer is to as many bytes as the function takes there. The input's comes with its length,
@@ -118,11 +122,13 @@ pub(crate) fn feed(bytes: &mut [u8; HELD_LEN], state: &mut u64, input: &[u8]) ->
     (taken as usize, answer)
 }
 
+#[inline]
 pub(crate) fn finish(state: &mut u64) -> Answer {
     // SAFETY: the pointer is to a number that is borrowed exclusively, and any number is a state.
     Answer(unsafe { exported::csafe_finish(state) })
 }
 
+#[inline]
 pub(crate) fn write_distance(metres: u32, split: u32, watts: u16, out: &mut [u8]) -> Answer {
     // SAFETY: the pointer comes with the length of its slice, which is borrowed exclusively; any numbers are taken.
     Answer(unsafe {
@@ -130,6 +136,7 @@ pub(crate) fn write_distance(metres: u32, split: u32, watts: u16, out: &mut [u8]
     })
 }
 
+#[inline]
 pub(crate) fn write_time(seconds: u32, split: u32, watts: u16, out: &mut [u8]) -> Answer {
     // SAFETY: as for `write_distance`.
     Answer(unsafe {
@@ -137,16 +144,19 @@ pub(crate) fn write_time(seconds: u32, split: u32, watts: u16, out: &mut [u8]) -
     })
 }
 
+#[inline]
 pub(crate) fn hold(table: &mut [u8], address: u32, token: u64) -> Answer {
     // SAFETY: as for `write_distance`; a table of any length is taken.
     Answer(unsafe { exported::csafe_hold(table.as_mut_ptr(), table.len(), address, token) })
 }
 
+#[inline]
 pub(crate) fn release(table: &mut [u8], address: u32, token: u64) -> Answer {
     // SAFETY: as for `hold`.
     Answer(unsafe { exported::csafe_release(table.as_mut_ptr(), table.len(), address, token) })
 }
 
+#[inline]
 pub(crate) fn stop(table: &[u8], address: u32, token: u64, out: &mut [u8]) -> Answer {
     // SAFETY: each pointer comes with the length of its slice, and the table is only read. The exclusive borrow of
     // the output keeps the two apart.

@@ -53,6 +53,7 @@ impl Frame {
 /// assert_eq!(wire[..len], [0xF1, 0xF3, 0x01, 0xF3, 0x01, 0xF2]);
 /// # Ok::<(), csafe::Error>(())
 /// ```
+#[inline]
 pub fn write_standard(contents: &[u8], out: &mut [u8]) -> Result<usize, Error> {
     Ok(ffi::write_standard(contents, out).accepted()?.len())
 }
@@ -72,6 +73,7 @@ pub fn write_standard(contents: &[u8], out: &mut [u8]) -> Result<usize, Error> {
 /// assert_eq!(wire[..len], [0xF0, 0x05, 0x00, 0x80, 0x80, 0xF2]);
 /// # Ok::<(), csafe::Error>(())
 /// ```
+#[inline]
 pub fn write_extended(to: u8, from: u8, contents: &[u8], out: &mut [u8]) -> Result<usize, Error> {
     Ok(ffi::write_extended(to, from, contents, out)
         .accepted()?
@@ -95,6 +97,7 @@ pub fn write_extended(to: u8, from: u8, contents: &[u8], out: &mut [u8]) -> Resu
 /// assert_eq!(frame::read(&[0xF1, 0xF3, 0x04, 0xF2], &mut contents), Err(Error::BadEscape));
 /// # Ok::<(), csafe::Error>(())
 /// ```
+#[inline]
 pub fn read(wire: &[u8], out: &mut [u8]) -> Result<Frame, Error> {
     ffi::read(wire, out).accepted().map(Frame::told)
 }

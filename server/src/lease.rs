@@ -17,18 +17,21 @@ pub const TABLE_LEN: usize = 2_048;
 pub const STOP_LIMIT: usize = 12;
 
 /// As [`LeaseTable::hold`], on lent bytes.
+#[inline]
 pub fn hold(table: &mut [u8], address: u32, token: u64) -> Result<(), Error> {
     ffi::hold(table, address, token).accepted()?;
     Ok(())
 }
 
 /// As [`LeaseTable::release`], on lent bytes.
+#[inline]
 pub fn release(table: &mut [u8], address: u32, token: u64) -> Result<(), Error> {
     ffi::release(table, address, token).accepted()?;
     Ok(())
 }
 
 /// As [`LeaseTable::stop`], on lent bytes.
+#[inline]
 pub fn stop(table: &[u8], address: u32, token: u64, out: &mut [u8]) -> Result<usize, Error> {
     Ok(ffi::stop(table, address, token, out).accepted()?.len())
 }
@@ -92,6 +95,7 @@ impl LeaseTable {
     ///
     /// Refused, in this order, as [`Error::BadAddress`], [`Error::ZeroToken`] and [`Error::AlreadyHeld`], the last
     /// for the holder's own token too.
+    #[inline]
     pub fn hold(&mut self, address: u32, token: u64) -> Result<(), Error> {
         hold(self.bytes.as_mut_slice(), address, token)
     }
@@ -99,6 +103,7 @@ impl LeaseTable {
     /// Frees an address for its holder. Only its own eight bytes change.
     ///
     /// Refused, in this order, as [`Error::BadAddress`] and [`Error::NotHolder`].
+    #[inline]
     pub fn release(&mut self, address: u32, token: u64) -> Result<(), Error> {
         release(self.bytes.as_mut_slice(), address, token)
     }
@@ -107,6 +112,7 @@ impl LeaseTable {
     /// the address and may stop it again.
     ///
     /// Refused, in this order, as [`Error::BadAddress`], [`Error::NotHolder`] and [`Error::NoRoom`].
+    #[inline]
     pub fn stop(&self, address: u32, token: u64, out: &mut [u8]) -> Result<usize, Error> {
         stop(self.bytes.as_slice(), address, token, out)
     }

@@ -25,6 +25,7 @@ pub const LEN: usize = 23;
 /// assert_eq!(too_many, Err(Error::OutOfLimits));
 /// # Ok::<(), csafe::Error>(())
 /// ```
+#[inline]
 pub fn write_distance(
     metres: u32,
     split_metres: u32,
@@ -51,6 +52,7 @@ pub fn write_distance(
 /// assert_eq!(contents[..5], [0x20, 0x03, 0, 20, 0]);
 /// # Ok::<(), csafe::Error>(())
 /// ```
+#[inline]
 pub fn write_time(
     seconds: u32,
     split_hundredths: u32,

@@ -1,12 +1,13 @@
 -- Laws of the checksum.
-use Prim.Native.Nat.{ℕ, suc, _+_, _-_, _≤_, _<_}
+use Prim.Native.Nat.{ℕ, zero, suc, _+_, _-_, _/_, _%_, _≤_, _<_}
 use mathlib.Core.Path.{_≡_, refl, sym, ap, _∙_}
 use mathlib.Core.List.{List, [], _∷_, _++_}
 use native.Mathlib.Numerals.{add-one}
 use native.Mathlib.Omega.{arith}
-use lib.Bits.{bitXor, xor-self, xor-add-and, and-le-l, and-le-r}
-use lib.ListN.{length, getD, drop, length-drop, drop-of-length-le}
+use lib.Bits.{bitXor, xor-self, xor-comm, xor-zero-l, xor-zero-r, xor-shr, xor-mod, xor-shifted, xor-add-and, and-le-l, and-le-r}
+use lib.ListN.{length, getD, take, drop, length-drop, drop-of-length-le}
 use lib.Seq.{take-suc, drop-cons, take-all, getD-drop}
+use Rattle.packing.proofs.Lists.{last-apart}
 use Rattle.frame.specs.Checksum.{sumFrom, checksum}
 use Rattle.frame.specs.Verdict.{contentsIn, lastOf}
 
@@ -19,10 +20,17 @@ pub sumFrom-end : (acc : ℕ) (s : List ℕ) (i : ℕ) → length s ≤ i → su
 unfolding sumFrom
 sumFrom-end acc s i h = ap (sumFrom acc) (drop-of-length-le s h)
 
-sumFrom-last : (acc : ℕ) (c : List ℕ) (b : ℕ) → sumFrom acc (c ++ (b ∷ [])) ≡ bitXor (sumFrom acc c) b
+pub sumFrom-last : (acc : ℕ) (c : List ℕ) (b : ℕ) → sumFrom acc (c ++ (b ∷ [])) ≡ bitXor (sumFrom acc c) b
 unfolding sumFrom
 sumFrom-last acc [] b = refl
 sumFrom-last acc (x ∷ c) b = sumFrom-last (bitXor acc x) c b
+
+-- the last byte, known by itself, after the sum of those before it
+pub sum-last : (s : List ℕ) (sum last : ℕ) → 1 ≤ length s → last ≡ getD s (length s - 1) 0 → sum ≡ checksum (take (length s - 1) s) → bitXor sum last ≡ checksum s
+sum-last s sum last h e q =
+    ap (λ (n : ℕ). bitXor n last) q ∙ ap (bitXor (checksum (take (length s - 1) s))) e
+    ∙ sym (sumFrom-last 0 (take (length s - 1) s) (getD s (length s - 1) 0))
+    ∙ ap checksum (sym (last-apart s h))
 
 xor-zero : (a b : ℕ) → bitXor a b ≡ 0 → b ≡ a
 xor-zero a b h = omega (arith, xor-add-and a b, and-le-l a b, and-le-r a b)
@@ -47,3 +55,68 @@ module _ (skip : ℕ) (u : List ℕ) (h : skip < length u) where
 
   pub sum-wrong : (checksum (drop skip u) ≡ 0 → ⊥) → lastOf u ≡ checksum (contentsIn skip u) → ⊥
   sum-wrong n q = n (of-all ∙ ap (bitXor (checksum (contentsIn skip u))) q ∙ xor-self (checksum (contentsIn skip u)))
+
+-- ---- the exclusive or of three numbers
+
+module _ (P : ℕ → Type 0) (p : P 0) (q : P 1) where
+  bit : (i : ℕ) → i < 2 → P i
+  bit zero h = p
+  bit (suc zero) h = q
+  bit (suc (suc i)) h = absurd (omega arith)
+
+abbrev Assoc : (a b c : ℕ) → Type 0
+Assoc a b c = bitXor (bitXor a b) c ≡ bitXor a (bitXor b c)
+
+-- of digits
+assoc-bits : (a b c : ℕ) → a < 2 → b < 2 → c < 2 → Assoc a b c
+assoc-bits a b c h k l =
+    bit (λ (a : ℕ). Assoc a b c)
+    (bit (λ (b : ℕ). Assoc 0 b c) (bit (Assoc 0 0) refl refl c l) (bit (Assoc 0 1) refl refl c l) b k)
+    (bit (λ (b : ℕ). Assoc 1 b c) (bit (Assoc 1 0) refl refl c l) (bit (Assoc 1 1) refl refl c l) b k) a h
+
+-- of numbers up to a bound, by halves
+assoc-within : (k a b c : ℕ) → a ≤ k → b ≤ k → c ≤ k → Assoc a b c
+assoc-within zero a b c h i j =
+    let p : a ≡ 0 = omega arith in
+    let q : b ≡ 0 = omega arith in
+    let r : c ≡ 0 = omega arith in
+    simp (p, q, r)
+assoc-within (suc k) a b c h i j =
+    let half : bitXor (bitXor a b) c / 2 ≡ bitXor a (bitXor b c) / 2 =
+    xor-shr (bitXor a b) c 1 ∙ ap (λ (x : ℕ). bitXor x (c / 2)) (xor-shr a b 1)
+    ∙ assoc-within k (a / 2) (b / 2) (c / 2) (omega arith) (omega arith) (omega arith)
+    ∙ ap (bitXor (a / 2)) (sym (xor-shr b c 1))
+    ∙ sym (xor-shr a (bitXor b c) 1) in
+    let odd : bitXor (bitXor a b) c % 2 ≡ bitXor a (bitXor b c) % 2 =
+    xor-mod (bitXor a b) c 1 ∙ ap (λ (x : ℕ). bitXor x (c % 2)) (xor-mod a b 1)
+    ∙ assoc-bits (a % 2) (b % 2) (c % 2) (omega arith) (omega arith) (omega arith)
+    ∙ ap (bitXor (a % 2)) (sym (xor-mod b c 1))
+    ∙ sym (xor-mod a (bitXor b c) 1) in
+    omega (arith, half, odd)
+
+pub xor-assoc : (a b c : ℕ) → Assoc a b c
+xor-assoc a b c = assoc-within (a + b + c) a b c (omega arith) (omega arith) (omega arith)
+
+-- a sum that begins with a number
+sum-onto : (acc : ℕ) (s : List ℕ) → sumFrom acc s ≡ bitXor acc (checksum s)
+unfolding sumFrom
+sum-onto acc [] = sym (xor-zero-r acc)
+sum-onto acc (b ∷ s) =
+    sum-onto (bitXor acc b) s ∙ xor-assoc acc b (checksum s)
+    ∙ ap (bitXor acc) (sym (ap (λ (x : ℕ). sumFrom x s) (xor-zero-l b) ∙ sum-onto b s))
+
+-- the sum of what follows two bytes
+pub sum-after : (a b : ℕ) (s : List ℕ) → bitXor (checksum (a ∷ b ∷ s)) (bitXor a b) ≡ checksum s
+unfolding sumFrom
+sum-after a b s =
+    let x = bitXor a b in
+    let r = checksum s in
+    ap (λ (n : ℕ). bitXor (sumFrom (bitXor n b) s) x) (xor-zero-l a) ∙ ap (λ (n : ℕ). bitXor n x) (sum-onto x s)
+    ∙ xor-comm (bitXor x r) x
+    ∙ sym (xor-assoc x x r)
+    ∙ ap (λ (n : ℕ). bitXor n r) (xor-self x)
+    ∙ xor-zero-l r
+
+-- an escape's two bytes, the first taken as F0, have the exclusive or of the byte that they stand for
+pub sum-escape : (acc e : ℕ) → e ≤ 3 → bitXor acc (0xF0 + e) ≡ bitXor (bitXor acc 0xF0) e
+sum-escape acc e h = ap (bitXor acc) (sym (xor-shifted 15 4 e (omega arith))) ∙ sym (xor-assoc acc 0xF0 e)

@@ -1,5 +1,6 @@
 pub mod StuffingLaws
 pub mod ChecksumLaws
+pub mod EscapeLaws
 pub mod WireLaws
 pub mod ScanLaws
 pub mod VerdictLaws

@@ -3,10 +3,9 @@ use Prim.Native.Nat.{ℕ, suc, _+_, _-_, _≤_, _<_}
 use mathlib.Core.Path.{_≡_, refl, sym, ap, _∙_}
 use mathlib.Core.Bool.{false}
 use mathlib.Core.List.{List, [], _∷_, _++_}
-use native.Mathlib.Nat.{add-zero, not-suc-le-zero}
+use native.Mathlib.Nat.{not-suc-le-zero}
 use native.Mathlib.Numerals.{add-one}
 use native.Mathlib.Omega.{arith}
-use lib.Bits.{bitXor}
 use lib.Dec.{leb, ltb, eqb}
 use lib.ListN.{length, getD, take, drop, set, length-drop, length-set, drop-of-length-le}
 use lib.Seq.{drop-cons, length-take-le}
@@ -14,11 +13,9 @@ use borrow.Author.Tests.{leb-true, leb-false, ltb-true, ltb-false, eqb-true, eqb
 use Rattle.packing.proofs.Cases.{by-bool}
 use Rattle.packing.proofs.Lists.{drop-two, fill, get-behind}
 use Rattle.frame.specs.Stuffing.{Unstuffed, badEscape, bytes, prepend, unstuff}
-use Rattle.frame.specs.Checksum.{sumFrom}
-use Rattle.frame.specs.Steps.{nextAt, scanFrom, bytesOf}
+use Rattle.frame.specs.Steps.{nextAt, bytesOf}
 use Rattle.frame.specs.declared.candidate.Next.{Next}
 use Rattle.frame.specs.declared.candidate.Next.the-variants.{End, Bad, Byte}
-use Rattle.frame.specs.declared.candidate.Scan.the-variants.{Fault, Good}
 
 -- ---- one unstuffed byte
 
@@ -88,6 +85,24 @@ module _ (s : List ℕ) (at : ℕ) where
       (λ y. let q : Byte b n ≡ End = simp y at p in
       let r : _≡_ {A = ℕ} 0 1 = cc in omega arith)
 
+  -- where there is a next byte, it or the escape and what follows it stand in the list
+  pub next-here : (nextAt s at ≡ End → ⊥) → at < length s
+  unfolding nextAt
+  next-here n = by-bool (ltb at (length s)) (λ y. ltb-true at (length s) y) (λ y. absurd (n (simp y)))
+
+  module _ (n : nextAt s at ≡ Bad → ⊥) (h : at < length s) (e : getD s at 0 ≡ 0xF3) where
+    pub next-second : at + 1 < length s
+    unfolding nextAt
+    next-second =
+        by-bool (ltb (at + 1) (length s)) (λ y. ltb-true (at + 1) (length s) y) (λ y. absurd (n (simp (lt-ltb at (length s) h, eq-eqb (getD s at 0) 0xF3 e, y))))
+
+    pub next-low : getD s (at + 1) 0 ≤ 3
+    unfolding nextAt
+    next-low =
+        by-bool (leb (getD s (at + 1) 0) 3)
+        (λ y. leb-true (getD s (at + 1) 0) 3 y)
+        (λ y. absurd (n (simp (lt-ltb at (length s) h, eq-eqb (getD s at 0) 0xF3 e, lt-ltb (at + 1) (length s) next-second, y))))
+
 -- ---- what a call of next_at and the match on it tell
 
 module _ (s : List ℕ) (at : ℕ) (x : Next) (e : x ≡ nextAt s at) where
@@ -96,24 +111,6 @@ module _ (s : List ℕ) (at : ℕ) (x : Next) (e : x ≡ nextAt s at) where
 
   pub bounds : (b n : ℕ) → x ≡ Byte b n → (at < n) × (n ≤ length s)
   bounds b n f = next-bounds s at b n (sym f ∙ e)
-
-  -- a turn of the scan
-  module _ (len sum : ℕ) where
-    pub scan-end : x ≡ End → Good len sum ≡ scanFrom len sum (unstuff false (drop at s))
-    unfolding afterNext scanFrom sumFrom
-    scan-end f = ap (λ (n : ℕ). Good n sum) (sym (add-zero len)) ∙ sym (ap (scanFrom len sum) (told End f))
-
-    pub scan-bad : x ≡ Bad → Fault ≡ scanFrom len sum (unstuff false (drop at s))
-    unfolding afterNext scanFrom
-    scan-bad f = sym (ap (scanFrom len sum) (told Bad f))
-
-    pub scan-more : (b n : ℕ) → x ≡ Byte b n → scanFrom (len + 1) (bitXor sum b) (unstuff false (drop n s)) ≡ scanFrom len sum (unstuff false (drop at s))
-    unfolding afterNext scanFrom prepend sumFrom
-    scan-more b n f = sym (ap (scanFrom len sum) (told (Byte b n) f) ∙ scan-prepend (unstuff false (drop n s)))
-      where
-        scan-prepend : (r : Unstuffed) → scanFrom len sum (prepend b r) ≡ scanFrom (len + 1) (bitXor sum b) r
-        scan-prepend badEscape = refl
-        scan-prepend (bytes u) = let n : len + suc (length u) ≡ len + 1 + length u = omega arith in simp n
 
 -- ---- filling a list with unstuffed bytes
 

@@ -10,7 +10,7 @@ use lib.Dec.{leb, eqb}
 use lib.ListN.{length, getD, take, drop, length-append, take-append-drop}
 use lib.Seq.{take-suc, take-all}
 use borrow.Author.Tests.{leb-true, leb-false, eqb-true, eqb-false, lt-leb, le-leb, ne-eqb}
-use Rattle.packing.specs.Choice.{pick, within, noneOf}
+use Rattle.packing.specs.Choice.{pick, within, noneOf, countOf}
 use Rattle.packing.specs.Splice.{splice}
 use Rattle.packing.proofs.Cases.{by-bool}
 use Rattle.packing.proofs.Tests.{within-yes, within-true, none-append}
@@ -58,6 +58,17 @@ pub stuff-between : (s : List ℕ) → (length s ≤ length (stuff s)) × (lengt
 unfolding stuff
 stuff-between [] = omega arith
 stuff-between (b ∷ s) = let h = stuff-between s in omega (arith, length-append (stuffByte b) (stuff s), stuffByte-between b)
+
+-- it makes it longer by the number of bytes that are sent as two
+pub stuff-count : (s : List ℕ) → length s + countOf isStuffed s ≡ length (stuff s)
+unfolding stuff countOf
+stuff-count [] = refl
+stuff-count (b ∷ s) =
+    let h = stuff-count s in
+    let l = length-append (stuffByte b) (stuff s) in
+    by-bool (isStuffed b)
+    (λ y. let w = ap length (stuffByte-yes b y) in simp y (omega arith))
+    (λ n. let w = ap length (stuffByte-no b n) in simp n (omega arith))
 
 -- a list with nothing to stuff is sent as it is
 pub stuff-none : (s : List ℕ) → noneOf isStuffed s ≡ true → stuff s ≡ s

@@ -4,26 +4,32 @@ use mathlib.Core.Path.{_≡_, refl, sym, ap, _∙_}
 use mathlib.Core.Bool.{true, false}
 use mathlib.Core.List.{List, [], _∷_, _++_}
 use native.Mathlib.Omega.{arith}
+use lib.Bits.{bitXor}
 use lib.Dec.{leb, eqb}
 use lib.ListN.{length, getD, drop, length-append, length-drop}
 use lib.Seq.{take-at, getD-at, take-suc, take-all, getD-drop, drop-cons}
 use borrow.Author.Tests.{leb-true, eqb-true, eqb-false, lt-leb, le-leb, eq-eqb, ne-eqb}
-use Rattle.packing.specs.Choice.{within}
+use Rattle.packing.specs.Choice.{within, noneOf}
 use Rattle.packing.proofs.Cases.{by-bool, both-true}
-use Rattle.packing.proofs.Tests.{within-yes, within-true}
-use Rattle.frame.specs.Stuffing.{Unstuffed, badEscape, bytes, prepend, unstuff, flagless}
+use Rattle.packing.proofs.Lists.{drop-two}
+use Rattle.packing.proofs.Tests.{within-yes, within-true, none-drop, none-stronger}
+use Rattle.frame.specs.Stuffing.{isFlag, isStuffed, Unstuffed, badEscape, bytes, prepend, unstuff, flagless}
 use Rattle.frame.specs.Checksum.{sumFrom, checksum}
 use Rattle.frame.specs.Frame.{Frame, contentsOf}
 use Rattle.frame.specs.Verdict.{Verdict, accepted, refused, kindOf, addressCount, contentsIn, lastOf, frameIn, judgeBytes, judge, bodyOf, isTerminated, verdict}
 use Rattle.frame.specs.Conditions.{startFlag}
 use Rattle.frame.specs.Answers.{notRead, headerOf, judgeAnswer, readAnswer, readOut}
-use Rattle.frame.specs.Steps.{frameOf, kindIn, headed, readAs, scanFrom, bytesOf, SoundAt}
+use Rattle.frame.specs.Steps.{isBounded, frameOf, kindIn, headed, readAs, scanFrom, bytesOf, SoundAt, Unescaped, UnescapedAfter, Examines, judgeWhole, ExaminesWhole}
 use Rattle.frame.specs.declared.Kind.{Kind}
 use Rattle.frame.specs.declared.Kind.the-variants.{Standard, Extended}
 use Rattle.frame.specs.declared.Header.{Header}
 use Rattle.frame.specs.declared.Header.the-variants.{Plain, Addressed}
 use Rattle.frame.specs.declared.candidate.Scan.the-variants.{Fault, Good}
-use Rattle.frame.proofs.ChecksumLaws.{contents-last, sum-right, sum-wrong}
+use Rattle.frame.specs.declared.candidate.Examined.{Examined}
+use Rattle.frame.specs.declared.candidate.Examined.the-variants.{Unsound, Sound}
+use Rattle.frame.proofs.ChecksumLaws.{contents-last, sum-right, sum-wrong, sum-after}
+use Rattle.frame.proofs.StuffingLaws.{unstuff-plain}
+use Rattle.frame.proofs.EscapeLaws.{scan-as-is}
 
 -- ---- a start flag, a body and F2
 
@@ -93,9 +99,27 @@ pub verdict-truncated : (w : List ℕ) → isTerminated w ≡ false → verdict 
 unfolding verdict
 verdict-truncated w h = simp h
 
-pub verdict-judged : (w part : List ℕ) → isTerminated w ≡ true → part ≡ bodyOf w → judge (kindOf (getD w 0 0)) part ≡ verdict w
-unfolding verdict
-verdict-judged w part h p = simp h (ap (judge (kindOf (getD w 0 0))) p)
+-- a slice is truncated where it lacks a start flag first or the stop flag last, and else where a flag stands between them
+pub bounded-no : (w : List ℕ) → isBounded w ≡ false → verdict w ≡ refused 6
+unfolding isBounded isTerminated verdict
+bounded-no w h =
+    by-bool (leb 2 (length w))
+    (λ y. by-bool (within 0xF0 0xF1 (getD w 0 0))
+    (λ z. let k : eqb (lastOf w) 0xF2 ≡ false = simp (y, z) at h in simp (y, z, k))
+    (λ z. simp (y, z)))
+    (λ y. simp y)
+
+module _ (w : List ℕ) (h : isBounded w ≡ true) where
+  pub bounded-long : 2 ≤ length w
+  unfolding isBounded
+  bounded-long = leb-true _ _ (both-true (leb 2 (length w)) _ h .0)
+
+  pub bounded-judged : (part : List ℕ) → part ≡ bodyOf w → judgeWhole (kindOf (getD w 0 0)) part ≡ verdict w
+  unfolding isBounded isTerminated verdict
+  bounded-judged part p =
+      let a = both-true (leb 2 (length w)) _ h in
+      let b = both-true (within 0xF0 0xF1 (getD w 0 0)) _ (a .1) in
+      ap (judgeWhole (kindOf (getD w 0 0))) p ∙ simp (a .0, b .0, b .1)
 
 -- ---- the refusals on a body, one by one
 
@@ -214,6 +238,65 @@ module _ (h : Header) (body : List ℕ) (next : ℕ) (limit : length body ≤ 11
             follows = scanned .0 ∙ ap bytes parts;
             inside = inside;
           }
+
+-- ---- a body between its two flags
+
+pub whole-judged : (kind : Kind) (body : List ℕ) → flagless body ≡ true → judgeWhole kind body ≡ judge kind body
+whole-judged kind body f = simp f
+
+pub whole-examined : (kind : Kind) (body : List ℕ) → flagless body ≡ true → (x : Examined) → Examines kind body x → ExaminesWhole kind body x
+whole-examined kind body f (Unsound why) e = whole-judged kind body f ∙ e
+whole-examined kind body f (Sound header start len) e = (f, e)
+
+-- one in which no byte is F0 to F3
+module _ (body : List ℕ) (sum : ℕ) (p : Unescaped body sum) where
+  escapeless : noneOf (within 0xF3 0xF3) body ≡ true
+  escapeless =
+      none-stronger isStuffed (within 0xF3 0xF3) (λ x y. let w = within-true 0xF3 0xF3 x y in within-yes 0xF0 0xF3 x (omega arith) (omega arith)) body (p .clear)
+
+  pub plain-whole : (kind : Kind) → judge kind body ≡ judgeWhole kind body
+  plain-whole kind =
+      sym (whole-judged kind body (none-stronger isStuffed isFlag (λ x y. let w = within-true 0xF0 0xF2 x y in within-yes 0xF0 0xF3 x (omega arith) (omega arith)) body (p .clear)))
+
+  pub plain-standard : UnescapedAfter Plain body 0 sum
+  plain-standard = record { limit = p .limit; clear = escapeless; inside = omega arith; addressed = refl; summed = p .summed }
+
+  pub plain-short : length body < 2 → judge Extended body ≡ refused 4
+  plain-short h = judge-short Extended body (p .limit) body (unstuff-plain body escapeless) (omega arith)
+
+  pub plain-extended : 2 ≤ length body → (to from : ℕ) → to ≡ getD body 0 0 → from ≡ getD body 1 0 → UnescapedAfter (Addressed to from) body 2 (bitXor sum (bitXor to from))
+  unfolding prepend
+  plain-extended h to from t f =
+      let rest = drop 2 body in
+      let parts : body ≡ to ∷ from ∷ rest = drop-two body 0 (omega arith) ∙ ap (λ (b : ℕ). b ∷ getD body 1 0 ∷ rest) (sym t) ∙ ap (λ (b : ℕ). to ∷ b ∷ rest) (sym f) in
+      let clear-rest = unstuff-plain rest (none-drop (within 0xF3 0xF3) 2 body escapeless) in
+      record {
+        limit = p .limit;
+        clear = escapeless;
+        inside = h;
+        addressed = unstuff-plain body escapeless ∙ ap bytes parts ∙ sym (ap (λ (r : Unstuffed). prepend to (prepend from r)) clear-rest);
+        summed = ap (λ (n : ℕ). bitXor n (bitXor to from)) (p .summed ∙ ap checksum parts) ∙ sum-after to from rest;
+      }
+
+-- and the addresses of which are known
+module _ (header : Header) (body : List ℕ) (start sum : ℕ) (p : UnescapedAfter header body start sum) where
+  after-scan : Good (length body - start) sum ≡ scanFrom 0 0 (unstuff false (drop start body))
+  after-scan = scan-as-is (drop start body) (none-drop (within 0xF3 0xF3) start body (p .clear)) (length body - start) sum (sym (length-drop start body)) (p .summed)
+
+  pub after-short : length body ≤ start → judge (kindIn header) body ≡ refused 4
+  after-short h = rest-short header body start (p .limit) (p .addressed) (length body - start) sum after-scan (omega arith)
+
+  module _ (h : start < length body) where
+    pub after-sum : (sum ≡ 0 → ⊥) → judge (kindIn header) body ≡ refused 5
+    after-sum n = rest-sum header body start (p .limit) (p .addressed) (length body - start) sum after-scan (omega arith) n
+
+    pub after-sound : sum ≡ 0 → SoundAt (kindIn header) body header start (length body - start - 1)
+    after-sound z = rest-sound header body start (p .limit) (p .addressed) (length body - start) sum after-scan (omega arith) z (p .inside)
+
+    -- the contents are the bytes after the addresses, without the last
+    pub after-length : length (bytesOf (unstuff false (drop start body))) ≡ length body - start - 1 + 1
+    unfolding bytesOf
+    after-length = ap (λ (r : Unstuffed). length (bytesOf r)) (unstuff-plain (drop start body) (none-drop (within 0xF3 0xF3) start body (p .clear))) ∙ omega (arith, length-drop start body)
 
 -- ---- the answers of a reader and of a judge
 

@@ -1,16 +1,16 @@
 -- What the private functions answer: contracts inside the crate, which no caller reads.
-use Prim.Native.Nat.{ℕ, _+_, _≤_, _<_}
+use Prim.Native.Nat.{ℕ, _+_, _-_, _≤_, _<_}
 use mathlib.Core.Path.{_≡_}
-use mathlib.Core.Bool.{false}
+use mathlib.Core.Bool.{Bool, true, false}
 use mathlib.Core.List.{List, [], _∷_, _++_}
 use lib.Dec.{leb, ltb, eqb}
 use lib.ListN.{length, getD, drop}
-use Rattle.packing.specs.Choice.{pick}
+use Rattle.packing.specs.Choice.{pick, within, noneOf}
 use Rattle.refusal.specs.Number.{numberOf}
-use Rattle.frame.specs.Stuffing.{stuffByte, unstuff, Unstuffed, badEscape, bytes, prepend}
+use Rattle.frame.specs.Stuffing.{isStuffed, stuffByte, unstuff, Unstuffed, badEscape, bytes, prepend, flagless}
 use Rattle.frame.specs.Checksum.{sumFrom, checksum}
 use Rattle.frame.specs.Frame.{Frame, standard, extended}
-use Rattle.frame.specs.Verdict.{judge, accepted, refused, addressCount}
+use Rattle.frame.specs.Verdict.{Verdict, judge, accepted, refused, addressCount, lastOf}
 use Rattle.frame.specs.Answers.{ReadAnswer, readStandard, readExtended}
 use Rattle.frame.specs.declared.Kind.{Kind}
 use Rattle.frame.specs.declared.Kind.the-variants.{Standard, Extended}
@@ -53,6 +53,10 @@ abbrev pub readAs : Header → ℕ → ReadAnswer
 readAs Plain len = readStandard len
 readAs (Addressed to from) len = readExtended to from len
 
+-- Whether a list begins with a start flag and ends with the stop flag.
+unfoldable pub isBounded : List ℕ → Bool
+isBounded w = pick (leb 2 (length w)) (pick (within 0xF0 0xF1 (getD w 0 0)) (eqb (lastOf w) 0xF2) false) false
+
 -- The unstuffed byte at an index of stuffed bytes, and the index after it.
 unfoldable pub nextAt : List ℕ → ℕ → Next
 nextAt s at =
@@ -66,6 +70,23 @@ nextAt s at =
 unfoldable pub scanFrom : (len sum : ℕ) → Unstuffed → Scan
 scanFrom len sum badEscape = Fault
 scanFrom len sum (bytes u) = Good (len + length u) (sumFrom sum u)
+
+-- Whether no escape is bad.
+abbrev pub isSound : Unstuffed → Bool
+isSound badEscape = false
+isSound (bytes u) = true
+
+-- Whether a byte may stand after another.
+abbrev pub goodPair : ℕ → ℕ → Bool
+goodPair b after = pick (eqb b 0xF3) (leb after 3) true
+
+-- The first of an escape's two bytes taken as F0, so that both have the exclusive or of the byte that they stand for.
+abbrev pub lowerByte : ℕ → ℕ
+lowerByte b = pick (eqb b 0xF3) 0xF0 b
+
+unfoldable pub lowered : List ℕ → List ℕ
+lowered [] = []
+lowered (b ∷ s) = lowerByte b ∷ lowered s
 
 -- The bytes, none where an escape is bad.
 unfoldable pub bytesOf : Unstuffed → List ℕ
@@ -86,7 +107,29 @@ pub record SoundAt (kind : Kind) (body : List ℕ) (header : Header) (start len 
   pub follows : unstuff false (drop start body) ≡ bytes (contents ++ (checksum contents ∷ []))
   pub inside : start ≤ length body
 
+-- A body in which no byte is F0 to F3, and its exclusive or.
+pub record Unescaped (body : List ℕ) (sum : ℕ) : Type 0 where
+  pub limit : length body ≤ 118
+  pub clear : noneOf isStuffed body ≡ true
+  pub summed : sum ≡ checksum body
+
+-- Such a body, whose addresses end before an index, and the exclusive or of what follows them.
+pub record UnescapedAfter (header : Header) (body : List ℕ) (start sum : ℕ) : Type 0 where
+  pub limit : length body ≤ 118
+  pub clear : noneOf (within 0xF3 0xF3) body ≡ true
+  pub inside : start ≤ length body
+  pub addressed : unstuff false body ≡ headed header (unstuff false (drop start body))
+  pub summed : sum ≡ checksum (drop start body)
+
 -- What was found of a body.
 abbrev pub Examines : Kind → List ℕ → Examined → Type 0
 Examines kind body (Unsound why) = judge kind body ≡ refused (numberOf why)
 Examines kind body (Sound header start len) = SoundAt kind body header start len
+
+-- The verdict where flags may stand in the body: with one it is no whole candidate.
+abbrev pub judgeWhole : Kind → List ℕ → Verdict
+judgeWhole kind body = pick (flagless body) (judge kind body) (refused 6)
+
+abbrev pub ExaminesWhole : Kind → List ℕ → Examined → Type 0
+ExaminesWhole kind body (Unsound why) = judgeWhole kind body ≡ refused (numberOf why)
+ExaminesWhole kind body (Sound header start len) = (flagless body ≡ true) × SoundAt kind body header start len

@@ -3,12 +3,18 @@ ghost use mathlib.Core.Path.{_≡_};
 ghost use mathlib.Core.List.{_++_};
 ghost use Prim.Native.Nat.{_+_, _≤_};
 ghost use lib.ListN.{length, take, drop};
-ghost use Rattle.packing.specs.Choice.{pick, within, noneOf};
+ghost use Rattle.packing.specs.Choice.{pick, within, noneOf, countOf};
 ghost use Rattle.packing.specs.Splice.{splice};
 ghost use Rattle.frame.specs.Checksum.{checksum};
 
+// What one pass over bytes finds: whether none lies between two values, and their exclusive or.
+pub(crate) struct Looked {
+    pub clear: bool,
+    pub sum: u8,
+}
+
 // 1 for a byte between two others, both included, else 0.
-fn mark(b: u8, low: u8, high: u8) -> u8
+pub(crate) fn mark(b: u8, low: u8, high: u8) -> u8
     ensures { λ r. ⌜ r ≡ pick (within low high b) 1 0 ⌝ }
 {
     if b < low {
@@ -33,16 +39,37 @@ pub(crate) fn none_within(s: &[u8], low: u8, high: u8) -> bool
     seen == 0
 }
 
-pub(crate) fn sum_of(contents: &[u8]) -> u8
-    ensures { λ r. ⌜ r ≡ checksum (now (contents .entry)) ⌝ }
+// The same, with the exclusive or of all bytes, in one pass.
+pub(crate) fn look(s: &[u8], low: u8, high: u8) -> Looked
+    ensures { λ r. ⌜ r .clear ≡ noneOf (within low high) (now (s .entry)) ⌝ }
+    ensures { λ r. ⌜ r .sum ≡ checksum (now (s .entry)) ⌝ }
 {
+    let mut seen: u8 = 0;
     let mut sum: u8 = 0;
     let mut i: usize = 0;
-    while i < contents.len() {
-        sum = sum ^ contents[i];
+    while i < s.len() {
+        seen = seen | mark(s[i], low, high);
+        sum = sum ^ s[i];
         i += 1;
     }
-    sum
+    Looked {
+        clear: seen == 0,
+        sum,
+    }
+}
+
+// How many bytes lie between two values, both included. A number of eight bits is counted faster than a wider one.
+pub(crate) fn count_within(s: &[u8], low: u8, high: u8) -> u8
+    requires { ⌜ length (now s) ≤ 255 ⌝ }
+    ensures { λ r. ⌜ r ≡ countOf (within low high) (now (s .entry)) ⌝ }
+{
+    let mut count: u8 = 0;
+    let mut i: usize = 0;
+    while i < s.len() {
+        count = count + mark(s[i], low, high);
+        i += 1;
+    }
+    count
 }
 
 // Copies a slice into another from an index on.

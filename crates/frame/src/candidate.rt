@@ -1,15 +1,17 @@
 // A candidate for a frame, looked at before anything is written: its shape, its escapes, its length and its checksum.
 use crate::Header;
 use crate::Kind;
+use crate::bytes::Looked;
 use refusal::Refusal;
 ghost use mathlib.Core.Path.{_≡_};
-ghost use mathlib.Core.Bool.{false};
+ghost use mathlib.Core.Bool.{true, false};
 ghost use mathlib.Core.List.{_++_};
-ghost use Prim.Native.Nat.{_≤_};
-ghost use lib.ListN.{length, take, drop};
+ghost use Prim.Native.Nat.{_-_, _≤_};
+ghost use lib.ListN.{length, getD, take, drop};
+ghost use Rattle.packing.specs.Choice.{pick};
 ghost use Rattle.frame.specs.Stuffing.{unstuff, prepend};
-ghost use Rattle.frame.specs.Verdict.{isTerminated};
-ghost use Rattle.frame.specs.Steps.{nextAt, scanFrom, bytesOf, kindIn, AddressesIn, Examines};
+ghost use Rattle.frame.specs.Checksum.{checksum};
+ghost use Rattle.frame.specs.Steps.{isBounded, nextAt, scanFrom, isSound, goodPair, lowerByte, lowered, bytesOf, kindIn, AddressesIn, Unescaped, Examines, ExaminesWhole};
 
 // The most bytes that may stand between the flags.
 const BODY_LIMIT: usize = 118;
@@ -49,9 +51,9 @@ pub(crate) enum Examined {
     },
 }
 
-// Whether a slice is a start flag, bytes that are no flags, and the stop flag.
-pub(crate) fn is_terminated(w: &[u8]) -> bool
-    ensures { λ r. ⌜ r ≡ isTerminated (now (w .entry)) ⌝ }
+// Whether a slice begins with a start flag and ends with the stop flag.
+pub(crate) fn is_bounded(w: &[u8]) -> bool
+    ensures { λ r. ⌜ r ≡ isBounded (now (w .entry)) ⌝ }
 {
     let n = w.len();
     if n < 2 {
@@ -68,7 +70,7 @@ pub(crate) fn is_terminated(w: &[u8]) -> bool
     if stop != crate::STOP {
         return false;
     }
-    crate::bytes::none_within(&w[1..n - 1], 0xF0, 0xF2)
+    true
 }
 
 pub(crate) fn next_at(s: &[u8], at: usize) -> Next
@@ -91,39 +93,91 @@ pub(crate) fn next_at(s: &[u8], at: usize) -> Next
     Next::Byte(0xF0 + e, at + 2)
 }
 
-// Bytes without an escape are counted and summed as they stand.
+// Bytes without an escape are counted and summed as they stand. The last byte is taken by itself: it is the checksum,
+// and a loop whose last turn is compared with 0 is not turned into vector code.
 fn scan_bytes(s: &[u8]) -> Scan
+    requires { ⌜ length (now s) ≤ 118 ⌝ }
     ensures { λ r. ⌜ r ≡ scanFrom 0 0 (unstuff false (now (s .entry))) ⌝ }
 {
-    if crate::bytes::none_within(s, ESCAPE, ESCAPE) {
-        let sum = crate::bytes::sum_of(s);
-        return Scan::Good { len: s.len(), sum };
+    let n = s.len();
+    if n == 0 {
+        return Scan::Good { len: 0, sum: 0 };
     }
-    scan_each(s)
+    let last = s[n - 1];
+    if last == ESCAPE {
+        return Scan::Fault;
+    }
+    let looked = crate::bytes::look(&s[..n - 1], ESCAPE, ESCAPE);
+    if looked.clear {
+        return Scan::Good {
+            len: n,
+            sum: looked.sum ^ last,
+        };
+    }
+    scan_escaped(s, last)
 }
 
-fn scan_each(s: &[u8]) -> Scan
+// Where every escape is sound, each takes one byte from the number, and its two bytes have the exclusive or of F0 and
+// the second.
+fn scan_escaped(s: &[u8], last: u8) -> Scan
+    requires { ⌜ 1 ≤ length (now s) ⌝ }
+    requires { ⌜ length (now s) ≤ 118 ⌝ }
+    requires { ⌜ last ≡ getD (now s) (length (now s) - 1) 0 ⌝ }
+    requires { ⌜ (last ≡ 0xF3 → ⊥) ⌝ }
     ensures { λ r. ⌜ r ≡ scanFrom 0 0 (unstuff false (now (s .entry))) ⌝ }
 {
-    let mut at: usize = 0;
-    let mut len: usize = 0;
-    let mut sum: u8 = 0;
-    loop {
-        let step = next_at(s, at);
-        match step {
-            Next::End => {
-                return Scan::Good { len, sum };
-            }
-            Next::Bad => {
-                return Scan::Fault;
-            }
-            Next::Byte(b, after) => {
-                sum = sum ^ b;
-                len = len + 1;
-                at = after;
-            }
-        }
+    if !escapes_sound(s) {
+        return Scan::Fault;
     }
+    let n = s.len();
+    let escapes = crate::bytes::count_within(s, ESCAPE, ESCAPE);
+    let sum = lowered_sum(&s[..n - 1]);
+    Scan::Good {
+        len: n - escapes as usize,
+        sum: sum ^ last,
+    }
+}
+
+// Whether 00 to 03 stands after each escape, the last byte being none. The loop has no branch on the bytes.
+fn escapes_sound(s: &[u8]) -> bool
+    requires { ⌜ 1 ≤ length (now s) ⌝ }
+    requires { ⌜ (getD (now s) (length (now s) - 1) 0 ≡ 0xF3 → ⊥) ⌝ }
+    ensures { λ r. ⌜ r ≡ isSound (unstuff false (now (s .entry))) ⌝ }
+{
+    let n = s.len();
+    let mut bad: u8 = 0;
+    let mut i: usize = 0;
+    while i < n - 1 {
+        bad = bad | unsound(s[i], s[i + 1]);
+        i += 1;
+    }
+    bad == 0
+}
+
+// 1 for an escape with none of 00 to 03 after it, else 0.
+fn unsound(b: u8, after: u8) -> u8
+    ensures { λ r. ⌜ r ≡ pick (goodPair b after) 0 1 ⌝ }
+{
+    crate::bytes::mark(b, ESCAPE, ESCAPE) & crate::bytes::mark(after, ESCAPED_LIMIT + 1, 0xFF)
+}
+
+// The exclusive or of bytes, an escape taken as F0.
+fn lowered_sum(s: &[u8]) -> u8
+    ensures { λ r. ⌜ r ≡ checksum (lowered (now (s .entry))) ⌝ }
+{
+    let mut sum: u8 = 0;
+    let mut i: usize = 0;
+    while i < s.len() {
+        sum = sum ^ lower(s[i]);
+        i += 1;
+    }
+    sum
+}
+
+fn lower(b: u8) -> u8
+    ensures { λ r. ⌜ r ≡ lowerByte b ⌝ }
+{
+    if b == ESCAPE { 0xF0 } else { b }
 }
 
 fn addresses_in(kind: Kind, body: &[u8]) -> Addresses
@@ -162,6 +216,49 @@ fn source_after(body: &[u8], to: u8, at: usize) -> Addresses
             next: after,
         },
     }
+}
+
+// Whether no byte of a body is F0 to F3, and then their exclusive or, in one pass. Bodies that are empty or too long
+// are left to the other way.
+pub(crate) fn look_plain(body: &[u8]) -> Looked
+    ensures { λ r. ⌜ (r .clear ≡ true → Unescaped (now (body .entry)) (r .sum)) ⌝ }
+{
+    let n = body.len();
+    if n == 0 {
+        return Looked {
+            clear: false,
+            sum: 0,
+        };
+    }
+    if BODY_LIMIT < n {
+        return Looked {
+            clear: false,
+            sum: 0,
+        };
+    }
+    let last = body[n - 1];
+    if crate::stuffing::is_stuffed(last) {
+        return Looked {
+            clear: false,
+            sum: 0,
+        };
+    }
+    let looked = crate::bytes::look(&body[..n - 1], 0xF0, 0xF3);
+    Looked {
+        clear: looked.clear,
+        sum: looked.sum ^ last,
+    }
+}
+
+// The verdict on what stands between a start flag of this kind and a stop flag. Where a flag stands in it, it is no
+// whole candidate.
+pub(crate) fn examine_flagged(kind: Kind, body: &[u8]) -> Examined
+    ensures { λ r. ⌜ ExaminesWhole kind (now (body .entry)) r ⌝ }
+{
+    if crate::bytes::none_within(body, 0xF0, 0xF2) {
+        return examine(kind, body);
+    }
+    Examined::Unsound(Refusal::Truncated)
 }
 
 // The verdict on what stands between a start flag of this kind and the stop flag.
@@ -204,6 +301,30 @@ fn examine_rest(header: Header, body: &[u8], next: usize) -> Examined
     }
 }
 
+// An unstuffed byte and the index after it, where the stuffed bytes are known to be sound.
+struct Unit {
+    byte: u8,
+    after: usize,
+}
+
+fn unit_at(s: &[u8], at: usize) -> Unit
+    requires { ⌜ (nextAt (now s) at ≡ Next.End → ⊥) ⌝ }
+    requires { ⌜ (nextAt (now s) at ≡ Next.Bad → ⊥) ⌝ }
+    ensures { λ r. ⌜ nextAt (now (s .entry)) at ≡ Next.Byte (r .byte) (r .after) ⌝ }
+{
+    let b = s[at];
+    if b != ESCAPE {
+        return Unit {
+            byte: b,
+            after: at + 1,
+        };
+    }
+    Unit {
+        byte: 0xF0 + s[at + 1],
+        after: at + 2,
+    }
+}
+
 // Puts the first `count` unstuffed bytes first in the output.
 pub(crate) fn unstuff_into(s: &[u8], count: usize, out: &mut [u8])
     requires { ⌜ count ≤ length (bytesOf (unstuff false (now s))) ⌝ }
@@ -213,20 +334,10 @@ pub(crate) fn unstuff_into(s: &[u8], count: usize, out: &mut [u8])
     let mut at: usize = 0;
     let mut k: usize = 0;
     while k < count {
-        let step = next_at(s, at);
-        match step {
-            Next::End => {
-                return;
-            }
-            Next::Bad => {
-                return;
-            }
-            Next::Byte(b, after) => {
-                out[k] = b;
-                at = after;
-                k += 1;
-            }
-        }
+        let unit = unit_at(s, at);
+        out[k] = unit.byte;
+        at = unit.after;
+        k += 1;
     }
 }
 
@@ -238,19 +349,9 @@ pub(crate) fn unstuff_front(s: &mut [u8], from: usize, count: usize)
     let mut at = from;
     let mut k: usize = 0;
     while k < count {
-        let step = next_at(s, at);
-        match step {
-            Next::End => {
-                return;
-            }
-            Next::Bad => {
-                return;
-            }
-            Next::Byte(b, after) => {
-                s[k] = b;
-                at = after;
-                k += 1;
-            }
-        }
+        let unit = unit_at(s, at);
+        s[k] = unit.byte;
+        at = unit.after;
+        k += 1;
     }
 }

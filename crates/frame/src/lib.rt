@@ -16,7 +16,7 @@ ghost use Rattle.frame.specs.Stuffing.{unstuff};
 ghost use Rattle.frame.specs.Frame.{standard, extended};
 ghost use Rattle.frame.specs.Verdict.{kindOf, judge, verdict};
 ghost use Rattle.frame.specs.Answers.{writtenMeans, frameDraft, readMeans, judgeAnswer, readAnswer, readOut, leftIn};
-ghost use Rattle.frame.specs.Steps.{frameOf, readAs, bytesOf};
+ghost use Rattle.frame.specs.Steps.{frameOf, kindIn, readAs, bytesOf, Unescaped, UnescapedAfter};
 
 const STANDARD_START: u8 = 0xF1;
 
@@ -76,13 +76,18 @@ pub fn read_frame(wire: &[u8], out: &mut [u8]) -> Read
     ensures { λ r. ⌜ readMeans r ≡ readAnswer (verdict (now (wire .entry))) (length (now (out .entry))) ⌝ }
     ensures { λ r. ⌜ now (out .exit) ≡ readOut (verdict (now (wire .entry))) (now (out .entry)) ⌝ }
 {
-    if !candidate::is_terminated(wire) {
+    if !candidate::is_bounded(wire) {
         return Read::Refused(Refusal::Truncated);
     }
     let n = wire.len();
     let start = wire[0];
     let body = &wire[1..n - 1];
-    let found = candidate::examine(kind_of(start), body);
+    let kind = kind_of(start);
+    let looked = candidate::look_plain(body);
+    if looked.clear {
+        return read_plain(kind, body, looked.sum, out);
+    }
+    let found = candidate::examine_flagged(kind, body);
     match found {
         Examined::Unsound(why) => Read::Refused(why),
         Examined::Sound { header, start, len } => {
@@ -137,8 +142,9 @@ fn write_frame(header: Header, contents: &[u8], out: &mut [u8]) -> Written
     if CONTENTS_LIMIT < contents.len() {
         return Written::Refused(Refusal::TooLong);
     }
-    let sum = bytes::sum_of(contents);
-    let stuffed = stuffing::stuffed_len(contents);
+    let looked = bytes::look(contents, 0xF0, 0xF3);
+    let sum = looked.sum;
+    let stuffed = stuffing::stuffed_len(contents, looked.clear);
     let n = stuffing::header_len(header) + stuffed + stuffing::width(sum) + 1;
     if WIRE_LIMIT < n {
         return Written::Refused(Refusal::TooLong);
@@ -151,6 +157,47 @@ fn write_frame(header: Header, contents: &[u8], out: &mut [u8]) -> Written
     let c = stuffing::put_byte(sum, out, b);
     out[c] = STOP;
     Written::Length(n)
+}
+
+// Reads a body in which no byte is F0 to F3 and whose exclusive or is known.
+fn read_plain(kind: Kind, body: &[u8], sum: u8, out: &mut [u8]) -> Read
+    requires { ⌜ Unescaped (now body) sum ⌝ }
+    ensures { λ r. ⌜ readMeans r ≡ readAnswer (judge kind (now (body .entry))) (length (now (out .entry))) ⌝ }
+    ensures { λ r. ⌜ now (out .exit) ≡ readOut (judge kind (now (body .entry))) (now (out .entry)) ⌝ }
+{
+    match kind {
+        Kind::Standard => read_after(Header::Plain, body, 0, sum, out),
+        Kind::Extended => {
+            if body.len() < 2 {
+                return Read::Refused(Refusal::TooShort);
+            }
+            let to = body[0];
+            let from = body[1];
+            let rest = sum ^ (to ^ from);
+            read_after(Header::Addressed { to, from }, body, 2, rest, out)
+        }
+    }
+}
+
+// The same once the addresses are known, with the exclusive or of what follows them.
+fn read_after(header: Header, body: &[u8], start: usize, sum: u8, out: &mut [u8]) -> Read
+    requires { ⌜ UnescapedAfter header (now body) start sum ⌝ }
+    ensures { λ r. ⌜ readMeans r ≡ readAnswer (judge (kindIn header) (now (body .entry))) (length (now (out .entry))) ⌝ }
+    ensures { λ r. ⌜ now (out .exit) ≡ readOut (judge (kindIn header) (now (body .entry))) (now (out .entry)) ⌝ }
+{
+    let n = body.len();
+    if n <= start {
+        return Read::Refused(Refusal::TooShort);
+    }
+    if sum != 0 {
+        return Read::Refused(Refusal::BadChecksum);
+    }
+    let len = n - start - 1;
+    if out.len() < len {
+        return Read::Refused(Refusal::NoRoom);
+    }
+    bytes::copy(&body[start..n - 1], out, 0);
+    read_as(header, len)
 }
 
 fn kind_of(start: u8) -> Kind

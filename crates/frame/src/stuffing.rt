@@ -4,12 +4,13 @@ ghost use mathlib.Core.Path.{_≡_};
 ghost use mathlib.Core.List.{[], _∷_, _++_};
 ghost use Prim.Native.Nat.{_+_, _≤_};
 ghost use lib.ListN.{length};
+ghost use Rattle.packing.specs.Choice.{noneOf};
 ghost use Rattle.packing.specs.Splice.{splice};
 ghost use Rattle.frame.specs.Stuffing.{isStuffed, stuff, stuffByte};
 ghost use Rattle.frame.specs.Steps.{headerWire};
 
 // Whether a byte is sent as two: F0, F1, F2 or F3.
-fn is_stuffed(b: u8) -> bool
+pub(crate) fn is_stuffed(b: u8) -> bool
     ensures { λ r. ⌜ r ≡ isStuffed b ⌝ }
 {
     if 0xF0 <= b { b <= 0xF3 } else { false }
@@ -22,26 +23,17 @@ pub(crate) fn width(b: u8) -> usize
     if is_stuffed(b) { 2 } else { 1 }
 }
 
-// How many bytes a slice takes on the wire.
-pub(crate) fn stuffed_len(s: &[u8]) -> usize
+// How many bytes a slice takes on the wire, where it is known whether all of them are sent as they are.
+pub(crate) fn stuffed_len(s: &[u8], clear: bool) -> usize
+    requires { ⌜ clear ≡ noneOf isStuffed (now s) ⌝ }
+    requires { ⌜ length (now s) ≤ 255 ⌝ }
     ensures { λ r. ⌜ r ≡ length (stuff (now (s .entry))) ⌝ }
 {
-    if crate::bytes::none_within(s, 0xF0, 0xF3) {
+    if clear {
         return s.len();
     }
-    widths(s)
-}
-
-fn widths(s: &[u8]) -> usize
-    ensures { λ r. ⌜ r ≡ length (stuff (now (s .entry))) ⌝ }
-{
-    let mut n: usize = 0;
-    let mut i: usize = 0;
-    while i < s.len() {
-        n = n + width(s[i]);
-        i += 1;
-    }
-    n
+    let doubled = crate::bytes::count_within(s, 0xF0, 0xF3);
+    s.len() + doubled as usize
 }
 
 // How many bytes the start flag and the addresses take.

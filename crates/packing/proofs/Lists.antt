@@ -81,3 +81,9 @@ take-lesser s len n e =
     let h : len ≤ length s = leb-true _ _ y in (ap (λ (m : ℕ). take m s) q, omega arith))
     (λ y. let q : n ≡ length s = simp y at e in
     let h : length s < len = leb-false _ _ y in (take-all n s (omega arith) ∙ sym (take-all len s (omega arith)), omega arith))
+
+-- The last element by itself.
+pub last-apart : (s : List ℕ) → 1 ≤ length s → s ≡ take (length s - 1) s ++ (getD s (length s - 1) 0 ∷ [])
+last-apart s h =
+    let n : suc (length s - 1) ≡ length s = omega arith in
+    sym (take-all (suc (length s - 1)) s (omega arith)) ∙ take-suc s (length s - 1) 0 (omega arith)

@@ -1,5 +1,5 @@
--- Laws on a test that no element of a list passes.
-use Prim.Native.Nat.{ℕ, zero, suc, _+_, _≤_, _<_}
+-- Laws on a test that no element of a list passes, and on how many do.
+use Prim.Native.Nat.{ℕ, zero, suc, _+_, _-_, _≤_, _<_}
 use mathlib.Core.Path.{_≡_, refl, sym, ap, _∙_}
 use mathlib.Core.Bool.{Bool, true, false, true≢false}
 use mathlib.Core.List.{List, [], _∷_, _++_}
@@ -7,11 +7,12 @@ use native.Mathlib.Omega.{arith}
 use native.Mathlib.Numerals.{add-one}
 use lib.Bits.{bitOr}
 use lib.Dec.{leb, eqb}
-use lib.ListN.{length, getD, take, drop}
-use lib.Seq.{take-suc}
+use lib.ListN.{length, getD, take, drop, drop-of-length-le}
+use lib.Seq.{take-suc, drop-cons}
 use borrow.Author.Tests.{leb-true, le-leb}
-use Rattle.packing.specs.Choice.{pick, within, noneOf}
+use Rattle.packing.specs.Choice.{pick, within, noneOf, countOf}
 use Rattle.packing.proofs.Cases.{by-bool, both-true}
+use Rattle.packing.proofs.Lists.{last-apart}
 
 -- A number within bounds.
 pub within-yes : (low high n : ℕ) → low ≤ n → n ≤ high → within low high n ≡ true
@@ -60,6 +61,38 @@ module _ (p : ℕ → Bool) where
       joined true false = refl
       joined false true = refl
       joined false false = refl
+
+  -- no element passes where the last, known by itself, and none before it does
+  pub none-last : (s : List ℕ) (last : ℕ) → 1 ≤ length s → last ≡ getD s (length s - 1) 0 → noneOf p (take (length s - 1) s) ≡ true → p last ≡ false → noneOf p s ≡ true
+  unfolding noneOf
+  none-last s last h e f n =
+      ap (noneOf p) (last-apart s h ∙ ap (λ (b : ℕ). take (length s - 1) s ++ (b ∷ [])) (sym e))
+      ∙ none-append (take (length s - 1) s) (last ∷ [])
+      ∙ simp (f, n)
+
+  -- a loop that counts the elements that pass
+  pub count-at : (s : List ℕ) (i : ℕ) → i < length s → countOf p (drop i s) ≡ pick (p (getD s i 0)) 1 0 + countOf p (drop (i + 1) s)
+  unfolding countOf
+  count-at s i h = rw (add-one, drop-cons s i 0 h)
+
+  pub count-end : (s : List ℕ) (i : ℕ) → length s ≤ i → countOf p (drop i s) ≡ 0
+  unfolding countOf
+  count-end s i h = ap (countOf p) (drop-of-length-le s h)
+
+  pub count-most : (s : List ℕ) → countOf p s ≤ length s
+  unfolding countOf
+  count-most [] = omega arith
+  count-most (x ∷ s) = let h = count-most s in by-bool (p x) (λ y. simp y (omega arith)) (λ n. simp n (omega arith))
+
+  -- where no element passes a test, none passes one that asks for more
+  pub none-stronger : (q : ℕ → Bool) → ((x : ℕ) → q x ≡ true → p x ≡ true) → (s : List ℕ) → noneOf p s ≡ true → noneOf q s ≡ true
+  unfolding noneOf
+  none-stronger q more [] h = refl
+  none-stronger q more (x ∷ s) h =
+      by-bool (p x)
+      (λ y. absurd (true≢false (sym h ∙ simp y)))
+      (λ n. let rest = none-stronger q more s (simp n at h) in
+      by-bool (q x) (λ y. absurd (true≢false (sym (more x y) ∙ n))) (λ m. simp m rest))
 
 -- what such a loop has gathered at its end
 pub mark-all : (t : Bool) → eqb (pick t 0 1) 0 ≡ t

@@ -1,5 +1,5 @@
 -- A choice by a test, and tests on numbers and lists.
-use Prim.Native.Nat.{ℕ}
+use Prim.Native.Nat.{ℕ, _+_}
 use mathlib.Core.Bool.{Bool, true, false}
 use mathlib.Core.List.{List, [], _∷_}
 use lib.Dec.{leb}
@@ -17,3 +17,8 @@ within low high n = pick (leb low n) (leb n high) false
 unfoldable pub noneOf : (ℕ → Bool) → List ℕ → Bool
 noneOf p [] = true
 noneOf p (x ∷ s) = pick (p x) false (noneOf p s)
+
+-- How many elements of a list pass a test.
+unfoldable pub countOf : (ℕ → Bool) → List ℕ → ℕ
+countOf p [] = 0
+countOf p (x ∷ s) = pick (p x) 1 0 + countOf p s

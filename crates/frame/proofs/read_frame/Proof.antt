@@ -7,10 +7,11 @@ use lib.ListN.{length, take, drop, length-drop}
 use lib.Seq.{take-all}
 use Rattle.frame.specs.Stuffing.{unstuff}
 use borrow.Author.Tests.{not-true, not-false}
-use Rattle.frame.specs.Steps.{Examines, SoundAt, bytesOf}
+use Rattle.frame.specs.Steps.{isBounded, frameOf, judgeWhole, ExaminesWhole, SoundAt, bytesOf}
 use Rattle.frame.specs.declared.candidate.Examined.{Examined}
-use Rattle.frame.specs.Verdict.{judge, verdict, isTerminated}
-use Rattle.frame.proofs.VerdictLaws.{terminated-means, verdict-truncated, verdict-judged, answer-refused, answer-no-room, answer-done, header-as, contents-of}
+use Rattle.frame.specs.Verdict.{Verdict, accepted, verdict}
+use Rattle.frame.specs.Answers.{readAnswer, readOut}
+use Rattle.frame.proofs.VerdictLaws.{bounded-no, bounded-long, bounded-judged, whole-judged, plain-whole, answer-refused, answer-no-room, answer-done, header-as, contents-of}
 use Rattle.frame.proofs.ContentsLaws.{rest-length, rest-first}
 use borrow.Author.Needs.{needs}
 use Rattle.frame.proofs.read_frame.Statement.{statement}
@@ -19,54 +20,60 @@ use Rattle.frame.proofs.read_frame.Tie as tie
 abbrev W : tie.Else1 → List ℕ
 W t = t .before .before .before .before .args .wire .now
 
-terminated : (t : tie.Else1) → isTerminated (W t) ≡ true
-terminated t = sym (t .before .is-terminated .ensures) ∙ not-false _ (t .if1 .left)
+bounded : (t : tie.Else1) → isBounded (W t) ≡ true
+bounded t = sym (t .before .is-bounded .ensures) ∙ not-false _ (t .if1 .left)
 
-abbrev T : tie.After-examine → tie.Else1
-T e = e .before .before .before .before
+abbrev T : tie.After-kind-of → tie.Else1
+T k = k .before .before .before
 
-abbrev St : tie.After-examine → tie.Start
-St e = T e .before .before .before .before
+abbrev St : tie.After-kind-of → tie.Start
+St k = T k .before .before .before .before
 
 -- what stands between the flags, as the code takes it
-abbrev B : tie.After-examine → List ℕ
-B e = take (length (W (T e)) - 1 - 1) (drop 1 (W (T e)))
+abbrev B : tie.After-kind-of → List ℕ
+B k = take (length (W (T k)) - 1 - 1) (drop 1 (W (T k)))
 
-judged : (e : tie.After-examine) → judge (e .before .kind-of .result) (B e) ≡ verdict (W (T e))
-judged e =
-    let n : length (W (T e)) - 1 - 1 ≡ length (W (T e)) - 2 = omega arith in
-    ap (λ (k : _). judge k (B e)) (e .before .kind-of .ensures) ∙ verdict-judged (W (T e)) (B e) (terminated (T e)) (ap (λ (m : ℕ). take m (drop 1 (W (T e)))) n)
+judged : (k : tie.After-kind-of) → judgeWhole (k .kind-of .result) (B k) ≡ verdict (W (T k))
+judged k =
+    let n : length (W (T k)) - 1 - 1 ≡ length (W (T k)) - 2 = omega arith in
+    ap (λ (x : _). judgeWhole x (B k)) (k .kind-of .ensures) ∙ bounded-judged (W (T k)) (bounded (T k)) (B k) (ap (λ (m : ℕ). take m (drop 1 (W (T k)))) n)
 
-found : (e : tie.After-examine) (x : Examined) → e .examine .result ≡ x → Examines (e .before .kind-of .result) (B e) x
-found e x q = subst (λ (y : Examined). Examines (e .before .kind-of .result) (B e) y) q (e .examine .ensures)
+abbrev K : tie.After-examine-flagged → tie.After-kind-of
+K e = e .before .before .before
 
-abbrev E : tie.After-known-told2 → tie.After-examine
+found : (e : tie.After-examine-flagged) (x : Examined) → e .examine-flagged .result ≡ x → ExaminesWhole (K e .kind-of .result) (B (K e)) x
+found e x q = subst (λ (y : Examined). ExaminesWhole (K e .kind-of .result) (B (K e)) y) q (e .examine-flagged .ensures)
+
+abbrev E : tie.After-known-told2 → tie.After-examine-flagged
 E k = k .before .before .before
 
-sound : (k : tie.After-known-told2) → SoundAt (E k .before .kind-of .result) (B (E k)) (k .before .found2 .given .0 .0) (k .before .found2 .given .0 .1 .0) (k .before .found2 .given .0 .1 .1 .0)
-sound k = found (E k) _ (k .before .found2 .given .1)
+sound : (k : tie.After-known-told2) → SoundAt (K (E k) .kind-of .result) (B (K (E k))) (k .before .found2 .given .0 .0) (k .before .found2 .given .0 .1 .0) (k .before .found2 .given .0 .1 .1 .0)
+sound k = found (E k) _ (k .before .found2 .given .1) .1
+
+accepts : (k : tie.After-known-told2) → verdict (W (T (K (E k)))) ≡ accepted (frameOf (k .before .found2 .given .0 .0) (sound k .contents))
+accepts k = sym (judged (K (E k))) ∙ whole-judged _ _ (found (E k) _ (k .before .found2 .given .1) .0) ∙ sound k .judged
 
 -- the part from the contents on
-rest : (k : tie.After-known-told2) → take (length (B (E k)) - k .before .found2 .given .0 .1 .0) (drop (k .before .found2 .given .0 .1 .0) (B (E k))) ≡ drop (k .before .found2 .given .0 .1 .0) (B (E k))
-rest k = take-all (length (B (E k)) - k .before .found2 .given .0 .1 .0) (drop (k .before .found2 .given .0 .1 .0) (B (E k))) (omega (arith, length-drop (k .before .found2 .given .0 .1 .0) (B (E k))))
+rest : (k : tie.After-known-told2) → take (length (B (K (E k))) - k .before .found2 .given .0 .1 .0) (drop (k .before .found2 .given .0 .1 .0) (B (K (E k)))) ≡ drop (k .before .found2 .given .0 .1 .0) (B (K (E k)))
+rest k = take-all (length (B (K (E k))) - k .before .found2 .given .0 .1 .0) (drop (k .before .found2 .given .0 .1 .0) (B (K (E k)))) (omega (arith, length-drop (k .before .found2 .given .0 .1 .0) (B (K (E k)))))
 
-is-terminated-requires : tie.Need-is-terminated-requires
-is-terminated-requires c κs = search needs
+is-bounded-requires : tie.Need-is-bounded-requires
+is-bounded-requires c κs = search needs
 
 returns : tie.Need-returns
-returns c = answer-refused _ 6 _ (verdict-truncated _ (sym (c .before .is-terminated .ensures) ∙ not-true _ (c .if1 .taken)))
+returns c = answer-refused _ 6 _ (bounded-no _ (sym (c .before .is-bounded .ensures) ∙ not-true _ (c .if1 .taken)))
 
 shared-slice-read-start : tie.Need-shared-slice-read-start
-shared-slice-read-start c = let m = terminated-means (W (c .before)) (terminated (c .before)) in omega arith
+shared-slice-read-start c = let m = bounded-long (W (c .before)) (bounded (c .before)) in omega arith
 
 sub-body : tie.Need-sub-body
-sub-body c = let m = terminated-means (W (c .before)) (terminated (c .before)) in omega arith
+sub-body c = let m = bounded-long (W (c .before)) (bounded (c .before)) in omega arith
 
 sub-body-2 : tie.Need-sub-body-2
-sub-body-2 c = let m = terminated-means (W (c .before)) (terminated (c .before)) in omega arith
+sub-body-2 c = let m = bounded-long (W (c .before)) (bounded (c .before)) in omega arith
 
 part-body-start : tie.Need-part-body-start
-part-body-start c = let m = terminated-means (W (c .before)) (terminated (c .before)) in omega arith
+part-body-start c = let m = bounded-long (W (c .before)) (bounded (c .before)) in omega arith
 
 part-body-end : tie.Need-part-body-end
 part-body-end c = search needs
@@ -74,8 +81,26 @@ part-body-end c = search needs
 kind-of-requires : tie.Need-kind-of-requires
 kind-of-requires c κs = search needs
 
-examine-requires : tie.Need-examine-requires
-examine-requires c κs = search needs
+look-plain-requires : tie.Need-look-plain-requires
+look-plain-requires c κs = search needs
+
+read-plain-requires : tie.Need-read-plain-requires
+read-plain-requires c κs = let l = c .before .before in l .look-plain .ensures (c .before .if2 .taken)
+
+same-length : tie.Need-same-length
+same-length c = search needs
+
+returns-2 : tie.Need-returns-2
+returns-2 c =
+    let r = c .before .before in
+    let l = r .before .before .before in
+    let k = l .before in
+    let out = St k .args .out .now in
+    let same = plain-whole (B k) _ (l .look-plain .ensures (r .before .before .if2 .taken)) (k .kind-of .result) ∙ judged k in
+    (r .read-plain .ensures .0 ∙ ap (λ (v : Verdict). readAnswer v (length out)) same, r .read-plain .ensures .1 ∙ ap (λ (v : Verdict). readOut v out) same)
+
+examine-flagged-requires : tie.Need-examine-flagged-requires
+examine-flagged-requires c κs = search needs
 
 enum-known-found : tie.Need-enum-known-found
 enum-known-found c = search needs
@@ -83,11 +108,11 @@ enum-known-found c = search needs
 enum-known-found-2 : tie.Need-enum-known-found-2
 enum-known-found-2 c = search needs
 
-returns-2 : tie.Need-returns-2
-returns-2 c =
+returns-3 : tie.Need-returns-3
+returns-3 c =
     let k = c .before in
     let s = sound k in
-    answer-no-room _ _ (St (E k) .args .out .now) (sym (judged (E k)) ∙ s .judged) (omega (arith, c .if2 .taken, s .counted, ap length (contents-of (k .before .found2 .given .0 .0) (s .contents))))
+    answer-no-room _ _ (St (K (E k)) .args .out .now) (accepts k) (omega (arith, c .if3 .taken, s .counted, ap length (contents-of (k .before .found2 .given .0 .0) (s .contents))))
 
 sub-copy-contents : tie.Need-sub-copy-contents
 sub-copy-contents c = let s = sound (c .before) in omega (arith, s .inside)
@@ -102,26 +127,26 @@ copy-contents-requires : tie.Need-copy-contents-requires
 copy-contents-requires c κs =
     let k = c .before .before .before in
     let s = sound k in
-    (ap (λ (l : List ℕ). length (bytesOf (unstuff false l))) (rest k) ∙ rest-length s, c .before .before .if2 .left)
+    (ap (λ (l : List ℕ). length (bytesOf (unstuff false l))) (rest k) ∙ rest-length s, c .before .before .if3 .left)
 
 read-as-requires : tie.Need-read-as-requires
 read-as-requires c κs = search needs
 
-returns-3 : tie.Need-returns-3
-returns-3 c =
-    let e = c .before .before .before in
-    answer-refused _ _ (St e .args .out .now) (sym (judged e) ∙ found e _ (c .before .found .given .1))
-
-same-length : tie.Need-same-length
-same-length c = search needs
-
 returns-4 : tie.Need-returns-4
 returns-4 c =
+    let e = c .before .before .before in
+    answer-refused _ _ (St (K e) .args .out .now) (sym (judged (K e)) ∙ found e _ (c .before .found .given .1))
+
+same-length-2 : tie.Need-same-length-2
+same-length-2 c = search needs
+
+returns-5 : tie.Need-returns-5
+returns-5 c =
     let k = c .before .before .before .before .before .before .before in
     let s = sound k in
-    let out = St (E k) .args .out .now in
+    let out = St (K (E k)) .args .out .now in
     let n = ap length (contents-of (k .before .found2 .given .0 .0) (s .contents)) in
-    let done = answer-done _ _ out (sym (judged (E k)) ∙ s .judged) (omega (arith, n, s .counted, c .before .before .before .before .before .before .if2 .left)) in (
+    let done = answer-done _ _ out (accepts k) (omega (arith, n, s .counted, c .before .before .before .before .before .before .if3 .left)) in (
       c .read-as .ensures ∙ header-as (k .before .found2 .given .0 .0) (s .contents) _ (s .counted) ∙ done .0,
       rest-first s out _ (c .before .before .before .copy-contents .ensures ∙ ap (λ (l : List ℕ). take (k .before .found2 .given .0 .1 .1 .0) (bytesOf (unstuff false l)) ++ drop (k .before .found2 .given .0 .1 .1 .0) out) (rest k))
           ∙ done .1,
@@ -131,7 +156,7 @@ pub read-frame-spec : {M : Type 1} → statement M
 read-frame-spec =
     tie.close
     (tie.spec
-    is-terminated-requires
+    is-bounded-requires
     returns
     shared-slice-read-start
     sub-body
@@ -139,15 +164,19 @@ read-frame-spec =
     part-body-start
     part-body-end
     kind-of-requires
-    examine-requires
+    look-plain-requires
+    read-plain-requires
+    same-length
+    returns-2
+    examine-flagged-requires
     enum-known-found
     enum-known-found-2
-    returns-2
+    returns-3
     sub-copy-contents
     part-copy-contents-start
     part-copy-contents-end
     copy-contents-requires
     read-as-requires
-    returns-3
-    same-length
-    returns-4)
+    returns-4
+    same-length-2
+    returns-5)

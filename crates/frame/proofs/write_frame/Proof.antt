@@ -25,10 +25,10 @@ abbrev W : tie.After-width → List ℕ
 W w = wireOf (F w)
 
 abbrev sum : tie.After-width → ℕ
-sum w = w .before .before .before .sum-of .result
+sum w = w .before .before .before .look .result .sum
 
 is-sum : (w : tie.After-width) → sum w ≡ checksum (St w .args .contents .now)
-is-sum w = w .before .before .before .sum-of .ensures
+is-sum w = w .before .before .before .look .ensures .1
 
 -- what the code counts is the length of the frame
 counted : (w : tie.After-width) → w .before .header-len .result + w .before .before .stuffed-len .result + w .width .result + 1 ≡ length (W w)
@@ -54,11 +54,11 @@ returns c =
     let s = a .contents .now in
     writes-refusal _ 2 (a .out .now) (draft-long (frameOf (a .header) s) (omega (arith, wire-length (a .header) s, header-between (a .header), stuff-between s, stuffByte-between (checksum s))))
 
-sum-of-requires : tie.Need-sum-of-requires
-sum-of-requires c κs = search needs
+look-requires : tie.Need-look-requires
+look-requires c κs = search needs
 
 stuffed-len-requires : tie.Need-stuffed-len-requires
-stuffed-len-requires c κs = search needs
+stuffed-len-requires c κs = (c .look .ensures .0, omega (arith, c .before .if1 .left))
 
 header-len-requires : tie.Need-header-len-requires
 header-len-requires c κs = search needs
@@ -127,7 +127,7 @@ write-frame-spec =
     tie.close
     (tie.spec
     returns
-    sum-of-requires
+    look-requires
     stuffed-len-requires
     header-len-requires
     add-n

@@ -1,5 +1,5 @@
 use mathlib.Core.Path.{_≡_, refl, ap, _∙_}
-use Prim.Native.Nat.{ℕ, _+_, _-_, _≤_, _<_}
+use Prim.Native.Nat.{ℕ, _-_, _≤_, _<_}
 use native.Mathlib.Omega.{arith}
 use mathlib.Core.Bool.{false}
 use mathlib.Core.List.{List, _++_}
@@ -28,38 +28,16 @@ more l h = omega (arith, l .before .before .pre)
 loop-holds : tie.Need-loop-holds Inv-loop μ-loop
 loop-holds c = (search needs, (search needs, refl, refl, refl))
 
-next-at-requires : tie.Need-next-at-requires Inv-loop μ-loop
-next-at-requires c κs = search needs
-
-enum-told : tie.Need-enum-told Inv-loop μ-loop
-enum-told c = search needs
-
-same-length : tie.Need-same-length Inv-loop μ-loop
-same-length c = c .before .before .before .before .before .loop .inv .1 .1
-
-returns : tie.Need-returns Inv-loop μ-loop
-returns c =
-    let l = c .before .before .before .before .before in
-    absurd (front-end (l .before .before .args .s .now) _ _ _ _ (l .loop .inv .1) (more l (c .before .before .before .before .loop-test .taken)) _ (c .before .before .next-at .ensures) (c .enum-told .given .1))
-
-enum-told-2 : tie.Need-enum-told-2 Inv-loop μ-loop
-enum-told-2 c = search needs
-
-same-length-2 : tie.Need-same-length-2 Inv-loop μ-loop
-same-length-2 c = c .before .before .before .before .before .loop .inv .1 .1
-
-returns-2 : tie.Need-returns-2 Inv-loop μ-loop
-returns-2 c =
-    let l = c .before .before .before .before .before in
-    absurd (front-bad (l .before .before .args .s .now) _ _ _ _ (l .loop .inv .1) (more l (c .before .before .before .before .loop-test .taken)) _ (c .before .before .next-at .ensures) (c .enum-told2 .given .1))
-
-enum-known-step : tie.Need-enum-known-step Inv-loop μ-loop
-enum-known-step c = search needs
+unit-at-requires : tie.Need-unit-at-requires Inv-loop μ-loop
+unit-at-requires c κs =
+    let l = c .before .before in
+    let m = more l (c .before .loop-test .taken) in
+    (front-end (l .before .before .args .s .now) _ _ _ _ (l .loop .inv .1) m _ refl, front-bad (l .before .before .args .s .now) _ _ _ _ (l .loop .inv .1) m _ refl)
 
 slice-write-s : tie.Need-slice-write-s Inv-loop μ-loop
 slice-write-s c =
-    let l = c .before .before .before .before .before .before in
-    front-room (l .before .before .args .s .now) _ _ _ _ (l .loop .inv .1) (more l (c .before .before .before .before .before .loop-test .taken)) _ (c .before .before .before .next-at .ensures) _ _ (c .before .step .given .1)
+    let l = c .before .before .before in
+    front-room (l .before .before .args .s .now) _ _ _ _ (l .loop .inv .1) (more l (c .before .before .loop-test .taken)) _ refl _ _ (c .unit-at .ensures)
 
 add-k : tie.Need-add-k Inv-loop μ-loop
 add-k c = search needs
@@ -69,14 +47,14 @@ loop-less c = search needs
 
 loop-again : tie.Need-loop-again Inv-loop μ-loop
 loop-again c =
-    let l = c .before .before .before .before .before .before in
-    (search needs, front-more (l .before .before .args .s .now) _ _ _ _ (l .loop .inv .1) (more l (c .before .before .before .before .before .loop-test .taken)) _ (c .before .before .before .next-at .ensures) _ _ (c .before .step .given .1))
+    let l = c .before .before .before in
+    (search needs, front-more (l .before .before .args .s .now) _ _ _ _ (l .loop .inv .1) (more l (c .before .before .loop-test .taken)) _ refl _ _ (c .unit-at .ensures))
 
-same-length-3 : tie.Need-same-length-3 Inv-loop μ-loop
-same-length-3 c = c .before .loop .inv .1 .1
+same-length : tie.Need-same-length Inv-loop μ-loop
+same-length c = c .before .loop .inv .1 .1
 
-returns-3 : tie.Need-returns-3 Inv-loop μ-loop
-returns-3 c =
+returns : tie.Need-returns Inv-loop μ-loop
+returns c =
     let l = c .before in
     let e : l .loop .k ≡ l .before .before .args .count = omega arith in
     l .loop .inv .1 .3 ∙ ap (λ (k : ℕ). take k (U l) ++ drop k (l .before .before .args .s .now)) e
@@ -88,17 +66,10 @@ unstuff-front-spec =
     Inv-loop
     μ-loop
     loop-holds
-    next-at-requires
-    enum-told
-    same-length
-    returns
-    enum-told-2
-    same-length-2
-    returns-2
-    enum-known-step
+    unit-at-requires
     slice-write-s
     add-k
     loop-less
     loop-again
-    same-length-3
-    returns-3)
+    same-length
+    returns)

@@ -1,0 +1,67 @@
+use mathlib.Core.Path.{_≡_}
+use Prim.Native.Nat.{_+_, _-_, _≤_}
+use native.Mathlib.Nat.{zero-add}
+use native.Mathlib.Omega.{arith}
+use lib.ListN.{length, drop}
+use Rattle.packing.specs.Choice.{within, countOf}
+use Rattle.packing.proofs.Tests.{count-at, count-end, count-most}
+use borrow.Author.Needs.{needs}
+use Rattle.frame.proofs.bytes.count_within.Statement.{statement}
+use Rattle.frame.proofs.bytes.count_within.Tie as tie
+use Rattle.frame.proofs.bytes.count_within.Reads as reads
+use Rattle.frame.proofs.bytes.count_within.Lts as lts
+use Rattle.frame.proofs.bytes.mark.Reads as mark-reads
+
+abbrev Inv-loop : tie.InvT-loop
+Inv-loop s low high count₀ i₀ count i = (i ≤ length s) × (count + countOf (within low high) (drop i s) ≡ countOf (within low high) s)
+
+abbrev μ-loop : tie.MeasureT-loop
+μ-loop s low high count₀ i₀ count i = length s - i
+
+loop-holds : tie.Need-loop-holds Inv-loop μ-loop
+loop-holds c = (search needs, zero-add _)
+
+shared-slice-read-mark : tie.Need-shared-slice-read-mark Inv-loop μ-loop
+shared-slice-read-mark c = search needs
+
+mark-requires : tie.Need-mark-requires Inv-loop μ-loop
+mark-requires c κs = search needs
+
+add-count : tie.Need-add-count Inv-loop μ-loop
+add-count c =
+    let l = c .before .before .before in
+    let a = l .before .before .args in
+    omega (arith, l .loop .inv .1, l .before .before .pre, count-most (within (a .low) (a .high)) (a .s .now), count-at (within (a .low) (a .high)) (a .s .now) (l .loop .i) (c .before .before .loop-test .taken), c .mark .ensures)
+
+add-i : tie.Need-add-i Inv-loop μ-loop
+add-i c = search needs
+
+loop-less : tie.Need-loop-less Inv-loop μ-loop
+loop-less c = search needs
+
+loop-again : tie.Need-loop-again Inv-loop μ-loop
+loop-again c =
+    let l = c .before .before .before in
+    let a = l .before .before .args in
+    (search needs, omega (arith, l .loop .inv .1, count-at (within (a .low) (a .high)) (a .s .now) (l .loop .i) (c .before .before .loop-test .taken), c .mark .ensures))
+
+returns : tie.Need-returns Inv-loop μ-loop
+returns c =
+    let l = c .before in
+    let a = l .before .before .args in
+    omega (arith, l .loop .inv .1, count-end (within (a .low) (a .high)) (a .s .now) (l .loop .i) (c .loop-test .left))
+
+pub count-within-spec : {M : Type 1} → statement M
+count-within-spec =
+    tie.close
+    (tie.spec
+    Inv-loop
+    μ-loop
+    loop-holds
+    shared-slice-read-mark
+    mark-requires
+    add-count
+    add-i
+    loop-less
+    loop-again
+    returns)

@@ -1,0 +1,14 @@
+use borrow.Author.Tests.{eq-eqb, ne-eqb}
+use Rattle.frame.proofs.candidate.lower.Statement.{statement}
+use Rattle.frame.proofs.candidate.lower.Tie as tie
+use Rattle.frame.proofs.candidate.lower.Reads as reads
+use Rattle.frame.proofs.candidate.lower.Lts as lts
+
+returns : tie.Need-returns
+returns c = simp (eq-eqb _ _ (c .if1 .taken))
+
+returns-2 : tie.Need-returns-2
+returns-2 c = simp (ne-eqb _ _ (c .if1 .left))
+
+pub lower-spec : {M : Type 1} → statement M
+lower-spec = tie.close (tie.spec returns returns-2)
