@@ -196,7 +196,7 @@ fn line_of(pieces: &[Vec<u8>]) -> Vec<u8> {
     all.take(CHUNK * CHUNKS).collect()
 }
 
-/// A line fed to ours by the chunk and to the plain reader by the byte, which is all that it offers.
+/// A line fed to both readers by the chunk.
 fn reading_line(what: &str, line: &[u8]) {
     check_line(line);
     let (mut ours, mut plain) = (LineReader::new(), plain_line::Line::new());
@@ -219,12 +219,12 @@ fn reading_line(what: &str, line: &[u8]) {
         },
         &mut || {
             for chunk in black_box(line).chunks(CHUNK) {
-                for byte in chunk {
-                    match plain.feed(*byte) {
-                        plain_line::Answer::Nothing => {}
-                        answer => {
-                            black_box((answer, plain.contents()));
-                        }
+                let mut rest = chunk;
+                while !rest.is_empty() {
+                    let (taken, told) = plain.feed_chunk(rest);
+                    rest = &rest[taken..];
+                    if told != plain_line::Answer::Nothing {
+                        black_box((told, plain.contents()));
                     }
                 }
             }

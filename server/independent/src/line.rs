@@ -57,6 +57,23 @@ impl Line {
         }
     }
 
+    /// Takes bytes up to the first that is answered, and tells how many were
+    /// taken. With no answer all of them are.
+    #[inline]
+    pub fn feed_chunk(&mut self, chunk: &[u8]) -> (usize, Answer) {
+        let mut taken = 0;
+        while let Some(run) = chunk[taken..].iter().position(|&byte| frame::is_flag(byte)) {
+            self.extend(&chunk[taken..taken + run]);
+            taken += run + 1;
+            let answer = self.feed(chunk[taken - 1]);
+            if answer != Answer::Nothing {
+                return (taken, answer);
+            }
+        }
+        self.extend(&chunk[taken..]);
+        (chunk.len(), Answer::Nothing)
+    }
+
     /// Ends the input; the reader can be used again as a new one.
     pub fn finish(&mut self) -> Answer {
         let answer = self.truncation();
