@@ -3,7 +3,7 @@ ghost use mathlib.Core.Path.{_≡_};
 ghost use mathlib.Core.List.{_++_};
 ghost use Prim.Native.Nat.{_+_, _≤_};
 ghost use lib.ListN.{length, take, drop};
-ghost use Rattle.packing.specs.Choice.{pick, within, noneOf, countOf};
+ghost use Rattle.packing.specs.Choice.{within, noneOf, countOf};
 ghost use Rattle.packing.specs.Splice.{splice};
 ghost use Rattle.frame.specs.Checksum.{checksum};
 
@@ -13,33 +13,7 @@ pub(crate) struct Looked {
     pub sum: u8,
 }
 
-// 1 for a byte between two others, both included, else 0.
-pub(crate) fn mark(b: u8, low: u8, high: u8) -> u8
-    ensures { λ r. ⌜ r ≡ pick (within low high b) 1 0 ⌝ }
-{
-    if b < low {
-        return 0;
-    }
-    if high < b {
-        return 0;
-    }
-    1
-}
-
-// Whether no byte lies between two values, both included. The loop has no branch on the bytes.
-pub(crate) fn none_within(s: &[u8], low: u8, high: u8) -> bool
-    ensures { λ r. ⌜ r ≡ noneOf (within low high) (now (s .entry)) ⌝ }
-{
-    let mut seen: u8 = 0;
-    let mut i: usize = 0;
-    while i < s.len() {
-        seen = seen | mark(s[i], low, high);
-        i += 1;
-    }
-    seen == 0
-}
-
-// The same, with the exclusive or of all bytes, in one pass.
+// Whether no byte lies between two values, both included, and the exclusive or of all, in one pass.
 pub(crate) fn look(s: &[u8], low: u8, high: u8) -> Looked
     ensures { λ r. ⌜ r .clear ≡ noneOf (within low high) (now (s .entry)) ⌝ }
     ensures { λ r. ⌜ r .sum ≡ checksum (now (s .entry)) ⌝ }
@@ -48,7 +22,7 @@ pub(crate) fn look(s: &[u8], low: u8, high: u8) -> Looked
     let mut sum: u8 = 0;
     let mut i: usize = 0;
     while i < s.len() {
-        seen = seen | mark(s[i], low, high);
+        seen = seen | packing::mark(s[i], low, high);
         sum = sum ^ s[i];
         i += 1;
     }
@@ -66,7 +40,7 @@ pub(crate) fn count_within(s: &[u8], low: u8, high: u8) -> u8
     let mut count: u8 = 0;
     let mut i: usize = 0;
     while i < s.len() {
-        count = count + mark(s[i], low, high);
+        count = count + packing::mark(s[i], low, high);
         i += 1;
     }
     count

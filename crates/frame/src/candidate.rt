@@ -158,7 +158,7 @@ fn escapes_sound(s: &[u8]) -> bool
 fn unsound(b: u8, after: u8) -> u8
     ensures { λ r. ⌜ r ≡ pick (goodPair b after) 0 1 ⌝ }
 {
-    crate::bytes::mark(b, ESCAPE, ESCAPE) & crate::bytes::mark(after, ESCAPED_LIMIT + 1, 0xFF)
+    packing::mark(b, ESCAPE, ESCAPE) & packing::mark(after, ESCAPED_LIMIT + 1, 0xFF)
 }
 
 // The exclusive or of bytes, an escape taken as F0.
@@ -255,7 +255,7 @@ pub(crate) fn look_plain(body: &[u8]) -> Looked
 pub(crate) fn examine_flagged(kind: Kind, body: &[u8]) -> Examined
     ensures { λ r. ⌜ ExaminesWhole kind (now (body .entry)) r ⌝ }
 {
-    if crate::bytes::none_within(body, 0xF0, 0xF2) {
+    if packing::none_within(body, 0xF0, 0xF2) {
         return examine(kind, body);
     }
     Examined::Unsound(Refusal::Truncated)

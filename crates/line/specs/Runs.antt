@@ -3,9 +3,11 @@ use mathlib.Core.Path.{_≡_}
 use mathlib.Core.Bool.{Bool, true, false}
 use mathlib.Core.List.{List}
 use lib.ListN.{length, drop}
-use Prim.Native.Nat.{ℕ, _≤_}
+use Prim.Native.Nat.{ℕ, _+_, _≤_}
 use Rattle.line.specs.Feed.{plus, feedOf}
+use Rattle.line.specs.Reader.{reader}
 use Rattle.line.specs.declared.LineReader.{LineReader}
+use Rattle.line.specs.declared.runs.Run.{Run}
 use Rattle.line.specs.declared.Mode.{Mode}
 use Rattle.line.specs.declared.Mode.the-variants.{Outside, InStandard, InExtended, Overlong}
 
@@ -21,3 +23,10 @@ pub record Reaches (s : List ℕ) (from : ℕ) (r : LineReader) (at : ℕ) (next
   pub onward : from ≤ at
   pub inside : at ≤ length s
   pub same : plus from (feedOf r (drop from s)) ≡ plus at (feedOf next (drop at s))
+
+-- Bytes from an index on, held one after the other up to the index where a run is said to end, which is at most `end`.
+pub record Kept (s : List ℕ) (from end : ℕ) (bytes : List ℕ) (len : ℕ) (bytes′ : List ℕ) (run : Run) : Type 0 where
+  pub onward : from ≤ run .at
+  pub within : run .at ≤ end
+  pub count : run .len + from ≡ len + run .at
+  pub same : (mode : Mode) → isHeld mode ≡ true → Reaches s from (reader bytes len mode) (run .at) (reader bytes′ (run .len) mode)

@@ -2,13 +2,17 @@
 use crate::Mode;
 ghost use mathlib.Core.Path.{_≡_};
 ghost use mathlib.Core.Bool.{true, false};
-ghost use Prim.Native.Nat.{_≤_, _-_};
-ghost use lib.ListN.{length};
+ghost use Prim.Native.Nat.{_+_, _-_, _≤_};
+ghost use lib.ListN.{length, take, drop};
+ghost use Rattle.packing.specs.Choice.{noneOf};
 ghost use Rattle.frame.specs.Stuffing.{isFlag};
 ghost use Rattle.line.specs.Reader.{reader};
-ghost use Rattle.line.specs.Runs.{isHeld, Reaches};
+ghost use Rattle.line.specs.Runs.{isHeld, Reaches, Kept};
 ghost use Rattle.line.specs.declared.LineReader.{LineReader};
 ghost use Rattle.line.specs.declared.Mode.{Mode};
+
+// How many bytes are tested for flags together.
+const BLOCK: usize = 32;
 
 // Where a run ends, and how many bytes are held there.
 pub(crate) struct Run {
@@ -48,17 +52,33 @@ fn is_flag(b: u8) -> bool
     b <= crate::STOP
 }
 
-// Bytes that are not held.
+// Bytes that are not held. Whole blocks without a flag are passed over first, because a block is tested without a branch
+// for each byte.
 fn skip(input: &[u8], from: usize) -> usize
     requires { ⌜ from ≤ length (now input) ⌝ }
     ensures { λ at. ⌜ ((r : LineReader) → isHeld (r .mode) ≡ false → Reaches (now (input .entry)) from r at r) ⌝ }
 {
-    let mut i = from;
+    let mut i = skip_blocks(input, from);
     while i < input.len() {
         if is_flag(input[i]) {
             return i;
         }
         i += 1;
+    }
+    i
+}
+
+fn skip_blocks(input: &[u8], from: usize) -> usize
+    requires { ⌜ from ≤ length (now input) ⌝ }
+    ensures { λ at. ⌜ at ≤ length (now (input .entry)) ⌝ }
+    ensures { λ at. ⌜ ((r : LineReader) → isHeld (r .mode) ≡ false → Reaches (now (input .entry)) from r at r) ⌝ }
+{
+    let mut i = from;
+    while BLOCK <= input.len() - i {
+        if !packing::none_within(&input[i..i + BLOCK], crate::EXTENDED_START, crate::STOP) {
+            return i;
+        }
+        i += BLOCK;
     }
     i
 }
@@ -73,13 +93,56 @@ fn room_after(len: usize) -> usize
     0
 }
 
-// Bytes that are held.
+// Bytes that are held, whole blocks without a flag first.
 fn keep(bytes: &mut [u8; 118], len: usize, input: &[u8], from: usize) -> Run
     requires { ⌜ from ≤ length (now input) ⌝ }
     ensures { λ run. ⌜ ((mode : Mode) → isHeld mode ≡ true → Reaches (now (input .entry)) from (reader (now (bytes .entry)) len mode) (run .at) (reader (now (bytes .exit)) (run .len) mode)) ⌝ }
 {
     let most = packing::lesser(room_after(len), input.len() - from);
     let end = from + most;
+    let run = keep_blocks(bytes, len, input, from, end);
+    keep_each(bytes, run.len, input, run.at, end)
+}
+
+fn keep_blocks(bytes: &mut [u8; 118], len: usize, input: &[u8], from: usize, end: usize) -> Run
+    requires { ⌜ from ≤ end ⌝ }
+    requires { ⌜ end ≤ length (now input) ⌝ }
+    requires { ⌜ end ≤ from + (118 - len) ⌝ }
+    ensures { λ run. ⌜ Kept (now (input .entry)) from end (now (bytes .entry)) len (now (bytes .exit)) run ⌝ }
+{
+    let mut n = len;
+    let mut i = from;
+    while BLOCK <= end - i {
+        if !packing::none_within(&input[i..i + BLOCK], crate::EXTENDED_START, crate::STOP) {
+            return Run { at: i, len: n };
+        }
+        keep_block(bytes, n, input, i);
+        n += BLOCK;
+        i += BLOCK;
+    }
+    Run { at: i, len: n }
+}
+
+// A block without a flag.
+fn keep_block(bytes: &mut [u8; 118], len: usize, input: &[u8], from: usize)
+    requires { ⌜ from + 32 ≤ length (now input) ⌝ }
+    requires { ⌜ len + 32 ≤ 118 ⌝ }
+    requires { ⌜ noneOf isFlag (take 32 (drop from (now input))) ≡ true ⌝ }
+    ensures { λ r. ⌜ ((mode : Mode) → isHeld mode ≡ true → Reaches (now (input .entry)) from (reader (now (bytes .entry)) len mode) (from + 32) (reader (now (bytes .exit)) (len + 32) mode)) ⌝ }
+{
+    let mut k: usize = 0;
+    while k < BLOCK {
+        bytes[len + k] = input[from + k];
+        k += 1;
+    }
+}
+
+fn keep_each(bytes: &mut [u8; 118], len: usize, input: &[u8], from: usize, end: usize) -> Run
+    requires { ⌜ from ≤ end ⌝ }
+    requires { ⌜ end ≤ length (now input) ⌝ }
+    requires { ⌜ end ≤ from + (118 - len) ⌝ }
+    ensures { λ run. ⌜ Kept (now (input .entry)) from end (now (bytes .entry)) len (now (bytes .exit)) run ⌝ }
+{
     let mut n = len;
     let mut i = from;
     while i < end {

@@ -4,7 +4,7 @@ ghost use mathlib.Core.Path.{_≡_};
 ghost use Prim.Native.Nat.{_+_};
 ghost use lib.Dec.{leb};
 ghost use lib.ListN.{getD};
-ghost use Rattle.packing.specs.Choice.{pick};
+ghost use Rattle.packing.specs.Choice.{pick, within, noneOf};
 ghost use Rattle.packing.specs.Number.{number};
 
 // The most bytes of a number.
@@ -15,6 +15,32 @@ pub fn lesser(a: usize, b: usize) -> usize
     ensures { λ r. ⌜ r ≡ pick (leb a b) a b ⌝ }
 {
     if a <= b { a } else { b }
+}
+
+// 1 for a byte between two others, both included, else 0.
+pub fn mark(b: u8, low: u8, high: u8) -> u8
+    ensures { λ r. ⌜ r ≡ pick (within low high b) 1 0 ⌝ }
+{
+    if b < low {
+        return 0;
+    }
+    if high < b {
+        return 0;
+    }
+    1
+}
+
+// Whether no byte lies between two values, both included. The loop has no branch on the bytes.
+pub fn none_within(s: &[u8], low: u8, high: u8) -> bool
+    ensures { λ r. ⌜ r ≡ noneOf (within low high) (now (s .entry)) ⌝ }
+{
+    let mut seen: u8 = 0;
+    let mut i: usize = 0;
+    while i < s.len() {
+        seen = seen | mark(s[i], low, high);
+        i += 1;
+    }
+    seen == 0
 }
 
 // The number of at most eight bytes from an index on, lowest first. A byte past the end counts as 0.

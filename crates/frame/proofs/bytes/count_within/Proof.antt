@@ -8,9 +8,6 @@ use Rattle.packing.proofs.Tests.{count-at, count-end, count-most}
 use borrow.Author.Needs.{needs}
 use Rattle.frame.proofs.bytes.count_within.Statement.{statement}
 use Rattle.frame.proofs.bytes.count_within.Tie as tie
-use Rattle.frame.proofs.bytes.count_within.Reads as reads
-use Rattle.frame.proofs.bytes.count_within.Lts as lts
-use Rattle.frame.proofs.bytes.mark.Reads as mark-reads
 
 abbrev Inv-loop : tie.InvT-loop
 Inv-loop s low high count₀ i₀ count i = (i ≤ length s) × (count + countOf (within low high) (drop i s) ≡ countOf (within low high) s)

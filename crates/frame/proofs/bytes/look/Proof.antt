@@ -10,9 +10,6 @@ use Rattle.frame.proofs.ChecksumLaws.{sumFrom-at, sumFrom-end}
 use borrow.Author.Needs.{needs}
 use Rattle.frame.proofs.bytes.look.Statement.{statement}
 use Rattle.frame.proofs.bytes.look.Tie as tie
-use Rattle.frame.proofs.bytes.look.Reads as reads
-use Rattle.frame.proofs.bytes.look.Lts as lts
-use Rattle.frame.proofs.bytes.mark.Reads as mark-reads
 
 abbrev Inv-loop : tie.InvT-loop
 Inv-loop s low high seen₀ sum₀ i₀ seen sum i = (i ≤ length s) × (seen ≡ pick (noneOf (within low high) (take i s)) 0 1) × (sumFrom sum (drop i s) ≡ sumFrom 0 s)

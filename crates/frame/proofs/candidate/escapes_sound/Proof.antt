@@ -6,9 +6,6 @@ use Rattle.frame.proofs.EscapeLaws.{Paired, paired-none, paired-more, p
 use borrow.Author.Needs.{needs}
 use Rattle.frame.proofs.candidate.escapes_sound.Statement.{statement}
 use Rattle.frame.proofs.candidate.escapes_sound.Tie as tie
-use Rattle.frame.proofs.candidate.escapes_sound.Reads as reads
-use Rattle.frame.proofs.candidate.escapes_sound.Lts as lts
-use Rattle.frame.proofs.candidate.unsound.Reads as unsound-reads
 
 abbrev Inv-loop : tie.InvT-loop
 Inv-loop s n bad₀ i₀ bad i = (i + 1 ≤ n) × (n ≡ length s) × Paired s bad i

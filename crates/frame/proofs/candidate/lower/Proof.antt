@@ -1,8 +1,6 @@
 use borrow.Author.Tests.{eq-eqb, ne-eqb}
 use Rattle.frame.proofs.candidate.lower.Statement.{statement}
 use Rattle.frame.proofs.candidate.lower.Tie as tie
-use Rattle.frame.proofs.candidate.lower.Reads as reads
-use Rattle.frame.proofs.candidate.lower.Lts as lts
 
 returns : tie.Need-returns
 returns c = simp (eq-eqb _ _ (c .if1 .taken))

@@ -8,9 +8,6 @@ use Rattle.frame.proofs.EscapeLaws.{lowered-at, lowered-end}
 use borrow.Author.Needs.{needs}
 use Rattle.frame.proofs.candidate.lowered_sum.Statement.{statement}
 use Rattle.frame.proofs.candidate.lowered_sum.Tie as tie
-use Rattle.frame.proofs.candidate.lowered_sum.Reads as reads
-use Rattle.frame.proofs.candidate.lowered_sum.Lts as lts
-use Rattle.frame.proofs.candidate.lower.Reads as lower-reads
 
 abbrev Inv-loop : tie.InvT-loop
 Inv-loop s sum₀ i₀ sum i = (i ≤ length s) × (sumFrom sum (lowered (drop i s)) ≡ sumFrom 0 (lowered s))

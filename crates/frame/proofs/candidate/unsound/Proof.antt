@@ -3,9 +3,6 @@ use Rattle.frame.proofs.EscapeLaws.{pair-mark}
 use borrow.Author.Needs.{needs}
 use Rattle.frame.proofs.candidate.unsound.Statement.{statement}
 use Rattle.frame.proofs.candidate.unsound.Tie as tie
-use Rattle.frame.proofs.candidate.unsound.Reads as reads
-use Rattle.frame.proofs.candidate.unsound.Lts as lts
-use Rattle.frame.proofs.bytes.mark.Reads as mark-reads
 
 mark-requires : tie.Need-mark-requires
 mark-requires c κs = search needs

@@ -6,7 +6,7 @@ use Prim.Native.Nat.{_≤_, _-_}
 use borrow.Author.Needs.{needs}
 use Rattle.line.specs.Runs.{isHeld, Reaches}
 use Rattle.line.specs.declared.LineReader.{LineReader}
-use Rattle.line.proofs.RunLaws.{stays, skip-more}
+use Rattle.line.proofs.RunLaws.{skip-more}
 use Rattle.line.proofs.runs.skip.Statement.{statement}
 use Rattle.line.proofs.runs.skip.Tie as tie
 
@@ -16,8 +16,11 @@ Inv-loop input from i₀ i = (i ≤ length input) × ((r : LineReader) → isHel
 abbrev μ-loop : tie.MeasureT-loop
 μ-loop input from i₀ i = length input - i
 
+skip-blocks-requires : tie.Need-skip-blocks-requires Inv-loop μ-loop
+skip-blocks-requires c κs = search needs
+
 loop-holds : tie.Need-loop-holds Inv-loop μ-loop
-loop-holds c = (search needs, λ r h. stays _ _ r (c .before .pre))
+loop-holds c = (c .skip-blocks .ensures .0, c .skip-blocks .ensures .1)
 
 shared-slice-read-is-flag : tie.Need-shared-slice-read-is-flag Inv-loop μ-loop
 shared-slice-read-is-flag c = search needs
@@ -46,6 +49,7 @@ skip-spec =
     (tie.spec
     Inv-loop
     μ-loop
+    skip-blocks-requires
     loop-holds
     shared-slice-read-is-flag
     is-flag-requires

@@ -3,11 +3,11 @@ use Prim.Native.Nat.{ℕ, _-_, _≤_}
 use lib.ListN.{length, take}
 use lib.Dec.{eqb}
 use lib.Seq.{take-all}
 use Rattle.packing.specs.Choice.{pick, within, noneOf}
 use Rattle.packing.proofs.Tests.{mark-more, mark-all}
 use borrow.Author.Needs.{needs}
-use Rattle.frame.proofs.bytes.none_within.Statement.{statement}
-use Rattle.frame.proofs.bytes.none_within.Tie as tie
+use Rattle.packing.proofs.none_within.Statement.{statement}
+use Rattle.packing.proofs.none_within.Tie as tie
 
 abbrev Inv-loop : tie.InvT-loop
 Inv-loop s low high seen₀ i₀ seen i = (i ≤ length s) × (seen ≡ pick (noneOf (within low high) (take i s)) 0 1)

@@ -1,6 +1,6 @@
 use borrow.Author.Tests.{le-leb, lt-leb}
-use Rattle.frame.proofs.bytes.mark.Statement.{statement}
-use Rattle.frame.proofs.bytes.mark.Tie as tie
+use Rattle.packing.proofs.mark.Statement.{statement}
+use Rattle.packing.proofs.mark.Tie as tie
 
 returns : tie.Need-returns
 returns c = simp (lt-leb _ _ (c .if1 .taken))
