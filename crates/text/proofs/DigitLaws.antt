@@ -1,0 +1,90 @@
+-- The laws of digits: how many there are, and how they are written.
+use mathlib.Core.Path.{_≡_, refl, sym, ap, _∙_}
+use mathlib.Core.List.{List, [], _∷_, _++_}
+use Prim.Native.Nat.{ℕ, zero, suc, _+_, _*_, _/_, _%_, _^_, _≤_, _<_}
+use native.Mathlib.Nat.{mod-lt, div-lt-self, div-lt-iff-lt-mul}
+use native.Mathlib.Omega.{arith}
+use lib.ListN.{length, set, length-append, length-set}
+use lib.Dec.{ltb}
+use borrow.Author.Tests.{lt-ltb, le-ltb, ltb-true, ltb-false}
+use Rattle.packing.specs.Choice.{pick}
+use Rattle.packing.proofs.Cases.{by-bool}
+use Rattle.text.specs.Digits.{decimalWithin, decimal, hex, hexDigit}
+use Rattle.text.specs.Lines.{field, hexField}
+use Rattle.text.specs.Writing.{Wrote}
+use Rattle.text.proofs.Writing.{wrote-byte, wrote-pair, wrote-then, wrote-length, wrote-as, next}
+
+pub last-digit : (n : ℕ) → n % 10 < 10
+last-digit n = mod-lt n (omega arith)
+
+pub tenth : (n : ℕ) → 10 ≤ n → n / 10 < n
+tenth n h = div-lt-self (omega arith) (omega arith)
+
+-- ---- the digits of a small number and of a large one
+
+-- more places than digits change nothing
+enough : (k l n : ℕ) → n < k → n < l → decimalWithin k n ≡ decimalWithin l n
+enough zero l n h g = absurd (omega arith)
+enough (suc k) zero n h g = absurd (omega arith)
+enough (suc k) (suc l) n h g =
+    by-bool (ltb n 10)
+    (λ y. simp y)
+    (λ m. let t : n / 10 < n = tenth n (ltb-false n 10 m) in
+    simp m (ap (λ (d : List ℕ). d ++ ((48 + n % 10) ∷ [])) (enough k l (n / 10) (omega arith) (omega arith))))
+
+pub decimal-small : (n : ℕ) → n < 10 → decimal n ≡ (48 + n) ∷ []
+unfolding decimal
+decimal-small n h = simp (lt-ltb n 10 h)
+
+pub decimal-large : (n : ℕ) → 10 ≤ n → decimal n ≡ decimal (n / 10) ++ ((48 + n % 10) ∷ [])
+unfolding decimal
+decimal-large n h =
+    let t : n / 10 < n = tenth n h in
+    simp (le-ltb n 10 h) (ap (λ (d : List ℕ). d ++ ((48 + n % 10) ∷ [])) (enough n (suc (n / 10)) (n / 10) t (omega arith)))
+
+-- ---- how many there are
+
+pub length-small : (n : ℕ) → n < 10 → length (decimal n) ≡ 1
+length-small n h = ap length (decimal-small n h)
+
+pub length-large : (n : ℕ) → 10 ≤ n → length (decimal n) ≡ length (decimal (n / 10)) + 1
+length-large n h = ap length (decimal-large n h) ∙ length-append (decimal (n / 10)) ((48 + n % 10) ∷ [])
+
+bound : (k n : ℕ) → n < 10 ^ suc k → length (decimal n) ≤ suc k
+bound zero n h = omega (arith, length-small n (omega arith))
+bound (suc k) n h =
+    let t : n / 10 < 10 ^ suc k = div-lt-iff-lt-mul {k = 10} (omega arith) .1 (omega arith) in
+    let ih : length (decimal (n / 10)) ≤ suc k = bound k (n / 10) t in
+    by-bool (ltb n 10) (λ y. omega (arith, length-small n (ltb-true n 10 y))) (λ m. omega (arith, length-large n (ltb-false n 10 m)))
+
+pub decimal-64 : (n : ℕ) → n < 2 ^ 64 → length (decimal n) ≤ 20
+decimal-64 n h = bound 19 n (omega arith)
+
+-- ---- writing them
+
+pub wrote-small : (out : List ℕ) (at v : ℕ) → v < 10 → at + length (decimal v) ≤ length out → Wrote out at (decimal v) (set out at (48 + v)) (at + 1)
+wrote-small out at v h room = wrote-as (sym (decimal-small v h)) (wrote-byte out at (48 + v) (omega (arith, length-small v h)))
+
+pub wrote-large : (out : List ℕ) (at v : ℕ) (out₁ : List ℕ) (e : ℕ) → 10 ≤ v → at + length (decimal v) ≤ length out → Wrote out at (decimal (v / 10)) out₁ e
+    → Wrote out at (decimal v) (set out₁ e (48 + v % 10)) (e + 1)
+wrote-large out at v out₁ e h room p =
+    let len : length (decimal v) ≡ length (decimal (v / 10)) + 1 = length-large v h in
+    let same : length out₁ ≡ length out = wrote-length out at (decimal (v / 10)) (omega arith) p in
+    wrote-as (sym (decimal-large v h)) (wrote-then out at (decimal (v / 10)) ((48 + v % 10) ∷ []) (omega arith) p (wrote-byte out₁ e (48 + v % 10) (omega (arith, p .ends))))
+
+pub wrote-hex : (out : List ℕ) (at v x y : ℕ) → at + 2 ≤ length out → x ≡ hexDigit (v / 16) → y ≡ hexDigit (v % 16)
+    → Wrote out at (hex v) (set (set out at x) (at + 1) y) (at + 2)
+wrote-hex out at v x y room p q =
+    let e : x ∷ y ∷ [] ≡ hex v = cc (p, q) in
+    wrote-as e (wrote-pair out at x y room)
+
+-- a word and its number
+pub wrote-field : (out : List ℕ) (at : ℕ) (word : List ℕ) (v : ℕ) {out₁ out₂ : List ℕ} {a e : ℕ} → v < 2 ^ 64 → at + (length word + 20) ≤ length out
+    → Wrote out at word out₁ a → Wrote out₁ a (decimal v) out₂ e → Wrote out at (field word v) out₂ e × (e ≤ at + (length word + 20))
+unfolding field
+wrote-field out at word v h room p q = (next p q (omega (arith, p .ends)), omega (arith, p .ends, q .ends, decimal-64 v h))
+
+pub wrote-hex-field : (out : List ℕ) (at : ℕ) (word : List ℕ) (v : ℕ) {out₁ out₂ : List ℕ} {a e : ℕ} → at + (length word + 2) ≤ length out
+    → Wrote out at word out₁ a → Wrote out₁ a (hex v) out₂ e → Wrote out at (hexField word v) out₂ e × (e ≡ at + (length word + 2))
+unfolding hexField
+wrote-hex-field out at word v room p q = (next p q (omega (arith, p .ends)), omega (arith, p .ends, q .ends))

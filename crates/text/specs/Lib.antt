@@ -1,0 +1,6 @@
+pub mod Digits
+pub mod Stop
+pub mod Lines
+pub mod Strays
+pub mod Text
+pub mod Writing

@@ -1,0 +1,39 @@
+// Numbers written as text at a place of an output.
+ghost use mathlib.Core.Path.{_≡_};
+ghost use Prim.Native.Nat.{_+_, _≤_};
+ghost use lib.ListN.{length};
+ghost use Rattle.text.specs.Digits.{decimal, hex, hexDigit};
+ghost use Rattle.text.specs.Writing.{Wrote};
+
+// The digits before the last one are those of a tenth, so nothing is written twice and no array is needed.
+pub(crate) fn put_decimal(v: u64, out: &mut [u8], at: usize) -> usize
+    requires { ⌜ at + length (decimal v) ≤ length (now out) ⌝ }
+    ensures { λ r. ⌜ Wrote (now (out .entry)) at (decimal v) (now (out .exit)) r ⌝ }
+{
+    if v < 10 {
+        out[at] = 48 + v as u8;
+        return at + 1;
+    }
+    let end = put_decimal(v / 10, out, at);
+    out[end] = 48 + (v % 10) as u8;
+    end + 1
+}
+
+pub(crate) fn put_hex(v: u8, out: &mut [u8], at: usize) -> usize
+    requires { ⌜ at + 2 ≤ length (now out) ⌝ }
+    ensures { λ r. ⌜ Wrote (now (out .entry)) at (hex v) (now (out .exit)) r ⌝ }
+{
+    out[at] = hex_digit(v / 16);
+    out[at + 1] = hex_digit(v % 16);
+    at + 2
+}
+
+fn hex_digit(d: u8) -> u8
+    requires { ⌜ d ≤ 15 ⌝ }
+    ensures { λ r. ⌜ r ≡ hexDigit d ⌝ }
+{
+    if d < 10 {
+        return 48 + d;
+    }
+    55 + d
+}

@@ -1,0 +1,156 @@
+// The lines of a listing, written into an output that is lent: one for each answer of the line reader, and one of totals.
+// Document 01, "Listing".
+mod digits;
+pub mod stop;
+
+use line::Told;
+use refusal::Refusal;
+ghost use mathlib.Core.Path.{_≡_};
+ghost use Prim.Native.Nat.{_+_, _≤_};
+ghost use lib.ListN.{length};
+ghost use Rattle.refusal.specs.Number.{numberOf};
+ghost use Rattle.line.specs.Outcome.{toldMeans, outcomeOf};
+ghost use Rattle.text.specs.Lines.{field, hexField, stopText, refusedLine, standardLine, extendedLine, line, totals};
+ghost use Rattle.text.specs.Stop.{stopsWorkout};
+ghost use Rattle.text.specs.Writing.{Wrote, Puts};
+
+// The room that any line fits in. A line is written only where there is so much, so that no line has to be measured first.
+pub const LINE_ROOM: usize = 96;
+
+// Writes the line of an answer, the n-th, at an index, and answers the index after it. The contents are the first bytes of a slice,
+// as many as the answer says. Without the room it writes nothing.
+pub fn put_answer(told: Told, contents: &[u8], n: u64, out: &mut [u8], at: usize) -> usize
+    ensures { λ r. ⌜ Puts (now (out .entry)) at (line n (outcomeOf (toldMeans told) (now (contents .entry)))) (now (out .exit)) r ⌝ }
+{
+    if out.len() < LINE_ROOM {
+        return at;
+    }
+    if out.len() - LINE_ROOM < at {
+        return at;
+    }
+    put_told(told, contents, n, out, at)
+}
+
+// Writes the totals in the same way.
+pub fn put_totals(frames: u64, refusals: u64, strays: u64, out: &mut [u8], at: usize) -> usize
+    ensures { λ r. ⌜ Puts (now (out .entry)) at (totals frames refusals strays) (now (out .exit)) r ⌝ }
+{
+    if out.len() < LINE_ROOM {
+        return at;
+    }
+    if out.len() - LINE_ROOM < at {
+        return at;
+    }
+    put_counts(frames, refusals, strays, out, at)
+}
+
+fn put_told(told: Told, contents: &[u8], n: u64, out: &mut [u8], at: usize) -> usize
+    requires { ⌜ at + 96 ≤ length (now out) ⌝ }
+    ensures { λ r. ⌜ Wrote (now (out .entry)) at (line n (outcomeOf (toldMeans told) (now (contents .entry)))) (now (out .exit)) r ⌝ }
+    ensures { λ r. ⌜ r ≤ at + 96 ⌝ }
+{
+    match told {
+        Told::Nothing => at,
+        Told::Refused(why) => put_refused(n, why, out, at),
+        Told::Standard { len } => {
+            let held = command::entries::part(contents, 0, len);
+            put_standard(n, held, out, at)
+        }
+        Told::Extended { to, from, len } => {
+            let held = command::entries::part(contents, 0, len);
+            put_extended(n, to, from, held, out, at)
+        }
+    }
+}
+
+fn put_refused(n: u64, why: Refusal, out: &mut [u8], at: usize) -> usize
+    requires { ⌜ at + 96 ≤ length (now out) ⌝ }
+    ensures { λ r. ⌜ Wrote (now (out .entry)) at (refusedLine n (numberOf why)) (now (out .exit)) r ⌝ }
+    ensures { λ r. ⌜ r ≤ at + 96 ⌝ }
+{
+    let a = put_field(b"n=", n, out, at);
+    let b = put_field(b" kind=refused code=", wide(why.number()), out, a);
+    put_bytes(b"\n", out, b)
+}
+
+fn put_standard(n: u64, contents: &[u8], out: &mut [u8], at: usize) -> usize
+    requires { ⌜ at + 96 ≤ length (now out) ⌝ }
+    ensures { λ r. ⌜ Wrote (now (out .entry)) at (standardLine n (now (contents .entry))) (now (out .exit)) r ⌝ }
+    ensures { λ r. ⌜ r ≤ at + 96 ⌝ }
+{
+    let a = put_field(b"n=", n, out, at);
+    let b = put_field(b" kind=std len=", contents.len() as u64, out, a);
+    put_stop(contents, out, b)
+}
+
+fn put_extended(n: u64, to: u8, from: u8, contents: &[u8], out: &mut [u8], at: usize) -> usize
+    requires { ⌜ at + 96 ≤ length (now out) ⌝ }
+    ensures { λ r. ⌜ Wrote (now (out .entry)) at (extendedLine n to from (now (contents .entry))) (now (out .exit)) r ⌝ }
+    ensures { λ r. ⌜ r ≤ at + 96 ⌝ }
+{
+    let a = put_field(b"n=", n, out, at);
+    let b = put_hex_field(b" kind=ext to=", to, out, a);
+    let c = put_hex_field(b" from=", from, out, b);
+    let d = put_field(b" len=", contents.len() as u64, out, c);
+    put_stop(contents, out, d)
+}
+
+fn put_counts(frames: u64, refusals: u64, strays: u64, out: &mut [u8], at: usize) -> usize
+    requires { ⌜ at + 96 ≤ length (now out) ⌝ }
+    ensures { λ r. ⌜ Wrote (now (out .entry)) at (totals frames refusals strays) (now (out .exit)) r ⌝ }
+    ensures { λ r. ⌜ r ≤ at + 96 ⌝ }
+{
+    let a = put_field(b"frames=", frames, out, at);
+    let b = put_field(b" refused=", refusals, out, a);
+    let c = put_field(b" loose=", strays, out, b);
+    put_bytes(b"\n", out, c)
+}
+
+// The end of a frame's line.
+fn put_stop(contents: &[u8], out: &mut [u8], at: usize) -> usize
+    requires { ⌜ at + 10 ≤ length (now out) ⌝ }
+    ensures { λ r. ⌜ Wrote (now (out .entry)) at (stopText (stopsWorkout (now (contents .entry)))) (now (out .exit)) r ⌝ }
+    ensures { λ r. ⌜ r ≤ at + 10 ⌝ }
+{
+    if stop::stops_workout(contents) {
+        return put_bytes(b" stop=yes\n", out, at);
+    }
+    put_bytes(b" stop=no\n", out, at)
+}
+
+// A word and a number of at most 20 digits.
+fn put_field(word: &[u8], v: u64, out: &mut [u8], at: usize) -> usize
+    requires { ⌜ at + (length (now word) + 20) ≤ length (now out) ⌝ }
+    ensures { λ r. ⌜ Wrote (now (out .entry)) at (field (now (word .entry)) v) (now (out .exit)) r ⌝ }
+    ensures { λ r. ⌜ r ≤ at + (length (now (word .entry)) + 20) ⌝ }
+{
+    let a = put_bytes(word, out, at);
+    digits::put_decimal(v, out, a)
+}
+
+fn put_hex_field(word: &[u8], v: u8, out: &mut [u8], at: usize) -> usize
+    requires { ⌜ at + (length (now word) + 2) ≤ length (now out) ⌝ }
+    ensures { λ r. ⌜ Wrote (now (out .entry)) at (hexField (now (word .entry)) v) (now (out .exit)) r ⌝ }
+    ensures { λ r. ⌜ r ≡ at + (length (now (word .entry)) + 2) ⌝ }
+{
+    let a = put_bytes(word, out, at);
+    digits::put_hex(v, out, a)
+}
+
+fn put_bytes(s: &[u8], out: &mut [u8], at: usize) -> usize
+    requires { ⌜ at + length (now s) ≤ length (now out) ⌝ }
+    ensures { λ r. ⌜ Wrote (now (out .entry)) at (now (s .entry)) (now (out .exit)) r ⌝ }
+{
+    let mut i: usize = 0;
+    while i < s.len() {
+        out[at + i] = s[i];
+        i += 1;
+    }
+    at + i
+}
+
+fn wide(b: u8) -> u64
+    ensures { λ r. ⌜ r ≡ b ⌝ }
+{
+    b as u64
+}
