@@ -77,7 +77,8 @@ steps-outcome s r c k =
     ∙ beside-whole (summaryOf (outcomeAt r c)) (nextAfter r c .bytes)
     ∙ call-whole r c
 
-moves-outcome : (bytes : List ℕ) (m : Moved) (r : LineReader) (c : Call) → Moves bytes m (turnOf r c) → outcomeOf (toldMeans (m .told)) bytes ≡ outcomeAt r c
+-- The outcome that an answer over a lent array and that array hold.
+pub moves-outcome : (bytes : List ℕ) (m : Moved) (r : LineReader) (c : Call) → Moves bytes m (turnOf r c) → outcomeOf (toldMeans (m .told)) bytes ≡ outcomeAt r c
 moves-outcome bytes m r c k =
     ap (λ (h : Summary). outcomeOf h bytes) (k .told-is)
     ∙ ap (λ (u : LineReader). outcomeOf (summaryOf (outcomeAt r c)) (u .bytes)) (k .next-is)

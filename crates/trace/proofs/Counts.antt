@@ -1,0 +1,163 @@
+-- The counts of a state in plain numbers: the text that bytes give from a state on is that of the reader's answers to them.
+use mathlib.Core.Path.{_≡_, refl, sym, ap, _∙_}
+use mathlib.Core.Bool.{Bool, true, false}
+use mathlib.Core.List.{List, [], _∷_, _++_, append-assoc, append-nil}
+use Prim.Native.Nat.{ℕ, _+_, _^_, _≤_, _<_}
+use native.Mathlib.Nat.{mod-eq-of-lt}
+use native.Mathlib.Omega.{arith}
+use lib.ListN.{length, set}
+use lib.Dec.{eqb, ltb}
+use Rattle.packing.specs.Choice.{pick}
+use Rattle.framing.specs.Reference.{finish, Role, starts, stops, plain, run}
+use Rattle.framing.specs.Demand3.{feed}
+use Rattle.frame.specs.Verdict.{accepted, refused}
+use Rattle.line.specs.Outcome.{Outcome, nothing, judged}
+use Rattle.line.specs.Reader.{reader, restartOf, stopOf, growOf, withByte, grownIn, stepOf, finishOf}
+use Rattle.line.specs.Rowing.{roleOf, outcomeAt, nextAfter}
+use Rattle.line.specs.declared.LineReader.{LineReader}
+use Rattle.line.specs.declared.Mode.{Mode}
+use Rattle.line.specs.declared.Mode.the-variants.{Outside, InStandard, InExtended, Overlong}
+use Rattle.text.specs.Lines.{line, totals}
+use Rattle.text.specs.Strays.{strayAt, openAfter, strays}
+use Rattle.text.specs.Text.{frameOne, refusedOne, frames, refusals, lines}
+use Rattle.trace.specs.Machine.{add64, isOpen, numberAfter, nextOf, textOf, after, texts, lastText}
+use Rattle.trace.specs.declared.Listing.{Listing}
+
+add64-is : (a b : ℕ) → a + b < 2 ^ 64 → add64 a b ≡ a + b
+add64-is a b h = mod-eq-of-lt h
+
+number-is : (f r : ℕ) → f + r + 1 < 2 ^ 64 → numberAfter f r ≡ f + r + 1
+number-is f r h = ap (λ (n : ℕ). add64 n 1) (add64-is f r (omega arith)) ∙ add64-is (f + r) 1 h
+
+one-answer : (o : Outcome) → frameOne o + refusedOne o ≤ 1
+one-answer nothing = omega arith
+one-answer (judged (refused n)) = omega arith
+one-answer (judged (accepted f)) = omega arith
+
+one-stray : (ρ : Role) (o : Bool) → strayAt ρ o ≤ 1
+one-stray starts o = omega arith
+one-stray stops true = omega arith
+one-stray stops false = omega arith
+one-stray plain true = omega arith
+one-stray plain false = omega arith
+
+-- ---- a candidate is open exactly where the reader is not outside
+
+more-open : (m : Mode) (bytes : List ℕ) (len b : ℕ) → isOpen m ≡ true → isOpen (withByte (reader bytes len m) b .mode) ≡ isOpen m
+more-open m bytes len b e = by-room (ltb len 118)
+  where
+    by-room : (t : Bool) → isOpen ((pick {A = LineReader} t (reader (set bytes len b) (len + 1) m) (reader bytes 0 Overlong)) .mode) ≡ isOpen m
+    by-room true = refl
+    by-room false = sym e
+
+grown-open : (m : Mode) (bytes : List ℕ) (len b : ℕ) → isOpen (grownIn m (reader bytes len m) b .mode) ≡ isOpen m
+grown-open Outside bytes len b = refl
+grown-open InStandard bytes len b = more-open InStandard bytes len b refl
+grown-open InExtended bytes len b = more-open InExtended bytes len b refl
+grown-open Overlong bytes len b = refl
+
+open-at : (r : LineReader) (b : ℕ) (t₀ t₁ t₂ : Bool)
+    → isOpen ((pick t₀ (restartOf r InExtended) (pick t₁ (restartOf r InStandard) (pick t₂ (stopOf r) (growOf r b)))) .next .mode)
+    ≡ openAfter (pick t₀ starts (pick t₁ starts (pick t₂ stops plain))) (isOpen (r .mode))
+open-at r b true t₁ t₂ = refl
+open-at r b false true t₂ = refl
+open-at r b false false true = refl
+open-at r b false false false = grown-open (r .mode) (r .bytes) (r .len) b
+
+open-is : (r : LineReader) (b : ℕ) → isOpen (stepOf r b .next .mode) ≡ openAfter (roleOf b) (isOpen (r .mode))
+open-is r b = open-at r b (eqb b 0xF0) (eqb b 0xF1) (eqb b 0xF2)
+
+-- ---- the text from a state on
+
+-- The reader's answers to bytes and the finish.
+abbrev pub told : LineReader → List ℕ → List Outcome
+told r bytes = run outcomeAt nextAfter r (feed bytes ++ finish ∷ [])
+
+-- The text of answers and bytes that come after so many frames, refusals and stray bytes.
+abbrev pub Rest : (f r st : ℕ) → Bool → List Outcome → List ℕ → List ℕ
+Rest f r st o os bytes = lines (f + r) os ++ totals (f + frames os) (r + refusals os) (st + strays o bytes)
+
+same-rest : (f f′ r r′ st st′ : ℕ) (o o′ : Bool) (os : List Outcome) (bytes : List ℕ) → f ≡ f′ → r ≡ r′ → st ≡ st′ → o ≡ o′ → Rest f r st o os bytes ≡ Rest f′ r′ st′ o′ os bytes
+same-rest f f′ r r′ st st′ o o′ os bytes p q u v = rw (p, q, u, v)
+
+same-text : (l : List ℕ) (n n′ x x′ y y′ z z′ : ℕ) (os : List Outcome) → n ≡ n′ → x ≡ x′ → y ≡ y′ → z ≡ z′ → l ++ (lines n os ++ totals x y z) ≡ l ++ (lines n′ os ++ totals x′ y′ z′)
+same-text l n n′ x x′ y y′ z z′ os p q u v = rw (p, q, u, v)
+
+rest-step : (f r st : ℕ) (o : Bool) (b : ℕ) (a : Outcome) (os : List Outcome) (bytes : List ℕ)
+    → line (f + r + 1) a ++ Rest (f + frameOne a) (r + refusedOne a) (st + strayAt (roleOf b) o) (openAfter (roleOf b) o) os bytes ≡ Rest f r st o (a ∷ os) (b ∷ bytes)
+rest-step f r st o b a os bytes =
+    same-text (line (f + r + 1) a) _ (f + r + (frameOne a + refusedOne a)) _ (f + (frameOne a + frames os)) _ (r + (refusedOne a + refusals os)) _ (st + (strayAt (roleOf b) o + strays (openAfter (roleOf b) o) bytes)) os
+    (omega arith) (omega arith) (omega arith) (omega arith)
+    ∙ sym (append-assoc (line (f + r + 1) a) (lines (f + r + (frameOne a + refusedOne a)) os) (totals (f + (frameOne a + frames os)) (r + (refusedOne a + refusals os)) (st + (strayAt (roleOf b) o + strays (openAfter (roleOf b) o) bytes))))
+
+-- the finish
+same-last : (a : Outcome) (n n′ x x′ y y′ z z′ : ℕ) → n ≡ n′ → x ≡ x′ → y ≡ y′ → z ≡ z′ → line n a ++ totals x y z ≡ line n′ a ++ totals x′ y′ z′
+same-last a n n′ x x′ y y′ z z′ p q u v = rw (p, q, u, v)
+
+last-is : (s : Listing) → s .frames + s .refused + 1 < 2 ^ 64 → s .stray < 2 ^ 64
+    → lastText s ≡ Rest (s .frames) (s .refused) (s .stray) (isOpen (s .reader .mode)) (told (s .reader) []) []
+unfolding lastText
+last-is s h g =
+    let a : Outcome = finishOf (s .reader) .outcome in
+    let k = one-answer a in
+    same-last a _ (s .frames + s .refused + 1) _ (s .frames + (frameOne a + 0)) _ (s .refused + (refusedOne a + 0)) _ (s .stray + 0)
+    (number-is (s .frames) (s .refused) h)
+    (add64-is (s .frames) (frameOne a) (omega arith) ∙ omega arith)
+    (add64-is (s .refused) (refusedOne a) (omega arith) ∙ omega arith)
+    (omega arith)
+    ∙ ap (λ (l : List ℕ). l ++ totals (s .frames + (frameOne a + 0)) (s .refused + (refusedOne a + 0)) (s .stray + 0)) (sym (append-nil (line (s .frames + s .refused + 1) a)))
+
+-- a byte
+module _ (s : Listing) (b : ℕ) (h : s .frames + s .refused + 1 < 2 ^ 64) (g : s .stray + 1 < 2 ^ 64) where
+  answer : Outcome
+  answer = stepOf (s .reader) b .outcome
+
+  next-frames : nextOf s b .frames ≡ s .frames + frameOne answer
+  unfolding nextOf answer
+  next-frames =
+      let a = stepOf (s .reader) b .outcome in
+      let k = one-answer a in add64-is (s .frames) (frameOne a) (omega arith)
+
+  next-refused : nextOf s b .refused ≡ s .refused + refusedOne answer
+  unfolding nextOf answer
+  next-refused =
+      let a = stepOf (s .reader) b .outcome in
+      let k = one-answer a in add64-is (s .refused) (refusedOne a) (omega arith)
+
+  next-stray : nextOf s b .stray ≡ s .stray + strayAt (roleOf b) (isOpen (s .reader .mode))
+  unfolding nextOf
+  next-stray = let k = one-stray (roleOf b) (isOpen (s .reader .mode)) in add64-is (s .stray) (strayAt (roleOf b) (isOpen (s .reader .mode))) (omega arith)
+
+  next-open : isOpen (nextOf s b .reader .mode) ≡ openAfter (roleOf b) (isOpen (s .reader .mode))
+  unfolding nextOf
+  next-open = open-is (s .reader) b
+
+  text-line : textOf s b ≡ line (s .frames + s .refused + 1) answer
+  unfolding textOf answer
+  text-line = ap (λ (k : ℕ). line k (stepOf (s .reader) b .outcome)) (number-is (s .frames) (s .refused) h)
+
+  told-next : (bytes : List ℕ) → told (s .reader) (b ∷ bytes) ≡ answer ∷ told (nextOf s b .reader) bytes
+  unfolding nextOf answer
+  told-next bytes = refl
+
+pub all-text : (s : Listing) (bytes : List ℕ) → s .frames + s .refused + length bytes + 1 < 2 ^ 64 → s .stray + length bytes < 2 ^ 64
+    → texts s bytes ++ lastText (after s bytes) ≡ Rest (s .frames) (s .refused) (s .stray) (isOpen (s .reader .mode)) (told (s .reader) bytes) bytes
+all-text s [] h g = last-is s (omega arith) (omega arith)
+all-text s (b ∷ bytes) h g =
+    let h₁ : s .frames + s .refused + 1 < 2 ^ 64 = omega arith in
+    let g₁ : s .stray + 1 < 2 ^ 64 = omega arith in
+    let a : Outcome = answer s b h₁ g₁ in
+    let n : Listing = nextOf s b in
+    let o : Bool = isOpen (s .reader .mode) in
+    let F = next-frames s b h₁ g₁ in
+    let R = next-refused s b h₁ g₁ in
+    let S = next-stray s b h₁ g₁ in
+    let k = one-answer a in
+    let u = one-stray (roleOf b) o in
+    let ih : texts n bytes ++ lastText (after n bytes) ≡ Rest (n .frames) (n .refused) (n .stray) (isOpen (n .reader .mode)) (told (n .reader) bytes) bytes =
+    all-text n bytes (omega arith) (omega arith) in
+    append-assoc (textOf s b) (texts n bytes) (lastText (after n bytes))
+    ∙ ap (λ (l : List ℕ). textOf s b ++ l) (ih ∙ same-rest _ _ _ _ _ _ _ _ (told (n .reader) bytes) bytes F R S (next-open s b h₁ g₁))
+    ∙ ap (λ (l : List ℕ). l ++ Rest (s .frames + frameOne a) (s .refused + refusedOne a) (s .stray + strayAt (roleOf b) o) (openAfter (roleOf b) o) (told (n .reader) bytes) bytes) (text-line s b h₁ g₁)
+    ∙ rest-step (s .frames) (s .refused) (s .stray) o b a (told (n .reader) bytes) bytes
+    ∙ ap (λ (os : List Outcome). Rest (s .frames) (s .refused) (s .stray) o os (b ∷ bytes)) (sym (told-next s b h₁ g₁ bytes))

@@ -1,0 +1,4 @@
+pub mod TurnLaws
+pub mod ChunkLaws
+pub mod Counts
+pub mod Cuttings

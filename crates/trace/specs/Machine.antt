@@ -1,0 +1,132 @@
+-- What the listing's calls compute, on every state.
+use mathlib.Core.Path.{_≡_}
+use mathlib.Core.Bool.{Bool, true, false}
+use mathlib.Core.List.{List, [], _∷_, _++_}
+use Prim.Native.Nat.{ℕ, _+_, _-_, _%_, _^_, _<_, _≤_}
+use lib.ListN.{length, take, drop}
+use lib.Dec.{ltb}
+use Rattle.packing.specs.Choice.{pick}
+use Rattle.frame.specs.Answers.{readStandard, readExtended, notRead}
+use Rattle.line.specs.Outcome.{Summary, silent, tells}
+use Rattle.line.specs.Reader.{newReader, stepOf, finishOf}
+use Rattle.line.specs.Rowing.{roleOf}
+use Rattle.line.specs.declared.Mode.{Mode}
+use Rattle.line.specs.declared.Mode.the-variants.{Outside, InStandard, InExtended, Overlong}
+use Rattle.text.specs.Lines.{line, totals}
+use Rattle.text.specs.Strays.{strayAt}
+use Rattle.text.specs.Text.{frameOne, refusedOne}
+use Rattle.text.specs.Writing.{Wrote, lineRoom}
+use Rattle.trace.specs.declared.Listing.{Listing}
+use Rattle.trace.specs.declared.Listed.{Listed}
+use Rattle.trace.specs.declared.Tally.{Tally}
+use Rattle.trace.specs.declared.Turn.{Turn}
+
+-- ---- what an answer and a mode tell
+
+-- Whether there is an answer.
+abbrev pub isTold : Summary → Bool
+isTold silent = false
+isTold (tells a) = true
+
+-- 1 for a frame, and 1 for a refusal.
+abbrev pub frameCount : Summary → ℕ
+frameCount silent = 0
+frameCount (tells (readStandard len)) = 1
+frameCount (tells (readExtended to from len)) = 1
+frameCount (tells (notRead number)) = 0
+
+abbrev pub refusedCount : Summary → ℕ
+refusedCount silent = 0
+refusedCount (tells (readStandard len)) = 0
+refusedCount (tells (readExtended to from len)) = 0
+refusedCount (tells (notRead number)) = 1
+
+-- Whether a candidate is open.
+abbrev pub isOpen : Mode → Bool
+isOpen Outside = false
+isOpen InStandard = true
+isOpen InExtended = true
+isOpen Overlong = true
+
+-- ---- one byte
+
+-- A count of 64 bits.
+abbrev pub add64 : ℕ → ℕ → ℕ
+add64 a b = (a + b) % 2 ^ 64
+
+abbrev pub newListing : Listing
+newListing = record { reader = newReader; frames = 0; refused = 0; stray = 0 }
+
+-- The number of the next answer.
+abbrev pub numberAfter : (frames refused : ℕ) → ℕ
+numberAfter frames refused = add64 (add64 frames refused) 1
+
+-- The state after a byte.
+unfoldable pub nextOf : Listing → ℕ → Listing
+nextOf s b = record {
+  reader = stepOf (s .reader) b .next;
+  frames = add64 (s .frames) (frameOne (stepOf (s .reader) b .outcome));
+  refused = add64 (s .refused) (refusedOne (stepOf (s .reader) b .outcome));
+  stray = add64 (s .stray) (strayAt (roleOf b) (isOpen (s .reader .mode)));
+}
+
+-- The line of its answer.
+unfoldable pub textOf : Listing → ℕ → List ℕ
+textOf s b = line (numberAfter (s .frames) (s .refused)) (stepOf (s .reader) b .outcome)
+
+-- ---- bytes one after the other
+
+abbrev pub after : Listing → List ℕ → Listing
+after s [] = s
+after s (b ∷ bytes) = after (nextOf s b) bytes
+
+abbrev pub texts : Listing → List ℕ → List ℕ
+texts s [] = []
+texts s (b ∷ bytes) = textOf s b ++ texts (nextOf s b) bytes
+
+-- How many bytes of a chunk are taken: a byte is taken where there is room for any line.
+abbrev pub takenOf : Listing → List ℕ → (room : ℕ) → ℕ
+takenOf s [] room = 0
+takenOf s (b ∷ bytes) room = pick (ltb room lineRoom) 0 (1 + takenOf (nextOf s b) bytes (room - length (textOf s b)))
+
+-- ---- what the calls do
+
+-- A chunk: how many bytes are taken, the state afterwards, how many bytes are written, and the output. What stands past them stays.
+pub record Lists (s : Listing) (chunk out out′ : List ℕ) (r : Listed) : Type 0 where
+  pub taken-is : r .taken ≡ takenOf s chunk (length out)
+  pub next-is : r .next ≡ after s (take (r .taken) chunk)
+  pub wrote-is : r .wrote ≡ length (texts s (take (r .taken) chunk))
+  pub out-is : out′ ≡ texts s (take (r .taken) chunk) ++ drop (r .wrote) out
+  pub taken-fits : r .taken ≤ length chunk
+  pub wrote-fits : r .wrote ≤ length out
+
+-- The room in which the line of the finish and the totals fit.
+abbrev pub lastRoom : ℕ
+lastRoom = 192
+
+-- The text after the last byte.
+unfoldable pub lastText : Listing → List ℕ
+lastText s =
+    line (numberAfter (s .frames) (s .refused)) (finishOf (s .reader) .outcome)
+    ++ totals (add64 (s .frames) (frameOne (finishOf (s .reader) .outcome))) (add64 (s .refused) (refusedOne (finishOf (s .reader) .outcome))) (s .stray)
+
+-- The finish: all of that text, or nothing where the output is too short.
+pub record Ends (s : Listing) (out out′ : List ℕ) (wrote : ℕ) : Type 0 where
+  pub short : length out < lastRoom → (wrote ≡ 0) × (out′ ≡ out)
+  pub whole : lastRoom ≤ length out → (wrote ≡ length (lastText s)) × (out′ ≡ lastText s ++ drop wrote out)
+  pub fits : wrote ≤ length out
+
+-- ---- the private functions
+
+-- A state whose array stands apart.
+abbrev pub listing : List ℕ → Tally → Listing
+listing bytes t = record { reader = record { bytes = bytes; len = t .len; mode = t .mode }; frames = t .frames; refused = t .refused; stray = t .stray }
+
+abbrev pub listedOf : (taken wrote : ℕ) → Listing → Listed
+listedOf taken wrote s = record { taken = taken; wrote = wrote; next = s }
+
+-- One byte: the state after it, and its line at a place.
+pub record Turns (s : Listing) (b : ℕ) (bytes out : List ℕ) (at : ℕ) (out′ : List ℕ) (r : Turn) : Type 0 where
+  pub next-is : listing bytes (r .tally) ≡ nextOf s b
+  pub wrote : Wrote out at (textOf s b) out′ (r .at)
+  pub within : r .at ≤ at + lineRoom
