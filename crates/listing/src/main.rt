@@ -1,6 +1,7 @@
 // Lists a trace: standard input, at most 4,294,967,295 bytes, as a line for each answer and the totals (document 01, "Listing").
 // Input is read and output is written in pieces of up to 65,536 bytes. What is written is what `trace` proves of any cutting.
 ghost use Prim.Native.Nat.{_≤_};
+ghost use lib.ListN.{length};
 use trace::Listing;
 
 // The most bytes that are read.
@@ -19,7 +20,9 @@ fn main() {
 }
 
 // Where a read or a write fails, no totals are written.
-fn run(input: &mut [u8], out: &mut [u8]) {
+fn run(input: &mut [u8], out: &mut [u8])
+    requires { ⌜ 96 ≤ length (now out) ⌝ }
+{
     let mut state = trace::new();
     let mut left = LIMIT;
     while 0 < left {
@@ -50,9 +53,10 @@ fn fetch(input: &mut [u8], left: u64) -> isize {
     libc::read(libc::STDIN_FILENO, &mut input[..n])
 }
 
-// Lists all of a chunk and writes what it gives. A call that takes no byte counts as a write that failed, so that the loop ends;
-// `TakesSome` says that with an output of 96 bytes there is none.
-fn pump(s: Listing, chunk: &[u8], out: &mut [u8]) -> Pumped {
+// Lists all of a chunk and writes what it gives. With room for a line each call takes a byte, so the loop ends.
+fn pump(s: Listing, chunk: &[u8], out: &mut [u8]) -> Pumped
+    requires { ⌜ 96 ≤ length (now out) ⌝ }
+{
     let mut state = s;
     let mut i: usize = 0;
     while i < chunk.len() {
@@ -61,12 +65,6 @@ fn pump(s: Listing, chunk: &[u8], out: &mut [u8]) -> Pumped {
         let wrote = r.wrote;
         state = r.next;
         if !io::write_all(libc::STDOUT_FILENO, &out[..wrote]) {
-            return Pumped {
-                is_written: false,
-                next: state,
-            };
-        }
-        if taken == 0 {
             return Pumped {
                 is_written: false,
                 next: state,
