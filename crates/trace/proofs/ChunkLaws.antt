@@ -12,9 +12,12 @@ use borrow.Author.Tests.{lt-ltb, le-ltb}
 use Rattle.packing.specs.Choice.{pick}
 use Rattle.text.specs.Writing.{Wrote, lineRoom}
 use Rattle.text.proofs.Writing.{wrote-nothing, wrote-as, wrote-first, next}
+use Rattle.trace.specs.Chunk.{Going, Passes, passedOf}
 use Rattle.trace.specs.Machine.{nextOf, textOf, after, texts, takenOf, Lists, listing, listedOf, Turns}
 use Rattle.trace.specs.declared.Listing.{Listing}
 use Rattle.trace.specs.declared.Listed.{Listed}
+use Rattle.trace.specs.declared.Tally.{Tally}
+use Rattle.trace.specs.declared.Passed.{Passed}
 use Rattle.trace.specs.declared.Turn.{Turn}
 
 pub after-append : (s : Listing) (xs ys : List ℕ) → after s (xs ++ ys) ≡ after (after s xs) ys
@@ -26,12 +29,6 @@ texts-append s [] ys = refl
 texts-append s (x ∷ xs) ys =
     ap (λ (l : List ℕ). textOf s x ++ l) (texts-append (nextOf s x) xs ys)
     ∙ sym (append-assoc (textOf s x) (texts (nextOf s x) xs) (texts (after (nextOf s x) xs) ys))
-
--- Bytes before the index i are taken, and their lines stand before the index at.
-pub record Going (s₀ : Listing) (chunk out₀ : List ℕ) (s : Listing) (out : List ℕ) (at i : ℕ) : Type 0 where
-  pub state : s ≡ after s₀ (take i chunk)
-  pub wrote : Wrote out₀ 0 (texts s₀ (take i chunk)) out at
-  pub taken : takenOf s₀ chunk (length out₀) ≡ i + takenOf s (drop i chunk) (length out₀ - at)
 
 pub going-start : (s : Listing) (chunk out : List ℕ) → Going s chunk out s out 0 0
 going-start s chunk out =
@@ -85,3 +82,20 @@ module _ (s₀ : Listing) (chunk out₀ : List ℕ) (s : Listing) (out : List �
   going-end h ha r q =
       let z : i + 0 ≡ i = omega arith in
       lists (omega arith) ha (g .taken ∙ ap (λ (l : List ℕ). i + takenOf s l (length out₀ - at)) (ap (λ (n : ℕ). drop n chunk) h ∙ drop-length chunk) ∙ z) r q
+
+-- ---- bytes with no answer
+
+pub passes-none : (chunk : List ℕ) (s : Listing) (i : ℕ) → i ≤ length chunk → Passes chunk s i s i
+passes-none chunk s i h = record { from = omega arith; fits = h; goes = λ s₀ out₀ out at k room g. g }
+
+pub passes-more : (chunk : List ℕ) (s : Listing) (i : ℕ) (bytes : List ℕ) (t : Tally) (j : ℕ) → Passes chunk s i (listing bytes t) j → j < length chunk → (bytes′ : List ℕ) (t′ : Tally)
+    → ((out : List ℕ) (at : ℕ) → Turns (listing bytes t) (getD chunk j 0) bytes′ out at out (record { at = at; tally = t′ })) → Passes chunk s i (listing bytes′ t′) (j + 1)
+passes-more chunk s i bytes t j p h bytes′ t′ turns = record {
+  from = omega (arith, p .from);
+  fits = omega arith;
+  goes = λ s₀ out₀ out at k room g. going-more s₀ chunk out₀ (listing bytes t) out at j (p .goes s₀ out₀ out at k room g) h k room bytes′ out (record { at = at; tally = t′ }) (turns out at);
+}
+
+pub passes-as : {chunk : List ℕ} {s : Listing} {i : ℕ} {bytes : List ℕ} {t : Tally} {j : ℕ} {r : Passed} → Passes chunk s i (listing bytes t) j → r ≡ passedOf j t
+    → Passes chunk s i (listing bytes (r .tally)) (r .at)
+passes-as {chunk} {s} {i} {bytes} p e = subst (λ (u : Passed). Passes chunk s i (listing bytes (u .tally)) (u .at)) (sym e) p

@@ -1,20 +1,24 @@
 -- The laws of one byte: its stray count, its answer's line, and the state after it.
 use mathlib.Core.Path.{_≡_, refl, sym, ap, _∙_}
-use mathlib.Core.Bool.{Bool, true, false}
+use mathlib.Core.Bool.{Bool, true, false, false≢true}
 use mathlib.Core.List.{List, []}
 use Prim.Native.Nat.{ℕ, _+_, _^_, _≤_, _<_}
 use native.Mathlib.Nat.{mod-eq-of-lt, add-zero}
 use native.Mathlib.Omega.{arith}
-use lib.ListN.{length}
-use lib.Dec.{eqb}
+use lib.ListN.{length, set}
+use lib.Dec.{eqb, ltb}
+use borrow.Author.Tests.{lt-ltb}
 use Rattle.packing.specs.Choice.{pick}
 use Rattle.framing.specs.Reference.{Role, starts, stops, plain, byte, finish}
 use Rattle.frame.specs.Frame.{standard, extended}
 use Rattle.frame.specs.Verdict.{accepted, refused}
 use Rattle.frame.specs.Answers.{judgeAnswer}
 use Rattle.line.specs.Outcome.{Outcome, nothing, judged, Summary, silent, tells, toldMeans, summaryOf, outcomeOf}
-use Rattle.line.specs.Reader.{stepOf, finishOf, Moves}
+use Rattle.line.specs.Reader.{Turn, reader, turn, restartOf, stopOf, growOf, stepOf, finishOf, Moves}
 use Rattle.line.specs.Rowing.{roleOf}
+use Rattle.line.specs.declared.LineReader.{LineReader}
+use Rattle.line.specs.declared.Mode.{Mode}
+use Rattle.line.specs.declared.Mode.the-variants.{Outside, InStandard, InExtended, Overlong}
 use Rattle.line.specs.declared.Moved.{Moved}
 use Rattle.line.proofs.Calls.{moves-outcome}
 use Rattle.text.specs.Lines.{line, totals}
@@ -22,8 +26,10 @@ use Rattle.text.specs.Strays.{strayAt}
 use Rattle.text.specs.Text.{frameOne, refusedOne}
 use Rattle.text.specs.Writing.{Wrote}
 use Rattle.text.proofs.Writing.{wrote-nothing, wrote-as, wrote-first, next}
-use Rattle.trace.specs.Machine.{isTold, frameCount, refusedCount, isOpen, add64, numberAfter, nextOf, textOf, lastText, Ends, listing, Turns}
+use Rattle.trace.specs.Chunk.{withLength}
+use Rattle.trace.specs.Machine.{isTold, frameCount, refusedCount, isOpen, isHeld, isPlain, add64, numberAfter, nextOf, textOf, lastText, Ends, listing, Turns}
 use Rattle.trace.specs.declared.Listing.{Listing}
+use Rattle.trace.specs.declared.Tally.{Tally}
 
 -- ---- a byte that is stray, and one that is not
 
@@ -120,3 +126,57 @@ ends-whole s m n x y fc rc g en ex efc ey erc p q h fit room =
     let t : totals x y (s .stray) ≡ totals (add64 (s .frames) (frameOne o)) (add64 (s .refused) (refusedOne o)) (s .stray) =
     ap (λ (k : ℕ). totals k y (s .stray)) f ∙ ap (λ (k : ℕ). totals (add64 (s .frames) (frameOne o)) k (s .stray)) r in
     record { short = λ k. absurd (omega arith); whole = λ k. wrote-first (next (wrote-as l p) (wrote-as t q) h); fits = fit }
+
+-- ---- a byte more of a candidate that is held
+
+plain-step : (r : LineReader) (b : ℕ) (t₀ t₁ t₂ : Bool) → isPlain (pick t₀ starts (pick t₁ starts (pick t₂ stops plain))) ≡ true
+    → pick t₀ (restartOf r InExtended) (pick t₁ (restartOf r InStandard) (pick t₂ (stopOf r) (growOf r b))) ≡ growOf r b
+plain-step r b true t₁ t₂ e = absurd (false≢true e)
+plain-step r b false true t₂ e = absurd (false≢true e)
+plain-step r b false false true e = absurd (false≢true e)
+plain-step r b false false false e = refl
+
+plain-role : (ρ : Role) → isPlain ρ ≡ true → ρ ≡ plain
+plain-role starts e = absurd (false≢true e)
+plain-role stops e = absurd (false≢true e)
+plain-role plain e = refl
+
+held-grows : (m : Mode) (bytes : List ℕ) (len b : ℕ) → isHeld m ≡ true → len < 118 → growOf (reader bytes len m) b ≡ turn nothing (reader (set bytes len b) (len + 1) m)
+held-grows Outside bytes len b e h = absurd (false≢true e)
+held-grows InStandard bytes len b e h = simp (lt-ltb len 118 h)
+held-grows InExtended bytes len b e h = simp (lt-ltb len 118 h)
+held-grows Overlong bytes len b e h = absurd (false≢true e)
+
+held-open : (m : Mode) → isHeld m ≡ true → strayAt plain (isOpen m) ≡ 0
+held-open Outside e = absurd (false≢true e)
+held-open InStandard e = refl
+held-open InExtended e = refl
+held-open Overlong e = absurd (false≢true e)
+
+module _ (bytes : List ℕ) (t : Tally) (len b : ℕ) (held : isHeld (t .mode) ≡ true) (room : len < 118) (is-plain : isPlain (roleOf b) ≡ true)
+    (hf : t .frames < 2 ^ 64) (hr : t .refused < 2 ^ 64) (hs : t .stray < 2 ^ 64) where
+  s : Listing
+  s = listing bytes (withLength t len)
+
+  step-is : stepOf (s .reader) b ≡ turn nothing (reader (set bytes len b) (len + 1) (t .mode))
+  unfolding s
+  step-is = plain-step (reader bytes len (t .mode)) b (eqb b 0xF0) (eqb b 0xF1) (eqb b 0xF2) is-plain ∙ held-grows (t .mode) bytes len b held room
+
+  state-is : listing (set bytes len b) (withLength t (len + 1)) ≡ nextOf s b
+  unfolding nextOf s
+  state-is =
+      let e = step-is in
+      let f : t .frames ≡ add64 (t .frames) (frameOne (stepOf (reader bytes len (t .mode)) b .outcome)) = add-none (t .frames) hf ∙ ap (λ (u : Turn). add64 (t .frames) (frameOne (u .outcome))) (sym e) in
+      let r : t .refused ≡ add64 (t .refused) (refusedOne (stepOf (reader bytes len (t .mode)) b .outcome)) = add-none (t .refused) hr ∙ ap (λ (u : Turn). add64 (t .refused) (refusedOne (u .outcome))) (sym e) in
+      let z : t .stray ≡ add64 (t .stray) (strayAt (roleOf b) (isOpen (t .mode))) =
+      add-none (t .stray) hs ∙ ap (add64 (t .stray)) (sym (ap (λ (ρ : Role). strayAt ρ (isOpen (t .mode))) (plain-role (roleOf b) is-plain) ∙ held-open (t .mode) held)) in
+      let n : reader (set bytes len b) (len + 1) (t .mode) ≡ stepOf (reader bytes len (t .mode)) b .next = ap (λ (u : Turn). u .next) (sym e) in
+      λ i. record { reader = n i; frames = f i; refused = r i; stray = z i }
+
+  pub held-turn : (out : List ℕ) (at : ℕ) → Turns (listing bytes (withLength t len)) b (set bytes len b) out at out (record { at = at; tally = withLength t (len + 1) })
+  unfolding s
+  held-turn out at = record {
+    next-is = state-is;
+    wrote = wrote-as (no-text (listing bytes (withLength t len)) b (ap (λ (u : Turn). u .outcome) step-is)) (wrote-nothing out at);
+    within = omega arith;
+  }

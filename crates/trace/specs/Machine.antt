@@ -6,6 +6,7 @@ use Prim.Native.Nat.{ℕ, _+_, _-_, _%_, _^_, _<_, _≤_}
 use lib.ListN.{length, take, drop}
 use lib.Dec.{ltb}
 use Rattle.packing.specs.Choice.{pick}
+use Rattle.framing.specs.Reference.{Role, starts, stops, plain}
 use Rattle.frame.specs.Answers.{readStandard, readExtended, notRead}
 use Rattle.line.specs.Outcome.{Summary, silent, tells}
 use Rattle.line.specs.Reader.{newReader, stepOf, finishOf}
@@ -47,6 +48,19 @@ isOpen Outside = false
 isOpen InStandard = true
 isOpen InExtended = true
 isOpen Overlong = true
+
+-- Whether the bytes of an open candidate are held.
+abbrev pub isHeld : Mode → Bool
+isHeld Outside = false
+isHeld InStandard = true
+isHeld InExtended = true
+isHeld Overlong = false
+
+-- Whether a byte is no flag.
+abbrev pub isPlain : Role → Bool
+isPlain starts = false
+isPlain stops = false
+isPlain plain = true
 
 -- ---- one byte
 

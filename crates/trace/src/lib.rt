@@ -9,11 +9,18 @@ ghost use lib.ListN.{length};
 ghost use Rattle.line.specs.Outcome.{toldMeans};
 ghost use Rattle.line.specs.Rowing.{roleOf};
 ghost use Rattle.text.specs.Strays.{strayAt};
-ghost use Rattle.trace.specs.Machine.{isTold, frameCount, refusedCount, isOpen, newListing, numberAfter, Lists, Ends, listing, listedOf, Turns};
+ghost use mathlib.Core.Bool.{true};
+ghost use Rattle.trace.specs.Chunk.{Passes, passedOf, withLength};
+ghost use Rattle.trace.specs.Machine.{isTold, frameCount, refusedCount, isOpen, isHeld, isPlain, newListing, numberAfter, Lists, Ends, listing, listedOf, Turns};
 
 const EXTENDED_START: u8 = 0xF0;
 
 const STANDARD_START: u8 = 0xF1;
+
+const STOP: u8 = 0xF2;
+
+// The most bytes of a candidate that are held.
+const HELD: usize = 118;
 
 // The room that the line of the finish and the totals fit in.
 const LAST_ROOM: usize = 192;
@@ -40,6 +47,12 @@ struct Tally {
     frames: u64,
     refused: u64,
     stray: u64,
+}
+
+// The index after bytes that have no answer, and the state without its array.
+struct Passed {
+    at: usize,
+    tally: Tally,
 }
 
 // The index after the line that a byte gave, and the state without its array.
@@ -79,9 +92,15 @@ pub fn list(s: Listing, chunk: &[u8], out: &mut [u8]) -> Listed
         if out.len() - at < text::LINE_ROOM {
             return packed(i, at, bytes, tally);
         }
+        let passed = pass(&mut bytes, tally, chunk, i);
+        tally = passed.tally;
+        i = passed.at;
+        if chunk.len() <= i {
+            return packed(i, at, bytes, tally);
+        }
         let t = feed(&mut bytes, tally, chunk[i], out, at);
-        at = t.at;
         tally = t.tally;
+        at = t.at;
         i += 1;
     }
     packed(i, at, bytes, tally)
@@ -126,6 +145,76 @@ fn packed(taken: usize, wrote: usize, bytes: [u8; 118], t: Tally) -> Listed
             stray: t.stray,
         },
     }
+}
+
+// Takes bytes of an open candidate from an index on, up to a flag or a full array, in a loop that does nothing else. What it leaves
+// out, `feed` takes.
+fn pass(bytes: &mut [u8; 118], t: Tally, chunk: &[u8], from: usize) -> Passed
+    requires { ⌜ from ≤ length (now chunk) ⌝ }
+    ensures { λ r. ⌜ Passes (now (chunk .entry)) (listing (now (bytes .entry)) t) from (listing (now (bytes .exit)) (r .tally)) (r .at) ⌝ }
+{
+    let mode = t.mode;
+    match mode {
+        Mode::Outside => Passed { at: from, tally: t },
+        Mode::InStandard => keep(bytes, t, chunk, from),
+        Mode::InExtended => keep(bytes, t, chunk, from),
+        Mode::Overlong => Passed { at: from, tally: t },
+    }
+}
+
+// The bytes of a candidate that is held.
+fn keep(bytes: &mut [u8; 118], t: Tally, chunk: &[u8], from: usize) -> Passed
+    requires { ⌜ isHeld (t .mode) ≡ true ⌝ }
+    requires { ⌜ from ≤ length (now chunk) ⌝ }
+    ensures { λ r. ⌜ Passes (now (chunk .entry)) (listing (now (bytes .entry)) t) from (listing (now (bytes .exit)) (r .tally)) (r .at) ⌝ }
+{
+    let mut len = t.len;
+    let mut i = from;
+    while i < chunk.len() {
+        if HELD <= len {
+            return kept(i, t, len);
+        }
+        let b = chunk[i];
+        if !is_plain(b) {
+            return kept(i, t, len);
+        }
+        bytes[len] = b;
+        len += 1;
+        i += 1;
+    }
+    kept(i, t, len)
+}
+
+fn kept(at: usize, t: Tally, len: usize) -> Passed
+    ensures { λ r. ⌜ r ≡ passedOf at (withLength t len) ⌝ }
+{
+    let mode = t.mode;
+    Passed {
+        at,
+        tally: Tally {
+            len,
+            mode,
+            frames: t.frames,
+            refused: t.refused,
+            stray: t.stray,
+        },
+    }
+}
+
+// Whether a byte is no flag.
+fn is_plain(b: u8) -> bool
+    ensures { λ r. ⌜ r ≡ isPlain (roleOf b) ⌝ }
+{
+    if b == EXTENDED_START {
+        return false;
+    }
+    if b == STANDARD_START {
+        return false;
+    }
+    if b == STOP {
+        return false;
+    }
+    true
 }
 
 // One byte: at most one line, at an index where there is room for any. Most bytes have no answer and call nothing that writes.
