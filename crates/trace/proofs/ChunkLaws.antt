@@ -12,12 +12,11 @@ use borrow.Author.Tests.{lt-ltb, le-ltb}
 use Rattle.packing.specs.Choice.{pick}
 use Rattle.text.specs.Writing.{Wrote, lineRoom}
 use Rattle.text.proofs.Writing.{wrote-nothing, wrote-as, wrote-first, next}
-use Rattle.trace.specs.Chunk.{Going, Passes, passedOf}
+use Rattle.trace.specs.Chunk.{Going, Passes}
 use Rattle.trace.specs.Machine.{nextOf, textOf, after, texts, takenOf, Lists, listing, listedOf, Turns}
 use Rattle.trace.specs.declared.Listing.{Listing}
 use Rattle.trace.specs.declared.Listed.{Listed}
 use Rattle.trace.specs.declared.Tally.{Tally}
-use Rattle.trace.specs.declared.Passed.{Passed}
 use Rattle.trace.specs.declared.Turn.{Turn}
 
 pub after-append : (s : Listing) (xs ys : List ℕ) → after s (xs ++ ys) ≡ after (after s xs) ys
@@ -96,6 +95,6 @@ passes-more chunk s i bytes t j p h bytes′ t′ turns = record {
   goes = λ s₀ out₀ out at k room g. going-more s₀ chunk out₀ (listing bytes t) out at j (p .goes s₀ out₀ out at k room g) h k room bytes′ out (record { at = at; tally = t′ }) (turns out at);
 }
 
-pub passes-as : {chunk : List ℕ} {s : Listing} {i : ℕ} {bytes : List ℕ} {t : Tally} {j : ℕ} {r : Passed} → Passes chunk s i (listing bytes t) j → r ≡ passedOf j t
-    → Passes chunk s i (listing bytes (r .tally)) (r .at)
-passes-as {chunk} {s} {i} {bytes} p e = subst (λ (u : Passed). Passes chunk s i (listing bytes (u .tally)) (u .at)) (sym e) p
+pub going-as : {s₀ : Listing} {chunk out₀ : List ℕ} (bytes : List ℕ) {t t′ : Tally} {out : List ℕ} {at i : ℕ} → Going s₀ chunk out₀ (listing bytes t) out at i → t′ ≡ t
+    → Going s₀ chunk out₀ (listing bytes t′) out at i
+going-as {s₀} {chunk} {out₀} bytes {out = out} {at = at} {i = i} g e = subst (λ (u : Tally). Going s₀ chunk out₀ (listing bytes u) out at i) (sym e) g

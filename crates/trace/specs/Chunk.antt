@@ -7,7 +7,6 @@ use Rattle.text.specs.Writing.{Wrote, lineRoom}
 use Rattle.trace.specs.Machine.{after, texts, takenOf}
 use Rattle.trace.specs.declared.Listing.{Listing}
 use Rattle.trace.specs.declared.Tally.{Tally}
-use Rattle.trace.specs.declared.Passed.{Passed}
 
 -- From the state s₀ on, the bytes before the index i are taken, which leaves the state s, and their lines stand before the index at.
 pub record Going (s₀ : Listing) (chunk out₀ : List ℕ) (s : Listing) (out : List ℕ) (at i : ℕ) : Type 0 where
@@ -22,8 +21,6 @@ pub record Passes (chunk : List ℕ) (s : Listing) (i : ℕ) (s′ : Listing) (j
   pub fits : j ≤ length chunk
   pub goes : (s₀ : Listing) (out₀ out : List ℕ) (at : ℕ) → at ≤ length out₀ → lineRoom ≤ length out₀ - at → Going s₀ chunk out₀ s out at i → Going s₀ chunk out₀ s′ out at j
 
-abbrev pub passedOf : ℕ → Tally → Passed
-passedOf at t = record { at = at; tally = t }
-
+-- The same numbers with another length.
 abbrev pub withLength : Tally → ℕ → Tally
 withLength t len = record { len = len; mode = t .mode; frames = t .frames; refused = t .refused; stray = t .stray }

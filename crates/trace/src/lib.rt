@@ -10,7 +10,7 @@ ghost use Rattle.line.specs.Outcome.{toldMeans};
 ghost use Rattle.line.specs.Rowing.{roleOf};
 ghost use Rattle.text.specs.Strays.{strayAt};
 ghost use mathlib.Core.Bool.{true};
-ghost use Rattle.trace.specs.Chunk.{Passes, passedOf, withLength};
+ghost use Rattle.trace.specs.Chunk.{Passes, withLength};
 ghost use Rattle.trace.specs.Machine.{isTold, frameCount, refusedCount, isOpen, isHeld, isPlain, newListing, numberAfter, Lists, Ends, listing, listedOf, Turns};
 
 const EXTENDED_START: u8 = 0xF0;
@@ -49,10 +49,10 @@ struct Tally {
     stray: u64,
 }
 
-// The index after bytes that have no answer, and the state without its array.
+// The index after bytes that have no answer, and how many bytes are held.
 struct Passed {
     at: usize,
-    tally: Tally,
+    len: usize,
 }
 
 // The index after the line that a byte gave, and the state without its array.
@@ -93,7 +93,7 @@ pub fn list(s: Listing, chunk: &[u8], out: &mut [u8]) -> Listed
             return packed(i, at, bytes, tally);
         }
         let passed = pass(&mut bytes, tally, chunk, i);
-        tally = passed.tally;
+        tally = with_length(tally, passed.len);
         i = passed.at;
         if chunk.len() <= i {
             return packed(i, at, bytes, tally);
@@ -147,18 +147,38 @@ fn packed(taken: usize, wrote: usize, bytes: [u8; 118], t: Tally) -> Listed
     }
 }
 
+// The same state with so many bytes held.
+fn with_length(t: Tally, len: usize) -> Tally
+    ensures { λ r. ⌜ r ≡ withLength t len ⌝ }
+{
+    let mode = t.mode;
+    Tally {
+        len,
+        mode,
+        frames: t.frames,
+        refused: t.refused,
+        stray: t.stray,
+    }
+}
+
 // Takes bytes of an open candidate from an index on, up to a flag or a full array, in a loop that does nothing else. What it leaves
 // out, `feed` takes.
 fn pass(bytes: &mut [u8; 118], t: Tally, chunk: &[u8], from: usize) -> Passed
     requires { ⌜ from ≤ length (now chunk) ⌝ }
-    ensures { λ r. ⌜ Passes (now (chunk .entry)) (listing (now (bytes .entry)) t) from (listing (now (bytes .exit)) (r .tally)) (r .at) ⌝ }
+    ensures { λ r. ⌜ Passes (now (chunk .entry)) (listing (now (bytes .entry)) t) from (listing (now (bytes .exit)) (withLength t (r .len))) (r .at) ⌝ }
 {
     let mode = t.mode;
     match mode {
-        Mode::Outside => Passed { at: from, tally: t },
+        Mode::Outside => Passed {
+            at: from,
+            len: t.len,
+        },
         Mode::InStandard => keep(bytes, t, chunk, from),
         Mode::InExtended => keep(bytes, t, chunk, from),
-        Mode::Overlong => Passed { at: from, tally: t },
+        Mode::Overlong => Passed {
+            at: from,
+            len: t.len,
+        },
     }
 }
 
@@ -166,39 +186,23 @@ fn pass(bytes: &mut [u8; 118], t: Tally, chunk: &[u8], from: usize) -> Passed
 fn keep(bytes: &mut [u8; 118], t: Tally, chunk: &[u8], from: usize) -> Passed
     requires { ⌜ isHeld (t .mode) ≡ true ⌝ }
     requires { ⌜ from ≤ length (now chunk) ⌝ }
-    ensures { λ r. ⌜ Passes (now (chunk .entry)) (listing (now (bytes .entry)) t) from (listing (now (bytes .exit)) (r .tally)) (r .at) ⌝ }
+    ensures { λ r. ⌜ Passes (now (chunk .entry)) (listing (now (bytes .entry)) t) from (listing (now (bytes .exit)) (withLength t (r .len))) (r .at) ⌝ }
 {
     let mut len = t.len;
     let mut i = from;
     while i < chunk.len() {
         if HELD <= len {
-            return kept(i, t, len);
+            return Passed { at: i, len };
         }
         let b = chunk[i];
         if !is_plain(b) {
-            return kept(i, t, len);
+            return Passed { at: i, len };
         }
         bytes[len] = b;
         len += 1;
         i += 1;
     }
-    kept(i, t, len)
-}
-
-fn kept(at: usize, t: Tally, len: usize) -> Passed
-    ensures { λ r. ⌜ r ≡ passedOf at (withLength t len) ⌝ }
-{
-    let mode = t.mode;
-    Passed {
-        at,
-        tally: Tally {
-            len,
-            mode,
-            frames: t.frames,
-            refused: t.refused,
-            stray: t.stray,
-        },
-    }
+    Passed { at: i, len }
 }
 
 // Whether a byte is no flag.

@@ -5,7 +5,7 @@ use native.Mathlib.Omega.{arith}
 use lib.ListN.{length}
 use Rattle.trace.specs.Chunk.{Going}
 use Rattle.trace.specs.Machine.{listing}
-use Rattle.trace.proofs.ChunkLaws.{going-start, going-more, going-stop, going-end}
+use Rattle.trace.proofs.ChunkLaws.{going-start, going-more, going-stop, going-end, going-as}
 use Rattle.trace.proofs.list.Statement.{statement}
 use Rattle.trace.proofs.list.Tie as tie
 
@@ -37,6 +37,9 @@ returns c =
 pass-requires : tie.Need-pass-requires Inv-loop μ-loop
 pass-requires c κs = c .before .before .before .loop .inv .0
 
+with-length-requires : tie.Need-with-length-requires Inv-loop μ-loop
+with-length-requires c κs = tt
+
 packed-requires-2 : tie.Need-packed-requires-2 Inv-loop μ-loop
 packed-requires-2 c κs = tt
 
@@ -44,18 +47,20 @@ same-length-2 : tie.Need-same-length-2 Inv-loop μ-loop
 same-length-2 c = c .before .before .before .before .before .before .before .loop .inv .1
 
 -- the bytes up to the one that is fed
-passed : (c : tie.After-pass Inv-loop μ-loop)
-    → Going (c .before .before .before .before .before .before .before .before .before .args .s) (c .before .before .before .before .before .before .before .before .before .args .chunk .now) (c .before .before .before .before .before .before .before .before .before .args .out .now) (listing (c .pass .last .0) (c .pass .result .tally)) (c .before .before .before .before .loop .out) (c .before .before .before .before .loop .at) (c .pass .result .at)
+passed : (c : tie.After-with-length Inv-loop μ-loop)
+    → Going (c .before .before .before .before .before .before .before .before .before .before .args .s) (c .before .before .before .before .before .before .before .before .before .before .args .chunk .now) (c .before .before .before .before .before .before .before .before .before .before .args .out .now) (listing (c .before .pass .last .0) (c .with-length .result)) (c .before .before .before .before .before .loop .out) (c .before .before .before .before .before .loop .at) (c .before .pass .result .at)
 passed c =
-    let l = c .before .before .before .before .loop in
-    c .pass .ensures .goes _ _ (l .out) (l .at) (l .inv .2) (omega (arith, c .before .before .if1 .left, l .inv .1)) (l .inv .3)
+    let l = c .before .before .before .before .before .loop in
+    let p = c .before .pass in
+    let g = p .ensures .goes _ _ (l .out) (l .at) (l .inv .2) (omega (arith, c .before .before .before .if1 .left, l .inv .1)) (l .inv .3) in
+    going-as (p .last .0) g (c .with-length .ensures)
 
 returns-2 : tie.Need-returns-2 Inv-loop μ-loop
 returns-2 c =
     let a = c .before .before .before .before .before .before .before .before .before .before .before .before .args in
     let l = c .before .before .before .before .before .before .before .loop in
     let p = c .before .before .before .pass in
-    going-end (a .s) (a .chunk .now) (a .out .now) (listing (p .last .0) (p .result .tally)) (l .out) (l .at) (p .result .at) (passed (c .before .before .before)) (omega (arith, c .before .if2 .taken, p .ensures .fits)) (l .inv .2) (c .packed2 .result) (c .packed2 .ensures)
+    going-end (a .s) (a .chunk .now) (a .out .now) (listing (p .last .0) (c .before .before .with-length .result)) (l .out) (l .at) (p .result .at) (passed (c .before .before)) (omega (arith, c .before .if2 .taken, p .ensures .fits)) (l .inv .2) (c .packed2 .result) (c .packed2 .ensures)
 
 shared-slice-read-feed : tie.Need-shared-slice-read-feed Inv-loop μ-loop
 shared-slice-read-feed c = omega (arith, c .before .before .if2 .left)
@@ -79,7 +84,7 @@ loop-again c =
       omega (arith, c .before .before .before .before .before .before .before .if2 .left),
       t .kept .1 .1 .1 .0 ∙ l .inv .1,
       omega (arith, t .ensures .within, room, l .inv .1, l .inv .2),
-      going-more (a .s) (a .chunk .now) (a .out .now) (listing (p .last .0) (p .result .tally)) (l .out) (l .at) (p .result .at) (passed (c .before .before .before .before .before .before .before .before .before)) (c .before .before .before .before .before .before .before .if2 .left) (l .inv .2) (omega (arith, room, l .inv .1)) (t .last .0) (t .last .1 .1 .1 .0) (t .result) (t .ensures),
+      going-more (a .s) (a .chunk .now) (a .out .now) (listing (p .last .0) (c .before .before .before .before .before .before .before .before .with-length .result)) (l .out) (l .at) (p .result .at) (passed (c .before .before .before .before .before .before .before .before)) (c .before .before .before .before .before .before .before .if2 .left) (l .inv .2) (omega (arith, room, l .inv .1)) (t .last .0) (t .last .1 .1 .1 .0) (t .result) (t .ensures),
     )
 
 packed-requires-3 : tie.Need-packed-requires-3 Inv-loop μ-loop
@@ -106,6 +111,7 @@ list-spec =
     same-length
     returns
     pass-requires
+    with-length-requires
     packed-requires-2
     same-length-2
     returns-2
