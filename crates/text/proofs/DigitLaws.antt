@@ -1,18 +1,18 @@
 -- The laws of digits: how many there are, and how they are written.
 use mathlib.Core.Path.{_≡_, refl, sym, ap, _∙_}
-use mathlib.Core.List.{List, [], _∷_, _++_}
+use mathlib.Core.List.{List, [], _∷_, _++_, append-assoc}
 use Prim.Native.Nat.{ℕ, zero, suc, _+_, _*_, _/_, _%_, _^_, _≤_, _<_}
 use native.Mathlib.Nat.{mod-lt, div-lt-self, div-lt-iff-lt-mul}
 use native.Mathlib.Omega.{arith}
-use lib.ListN.{length, set, length-append, length-set}
+use lib.ListN.{length, set, length-append}
 use lib.Dec.{ltb}
 use borrow.Author.Tests.{lt-ltb, le-ltb, ltb-true, ltb-false}
 use Rattle.packing.specs.Choice.{pick}
 use Rattle.packing.proofs.Cases.{by-bool}
-use Rattle.text.specs.Digits.{decimalWithin, decimal, hex, hexDigit}
+use Rattle.text.specs.Digits.{decimalWithin, decimal, pair, hex, hexDigit}
 use Rattle.text.specs.Lines.{field, hexField}
 use Rattle.text.specs.Writing.{Wrote}
-use Rattle.text.proofs.Writing.{wrote-byte, wrote-pair, wrote-then, wrote-length, wrote-as, next}
+use Rattle.text.proofs.Writing.{wrote-byte, wrote-pair, wrote-as, next}
 
 pub last-digit : (n : ℕ) → n % 10 < 10
 last-digit n = mod-lt n (omega arith)
@@ -42,6 +42,25 @@ decimal-large n h =
     let t : n / 10 < n = tenth n h in
     simp (le-ltb n 10 h) (ap (λ (d : List ℕ). d ++ ((48 + n % 10) ∷ [])) (enough n (suc (n / 10)) (n / 10) t (omega arith)))
 
+pub decimal-pair : (n : ℕ) → 10 ≤ n → n < 100 → decimal n ≡ pair n
+decimal-pair n h g =
+    let t : n / 10 < 10 = omega arith in
+    decimal-large n h ∙ ap (λ (d : List ℕ). d ++ ((48 + n % 10) ∷ [])) (decimal-small (n / 10) t)
+
+pub decimal-hundreds : (n : ℕ) → 100 ≤ n → decimal n ≡ decimal (n / 100) ++ pair (n % 100)
+decimal-hundreds n h =
+    let t : 10 ≤ n / 10 = omega arith in
+    let x : n / 10 / 10 ≡ n / 100 = omega arith in
+    let y : n / 10 % 10 ≡ n % 100 / 10 = omega arith in
+    let z : n % 10 ≡ n % 100 % 10 = omega arith in
+    decimal-large n (omega arith)
+    ∙ ap (λ (d : List ℕ). d ++ ((48 + n % 10) ∷ [])) (decimal-large (n / 10) t)
+    ∙ append-assoc (decimal (n / 10 / 10)) ((48 + n / 10 % 10) ∷ []) ((48 + n % 10) ∷ [])
+    ∙ same-digits x y z
+  where
+    same-digits : {a a′ b b′ c c′ : ℕ} → a ≡ a′ → b ≡ b′ → c ≡ c′ → decimal a ++ ((48 + b) ∷ (48 + c) ∷ []) ≡ decimal a′ ++ ((48 + b′) ∷ (48 + c′) ∷ [])
+    same-digits p q r = rw (p, q, r)
+
 -- ---- how many there are
 
 pub length-small : (n : ℕ) → n < 10 → length (decimal n) ≡ 1
@@ -49,6 +68,12 @@ length-small n h = ap length (decimal-small n h)
 
 pub length-large : (n : ℕ) → 10 ≤ n → length (decimal n) ≡ length (decimal (n / 10)) + 1
 length-large n h = ap length (decimal-large n h) ∙ length-append (decimal (n / 10)) ((48 + n % 10) ∷ [])
+
+pub length-pair : (n : ℕ) → 10 ≤ n → n < 100 → length (decimal n) ≡ 2
+length-pair n h g = ap length (decimal-pair n h g)
+
+pub length-hundreds : (n : ℕ) → 100 ≤ n → length (decimal n) ≡ length (decimal (n / 100)) + 2
+length-hundreds n h = ap length (decimal-hundreds n h) ∙ length-append (decimal (n / 100)) (pair (n % 100))
 
 bound : (k n : ℕ) → n < 10 ^ suc k → length (decimal n) ≤ suc k
 bound zero n h = omega (arith, length-small n (omega arith))
@@ -65,12 +90,10 @@ decimal-64 n h = bound 19 n (omega arith)
 pub wrote-small : (out : List ℕ) (at v : ℕ) → v < 10 → at + length (decimal v) ≤ length out → Wrote out at (decimal v) (set out at (48 + v)) (at + 1)
 wrote-small out at v h room = wrote-as (sym (decimal-small v h)) (wrote-byte out at (48 + v) (omega (arith, length-small v h)))
 
-pub wrote-large : (out : List ℕ) (at v : ℕ) (out₁ : List ℕ) (e : ℕ) → 10 ≤ v → at + length (decimal v) ≤ length out → Wrote out at (decimal (v / 10)) out₁ e
-    → Wrote out at (decimal v) (set out₁ e (48 + v % 10)) (e + 1)
-wrote-large out at v out₁ e h room p =
-    let len : length (decimal v) ≡ length (decimal (v / 10)) + 1 = length-large v h in
-    let same : length out₁ ≡ length out = wrote-length out at (decimal (v / 10)) (omega arith) p in
-    wrote-as (sym (decimal-large v h)) (wrote-then out at (decimal (v / 10)) ((48 + v % 10) ∷ []) (omega arith) p (wrote-byte out₁ e (48 + v % 10) (omega (arith, p .ends))))
+pub wrote-hundreds : (out : List ℕ) (at v : ℕ) {out₁ out₂ : List ℕ} {a e : ℕ} → 100 ≤ v → at + length (decimal v) ≤ length out → Wrote out at (decimal (v / 100)) out₁ a
+    → Wrote out₁ a (pair (v % 100)) out₂ e → Wrote out at (decimal v) out₂ e
+wrote-hundreds out at v h room p q =
+    wrote-as (sym (decimal-hundreds v h)) (next p q (omega (arith, p .ends, length-hundreds v h)))
 
 pub wrote-hex : (out : List ℕ) (at v x y : ℕ) → at + 2 ≤ length out → x ≡ hexDigit (v / 16) → y ≡ hexDigit (v % 16)
     → Wrote out at (hex v) (set (set out at x) (at + 1) y) (at + 2)

@@ -13,6 +13,10 @@ decimalWithin (suc k) n = pick (ltb n 10) ((48 + n) ∷ []) (decimalWithin k (n 
 unfoldable pub decimal : ℕ → List ℕ
 decimal n = decimalWithin (suc n) n
 
+-- The two last digits of a number below 100.
+abbrev pub pair : ℕ → List ℕ
+pair n = (48 + n / 10) ∷ (48 + n % 10) ∷ []
+
 -- A hexadecimal digit, upper case.
 abbrev pub hexDigit : ℕ → ℕ
 hexDigit d = pick (ltb d 10) (48 + d) (55 + d)

@@ -1,11 +1,11 @@
 // Numbers written as text at a place of an output.
 ghost use mathlib.Core.Path.{_≡_};
-ghost use Prim.Native.Nat.{_+_, _≤_};
+ghost use Prim.Native.Nat.{_+_, _≤_, _<_};
 ghost use lib.ListN.{length};
-ghost use Rattle.text.specs.Digits.{decimal, hex, hexDigit};
+ghost use Rattle.text.specs.Digits.{decimal, pair, hex, hexDigit};
 ghost use Rattle.text.specs.Writing.{Wrote};
 
-// The digits before the last one are those of a tenth, so nothing is written twice and no array is needed.
+// The digits before the last two are those of a hundredth, so nothing is written twice and no array is needed.
 pub(crate) fn put_decimal(v: u64, out: &mut [u8], at: usize) -> usize
     requires { ⌜ at + length (decimal v) ≤ length (now out) ⌝ }
     ensures { λ r. ⌜ Wrote (now (out .entry)) at (decimal v) (now (out .exit)) r ⌝ }
@@ -14,9 +14,22 @@ pub(crate) fn put_decimal(v: u64, out: &mut [u8], at: usize) -> usize
         out[at] = 48 + v as u8;
         return at + 1;
     }
-    let end = put_decimal(v / 10, out, at);
-    out[end] = 48 + (v % 10) as u8;
-    end + 1
+    if v < 100 {
+        return put_pair(v, out, at);
+    }
+    let end = put_decimal(v / 100, out, at);
+    put_pair(v % 100, out, end)
+}
+
+// Two digits, also where the first is 0.
+fn put_pair(v: u64, out: &mut [u8], at: usize) -> usize
+    requires { ⌜ v < 100 ⌝ }
+    requires { ⌜ at + 2 ≤ length (now out) ⌝ }
+    ensures { λ r. ⌜ Wrote (now (out .entry)) at (pair v) (now (out .exit)) r ⌝ }
+{
+    out[at] = 48 + (v / 10) as u8;
+    out[at + 1] = 48 + (v % 10) as u8;
+    at + 2
 }
 
 pub(crate) fn put_hex(v: u8, out: &mut [u8], at: usize) -> usize
