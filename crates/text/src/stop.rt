@@ -15,6 +15,9 @@ const WRAPPER: u8 = 0x76;
 
 const TERMINATE: u8 = 0x13;
 
+// An unsound list holds nothing, whatever stands before the count that is unsound.
+const IN_UNSOUND: bool = false;
+
 // Walks the top list to its end, since a count that is unsound further on makes the answer no.
 pub fn stops_workout(contents: &[u8]) -> bool
     ensures { λ r. ⌜ r ≡ stopsWorkout (now (contents .entry)) ⌝ }
@@ -28,7 +31,7 @@ pub fn stops_workout(contents: &[u8]) -> bool
                 return is_found;
             }
             Step::Broken => {
-                return false;
+                return IN_UNSOUND;
             }
             Step::Entry {
                 byte,
@@ -67,7 +70,7 @@ fn holds_terminate(list: &[u8]) -> bool
                 return is_found;
             }
             Step::Broken => {
-                return false;
+                return IN_UNSOUND;
             }
             Step::Entry {
                 byte,
