@@ -1,8 +1,7 @@
 -- Document 01's listing of an example trace, and the readings of `stop=yes`, computed.
 use mathlib.Core.Path.{_≡_, refl}
 use mathlib.Core.Bool.{true, false}
-use mathlib.Core.List.{List, [], _∷_}
-use Prim.Native.Nat.{ℕ}
+use mathlib.Core.List.{[], _∷_}
 use Rattle.packing.specs.Choice.{noneOf}
 use Rattle.frame.specs.Stuffing.{unstuff, prepend}
 use Rattle.frame.specs.Checksum.{sumFrom}

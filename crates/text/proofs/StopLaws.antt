@@ -5,11 +5,11 @@ use mathlib.Core.List.{List, [], _∷_}
 use Prim.Native.Nat.{ℕ}
 use native.Mathlib.Omega.{arith}
 use lib.Dec.{eqb}
-use lib.ListN.{length, getD, take, drop}
+use lib.ListN.{length, getD}
 use borrow.Author.Tests.{eq-eqb, ne-eqb}
 use Rattle.packing.specs.Choice.{pick}
-use Rattle.command.specs.Entries.{Entry, entry, commands, Parsed, unsound, sound, put, parse}
-use Rattle.text.specs.Stop.{anyOf, anyIn, isOneTwo, terminates, stopsWithin}
+use Rattle.command.specs.Entries.{Entry, entry, Parsed, unsound, sound, put}
+use Rattle.text.specs.Stop.{anyOf, anyIn, isOneTwo}
 
 module _ (p : Entry → Bool) where
   -- An entry that passes was found before, or is one of those that follow, and what follows is sound.

@@ -1,5 +1,5 @@
 -- The test for `stop=yes` holds exactly where the contents are a sound list in which a sound 76 wrapper holds command 13 with data 01 02.
-use mathlib.Core.Path.{_≡_, refl, sym, ap, _∙_}
+use mathlib.Core.Path.{_≡_, refl, ap, _∙_}
 use mathlib.Core.Bool.{Bool, true, false, false≢true}
 use mathlib.Core.List.{List, [], _∷_}
 use Prim.Native.Nat.{ℕ}

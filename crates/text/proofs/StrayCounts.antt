@@ -8,7 +8,7 @@ use native.Mathlib.Omega.{arith}
 use Rattle.framing.specs.Reference.{Role, starts, stops, plain}
 use Rattle.framing.specs.Demand3.{FlagFree, LeftOpen}
 use Rattle.line.specs.Rowing.{roleOf, rowing}
-use Rattle.text.specs.Strays.{strayAt, openAfter, strays, Inside, Strays, done, inside, stray}
+use Rattle.text.specs.Strays.{strayAt, openAfter, strays, Strays, done, inside, stray}
 
 -- ---- the last of a list, and what stands before it
 

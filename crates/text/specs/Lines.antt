@@ -5,7 +5,7 @@ use Prim.Native.Nat.{ℕ}
 use Prim.Native.Char.{code}
 use Prim.Native.String.{String, [] as empty, _∷_ as _then_}
 use lib.ListN.{length}
-use Rattle.frame.specs.Frame.{Frame, standard, extended}
+use Rattle.frame.specs.Frame.{standard, extended}
 use Rattle.frame.specs.Verdict.{accepted, refused}
 use Rattle.line.specs.Outcome.{Outcome, nothing, judged}
 use Rattle.text.specs.Digits.{decimal, hex}

@@ -10,7 +10,7 @@ use lib.Seq.{take-suc, drop-cons, drop-length}
 use lib.Dec.{ltb}
 use borrow.Author.Tests.{lt-ltb, le-ltb}
 use Rattle.packing.specs.Choice.{pick}
-use Rattle.text.specs.Writing.{Wrote, lineRoom}
+use Rattle.text.specs.Writing.{lineRoom}
 use Rattle.text.proofs.Writing.{wrote-nothing, wrote-as, wrote-first, next}
 use Rattle.trace.specs.Chunk.{Going, Passes}
 use Rattle.trace.specs.Machine.{nextOf, textOf, after, texts, takenOf, Lists, listing, listedOf, Turns}

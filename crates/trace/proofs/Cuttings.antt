@@ -17,8 +17,8 @@ use Rattle.text.specs.Lines.{totals}
 use Rattle.text.specs.Strays.{strays}
 use Rattle.text.specs.Text.{frames, refusals, lines, answersTo, text}
 use Rattle.text.specs.Writing.{lineRoom}
-use Rattle.trace.specs.Machine.{newListing, nextOf, textOf, after, texts, takenOf, lastText, Lists, Ends}
-use Rattle.trace.specs.Cutting.{Calls, none, call, Session, longest, WritesText, TakesSome}
+use Rattle.trace.specs.Machine.{newListing, nextOf, textOf, after, texts, takenOf, lastText, Lists}
+use Rattle.trace.specs.Cutting.{Calls, none, call, longest, WritesText, TakesSome}
 use Rattle.trace.specs.declared.Listing.{Listing}
 use Rattle.trace.specs.declared.Listed.{Listed}
 use Rattle.trace.proofs.ChunkLaws.{after-append, texts-append}

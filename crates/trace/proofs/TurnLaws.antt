@@ -6,14 +6,14 @@ use Prim.Native.Nat.{ℕ, _+_, _^_, _≤_, _<_}
 use native.Mathlib.Nat.{mod-eq-of-lt, add-zero}
 use native.Mathlib.Omega.{arith}
 use lib.ListN.{length, set}
-use lib.Dec.{eqb, ltb}
+use lib.Dec.{eqb}
 use borrow.Author.Tests.{lt-ltb}
 use Rattle.packing.specs.Choice.{pick}
 use Rattle.framing.specs.Reference.{Role, starts, stops, plain, byte, finish}
 use Rattle.frame.specs.Frame.{standard, extended}
 use Rattle.frame.specs.Verdict.{accepted, refused}
 use Rattle.frame.specs.Answers.{judgeAnswer}
-use Rattle.line.specs.Outcome.{Outcome, nothing, judged, Summary, silent, tells, toldMeans, summaryOf, outcomeOf}
+use Rattle.line.specs.Outcome.{Outcome, nothing, judged, silent, tells, toldMeans, summaryOf, outcomeOf}
 use Rattle.line.specs.Reader.{Turn, reader, turn, restartOf, stopOf, growOf, stepOf, finishOf, Moves}
 use Rattle.line.specs.Rowing.{roleOf}
 use Rattle.line.specs.declared.LineReader.{LineReader}

@@ -1,5 +1,4 @@
 use mathlib.Core.Path.{ap}
-use mathlib.Core.List.{List}
 use native.Mathlib.Omega.{arith}
 use Rattle.frame.specs.Answers.{frameRead}
 use Rattle.text.specs.Lines.{standardLine, extendedLine}

@@ -1,6 +1,5 @@
 use mathlib.Core.Path.{ap}
 use Rattle.line.specs.declared.LineReader.{LineReader}
-use Rattle.trace.specs.declared.Listing.{Listing}
 use borrow.Author.Needs.{needs}
 use Rattle.trace.proofs.new.Statement.{statement}
 use Rattle.trace.proofs.new.Tie as tie

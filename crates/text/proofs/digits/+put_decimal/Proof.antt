@@ -1,8 +1,8 @@
 use borrow.Author.Needs.{needs}
 use mathlib.Core.Path.{_∙_, sym}
-use Prim.Native.Nat.{_+_, _/_, _%_, _≤_}
+use Prim.Native.Nat.{_+_, _/_, _≤_}
 use native.Mathlib.Omega.{arith}
-use lib.ListN.{length, length-set}
+use lib.ListN.{length-set}
 use Rattle.text.proofs.Writing.{wrote-as}
 use Rattle.text.proofs.DigitLaws.{decimal-pair, length-small, length-pair, length-hundreds, wrote-small, wrote-hundreds}
 use Prim.Native.Nat.{ℕ, _<_}

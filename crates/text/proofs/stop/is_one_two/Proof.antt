@@ -1,4 +1,3 @@
-use borrow.Author.Tests.{not-false}
 use Rattle.text.proofs.StopLaws.{not-two, first-other, second-other, one-two}
 use borrow.Author.Needs.{needs}
 use Rattle.text.proofs.stop.is_one_two.Statement.{statement}
