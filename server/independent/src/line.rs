@@ -5,6 +5,9 @@ use std::ops::Range;
 use crate::frame::{self, BODY_MAX, START_EXTENDED, START_STANDARD, STOP};
 use crate::refusal;
 
+/// Bytes tested together in the search for a flag.
+const BLOCK: usize = 32;
+
 /// What a call on the line tells.
 #[derive(Clone, Copy, Debug, PartialEq, Eq)]
 pub enum Answer {
@@ -62,7 +65,7 @@ impl Line {
     #[inline]
     pub fn feed_chunk(&mut self, chunk: &[u8]) -> (usize, Answer) {
         let mut taken = 0;
-        while let Some(run) = chunk[taken..].iter().position(|&byte| frame::is_flag(byte)) {
+        while let Some(run) = first_flag(&chunk[taken..]) {
             self.extend(&chunk[taken..taken + run]);
             taken += run + 1;
             let answer = self.feed(chunk[taken - 1]);
@@ -146,4 +149,13 @@ impl Default for Line {
     fn default() -> Self {
         Line::new()
     }
+}
+
+/// The place of the first flag. Whole blocks are passed over first, because a
+/// block is tested without a branch for each byte.
+pub(crate) fn first_flag(bytes: &[u8]) -> Option<usize> {
+    let blocks = bytes.chunks_exact(BLOCK);
+    let clear = BLOCK * blocks.take_while(|block| !frame::any_flag(block)).count();
+    let flag = |&byte: &u8| frame::is_flag(byte);
+    Some(clear + bytes[clear..].iter().position(flag)?)
 }

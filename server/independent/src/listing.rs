@@ -4,7 +4,7 @@ use std::io::{self, Read, Write};
 
 use crate::command;
 use crate::frame::{self, STOP};
-use crate::line::{Answer, Line};
+use crate::line::{first_flag, Answer, Line};
 
 /// The most bytes of a trace that are taken.
 const INPUT_MAX: u64 = 4_294_967_295;
@@ -12,8 +12,6 @@ const INPUT_MAX: u64 = 4_294_967_295;
 const CHUNK: usize = 1 << 16;
 /// More than the longest line of text.
 const TEXT_LINE_MAX: usize = 128;
-/// Bytes tested together in the search for a flag.
-const BLOCK: usize = 32;
 
 /// Lists the trace read from `input` as text on `output`. When reading fails,
 /// the lines told until then are written, without totals.
@@ -168,15 +166,6 @@ impl<'a, W: Write> Listing<'a, W> {
         self.text.clear();
         Ok(())
     }
-}
-
-/// The place of the first flag. Whole blocks are passed over first, because a
-/// block is tested without a branch for each byte.
-fn first_flag(bytes: &[u8]) -> Option<usize> {
-    let blocks = bytes.chunks_exact(BLOCK);
-    let clear = BLOCK * blocks.take_while(|block| !frame::any_flag(block)).count();
-    let flag = |&byte: &u8| frame::is_flag(byte);
-    Some(clear + bytes[clear..].iter().position(flag)?)
 }
 
 /// Two upper-case hexadecimal digits.
