@@ -187,7 +187,7 @@ fn as_told(answer: Answer) -> Told {
 }
 
 /// A stretch of a line: a sound frame, a damaged one, stray bytes, or bytes that are mostly flags.
-fn stretch(random: &mut Xorshift) -> Vec<u8> {
+pub fn stretch(random: &mut Xorshift) -> Vec<u8> {
     match random.below(8) {
         0..=2 => Plain::any(random).wire(),
         3..=4 => {

@@ -10,6 +10,9 @@ mod frame_damage;
 mod frames;
 mod leases;
 mod lines;
+mod listings;
 mod output;
+#[path = "../common/program.rs"]
+mod program;
 mod tally;
 mod workouts;

@@ -1,0 +1,173 @@
+//! The listing program against the independent listing, on whole traces.
+
+use std::fs;
+use std::io::{Cursor, Read, Write};
+use std::path::{Path, PathBuf};
+use std::process::{Command, Output, Stdio};
+use std::sync::OnceLock;
+use std::thread;
+
+use independent::listing;
+
+use crate::common::{Xorshift, SEED};
+use crate::lines::stretch;
+use crate::program;
+
+const TERMINATE: [u8; 6] = [0x76, 0x04, 0x13, 0x02, 0x01, 0x02];
+
+fn program() -> &'static Path {
+    static PROGRAM: OnceLock<PathBuf> = OnceLock::new();
+    PROGRAM.get_or_init(program::listing)
+}
+
+/// What our program prints of a trace that arrives in pieces whose lengths `piece` chooses.
+fn ours(trace: &[u8], mut piece: impl FnMut(usize) -> usize) -> Output {
+    let mut child = Command::new(program())
+        .stdin(Stdio::piped())
+        .stdout(Stdio::piped())
+        .stderr(Stdio::piped())
+        .spawn()
+        .expect("the program starts");
+    let mut input = child.stdin.take().expect("the input is a pipe");
+    thread::scope(|scope| {
+        let reading = scope.spawn(|| child.wait_with_output().expect("the program ends"));
+        let mut rest = trace;
+        while !rest.is_empty() {
+            let (now, later) = rest.split_at(piece(rest.len()));
+            input.write_all(now).expect("the program reads");
+            rest = later;
+        }
+        drop(input);
+        reading.join().expect("the program's output is read")
+    })
+}
+
+fn theirs(trace: &[u8]) -> Vec<u8> {
+    let mut text = Vec::new();
+    listing::list(&mut Cursor::new(trace), &mut text).expect("nothing fails in memory");
+    text
+}
+
+fn check(what: &str, trace: &[u8], piece: impl FnMut(usize) -> usize) {
+    let printed = ours(trace, piece);
+    assert!(printed.status.success(), "{what}");
+    assert!(printed.stderr.is_empty(), "{what}");
+    let expected = theirs(trace);
+    let line = printed
+        .stdout
+        .split(|byte| *byte == b'\n')
+        .zip(expected.split(|byte| *byte == b'\n'))
+        .position(|(ours, theirs)| ours != theirs);
+    assert_eq!(line, None, "{what}: the first line that differs");
+    assert_eq!(printed.stdout.len(), expected.len(), "{what}");
+}
+
+/// Frames with stops among them, damage and stray bytes.
+fn trace(random: &mut Xorshift, len: usize) -> Vec<u8> {
+    let mut trace = Vec::new();
+    while trace.len() < len {
+        match random.below(10) {
+            0 => trace.extend(command_frame(random)),
+            _ => trace.extend(stretch(random)),
+        }
+    }
+    trace
+}
+
+/// A sound frame whose contents are commands about the one that ends a workout, changed in places.
+fn command_frame(random: &mut Xorshift) -> Vec<u8> {
+    let mut contents = Vec::new();
+    for _ in 0..=random.below(3) {
+        let mut part = match random.below(3) {
+            0 => vec![0x80 + random.below(0x40) as u8],
+            1 => vec![
+                [0x1A, 0x77, 0x7E, 0x7F, 0x13][random.below(5)],
+                0x04,
+                0x13,
+                0x02,
+                0x01,
+                0x02,
+            ],
+            _ => TERMINATE.to_vec(),
+        };
+        if random.below(4) == 0 {
+            let at = random.below(part.len());
+            part[at] = random.below(8) as u8;
+        }
+        contents.extend(part);
+    }
+    let mut wire = [0; 128];
+    let len =
+        independent::frame::write_extended(0x05, random.below(256) as u8, &contents, &mut wire)
+            .expect("the frame is short enough");
+    wire[..len].to_vec()
+}
+
+#[test]
+fn many_short_traces_are_listed_alike() {
+    let mut random = Xorshift::new();
+    for number in 0..400 {
+        let len = random.below(400);
+        let mut bytes = trace(&mut random, len);
+        bytes.truncate(len);
+        let what = format!("trace {number} of seed {SEED:#X}");
+        check(&what, &bytes, |left| 1 + random.below(left));
+    }
+}
+
+#[test]
+fn long_traces_are_listed_alike_in_any_pieces() {
+    let mut random = Xorshift::new();
+    let bytes = trace(&mut random, 4_000_000);
+    let stops = theirs(&bytes)
+        .windows(8)
+        .filter(|text| text == b"stop=yes")
+        .count();
+    assert!(stops > 1_000, "the trace has {stops} stops");
+    for most in [1 << 10, 1 << 16, 1 << 22] {
+        let what = format!("pieces of up to {most} bytes, seed {SEED:#X}");
+        check(&what, &bytes, |left| 1 + random.below(most.min(left)));
+    }
+}
+
+#[test]
+fn the_samples_are_listed_alike() {
+    let samples = Path::new(env!("CARGO_MANIFEST_DIR")).join("../samples");
+    let mut count = 0;
+    for entry in fs::read_dir(samples).expect("the samples are there") {
+        let path = entry.expect("a sample").path();
+        if path.extension().is_some_and(|extension| extension == "bin") {
+            let bytes = fs::read(&path).expect("a sample");
+            check(&path.display().to_string(), &bytes, |left| left);
+            count += 1;
+        }
+    }
+    assert!(count >= 5, "{count} samples");
+}
+
+#[test]
+fn an_empty_trace_has_its_totals() {
+    let printed = ours(&[], |left| left);
+    assert_eq!(printed.stdout, b"frames=0 refused=0 loose=0\n");
+}
+
+#[test]
+fn a_read_that_fails_is_told_without_totals() {
+    let directory = fs::File::open(env!("CARGO_MANIFEST_DIR")).expect("a directory");
+    let mut child = Command::new(program())
+        .stdin(directory)
+        .stdout(Stdio::piped())
+        .stderr(Stdio::piped())
+        .spawn()
+        .expect("the program starts");
+    child.wait().expect("the program ends");
+    let (mut printed, mut told) = (Vec::new(), Vec::new());
+    let mut stdout = child.stdout.expect("the output is a pipe");
+    let mut stderr = child.stderr.expect("the errors are a pipe");
+    stdout
+        .read_to_end(&mut printed)
+        .expect("the output is read");
+    stderr.read_to_end(&mut told).expect("the errors are read");
+    assert!(printed.is_empty());
+    assert!(!told.is_empty());
+}
