@@ -2,4 +2,6 @@ pub mod EntryLaws
 pub mod Sound
 pub mod Places
 pub mod WalkLaws
+pub mod CursorLaws
+pub mod Held
 pub mod Examples

@@ -1,6 +1,8 @@
 // Command lists: the n-th command at the top or inside a wrapper, its data as a part of the caller's contents.
 // Document 01, "Commands and replies".
+pub mod cursor;
 pub mod entries;
+pub mod walk;
 
 use entries::Cursor;
 use entries::Found;

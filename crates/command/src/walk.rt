@@ -1,0 +1,38 @@
+// A command list read from a place on: what a command cursor's functions call with its contents and its place.
+use crate::entries;
+use crate::entries::Cursor;
+use crate::entries::Found;
+ghost use mathlib.Core.Path.{_≡_};
+ghost use Rattle.command.specs.Answers.{foundMeans, partOf};
+ghost use Rattle.command.specs.Walk.{commandAt, placeAfter};
+
+// The command at a place. The counts from there on are checked first. Refusals 7 and 15; at the end and past it 15.
+pub fn command_at(contents: &[u8], at: usize) -> Found
+    ensures { λ r. ⌜ foundMeans r ≡ commandAt (now (contents .entry)) at ⌝ }
+{
+    let from = Cursor { at };
+    entries::nth(crate::COUNTED, contents, from, 0)
+}
+
+// Its data; empty where `command_at` refuses.
+pub fn data_at(contents: &[u8], at: usize) -> &[u8]
+    ensures { λ r. ⌜ now r ≡ partOf (now (contents .entry)) (commandAt (now (contents .entry)) at) ⌝ }
+{
+    let found = command_at(contents, at);
+    entries::found_part(contents, found)
+}
+
+// The place after it; the same place where `command_at` refuses.
+pub fn place_after(contents: &[u8], at: usize) -> usize
+    ensures { λ r. ⌜ r ≡ placeAfter (now (contents .entry)) at ⌝ }
+{
+    let found = command_at(contents, at);
+    match found {
+        Found::At {
+            byte: _,
+            start,
+            len,
+        } => start + len,
+        Found::Refused(_) => at,
+    }
+}
