@@ -129,3 +129,18 @@ kth-inside s w k b start len e y =
     ap (λ (a : Answer). inside s a k) e
     ∙ ap (λ (t : Bool). pick t (shifted start (nthCommand (take len (drop start s)) k)) (refused 15)) y
     ∙ ap (λ (x : List ℕ). shifted start (nthCommand x k)) l ∙ ap (shifted start) (sym (kth-step part k))
+
+-- ---- moves in a loop: what a step and the match on its answer tell
+
+module _ (s : List ℕ) (at left : ℕ) (f : Found) (d : foundMeans f ≡ commandAt s at) where
+  pub steps-found : {g : Found} → f ≡ g → left ≡ 0 → foundMeans g ≡ nthFrom s at left
+  unfolding commandAt
+  steps-found e z = ap foundMeans (sym e) ∙ d ∙ ap (nthFrom s at) (sym z)
+
+  pub steps-refused : (r : Refusal) → f ≡ Refused r → refused (numberOf r) ≡ nthFrom s at left
+  steps-refused r e = sym (refused-from s at (numberOf r) (sym d ∙ ap foundMeans e) left)
+
+pub steps-more : (s : List ℕ) (at left next : ℕ) → next ≡ placeAfter s at → (left ≡ 0 → ⊥) → nthFrom s next (left - 1) ≡ nthFrom s at left
+steps-more s at left next e z =
+    let one : suc (left - 1) ≡ left = omega arith in
+    ap (λ (x : ℕ). nthFrom s x (left - 1)) e ∙ next-from s at (left - 1) ∙ ap (nthFrom s at) one

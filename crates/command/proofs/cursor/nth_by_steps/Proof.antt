@@ -1,50 +1,53 @@
+use Prim.Native.Nat.{ℕ, _-_}
+use mathlib.Core.Path.{_≡_, refl, _∙_}
+use Rattle.command.specs.Commands.{nthCommand}
+use Rattle.command.proofs.CursorLaws.{nthFrom, steps-found, steps-more, steps-refused}
+use borrow.Author.Needs.{needs}
 use Rattle.command.proofs.cursor.nth_by_steps.Statement.{statement}
 use Rattle.command.proofs.cursor.nth_by_steps.Tie as tie
-use Rattle.command.proofs.cursor.nth_by_steps.Reads as reads
-use Rattle.command.proofs.cursor.nth_by_steps.Lts as lts
-use Rattle.command.proofs.cursor.step_from.Reads as step-from-reads
 
 abbrev Inv-loop : tie.InvT-loop
-Inv-loop contents n at₀ left₀ at left = ?
+Inv-loop contents n at₀ left₀ at left = nthFrom contents at left ≡ nthCommand contents n
 
 abbrev μ-loop : tie.MeasureT-loop
-μ-loop contents n at₀ left₀ at left = ?
+μ-loop contents n at₀ left₀ at left = left
 
--- src/cursor.rt:75:5
 loop-holds : tie.Need-loop-holds Inv-loop μ-loop
-loop-holds c = ?
+unfolding nthCommand
+loop-holds c = refl
 
--- src/cursor.rt:76:13
 step-from-requires : tie.Need-step-from-requires Inv-loop μ-loop
-step-from-requires c κs = ?
+step-from-requires c κs = search needs
 
--- src/cursor.rt:79:25
 enum-known-found : tie.Need-enum-known-found Inv-loop μ-loop
-enum-known-found c = ?
+enum-known-found c = search needs
 
--- src/cursor.rt:81:21
 returns : tie.Need-returns Inv-loop μ-loop
-returns c = ?
+returns c =
+    let k = c .before .before .before .before in
+    let l = k .before in
+    steps-found (l .before .before .args .contents .now) (l .loop .at) (l .loop .left) _ (k .step-from .ensures .0) (c .before .before .found .given .1) (c .if1 .taken) ∙ l .loop .inv
 
--- src/cursor.rt:83:24
 sub-left : tie.Need-sub-left Inv-loop μ-loop
-sub-left c = ?
+sub-left c = search needs
 
--- src/cursor.rt:75:5
 loop-less : tie.Need-loop-less Inv-loop μ-loop
-loop-less c = ?
+loop-less c = search needs
 
--- src/cursor.rt:75:5
 loop-again : tie.Need-loop-again Inv-loop μ-loop
-loop-again c = ?
+loop-again c =
+    let k = c .before .before .before .before in
+    let l = k .before in
+    steps-more (l .before .before .args .contents .now) (l .loop .at) (l .loop .left) _ (k .step-from .ensures .1) (c .if1 .left) ∙ l .loop .inv
 
--- src/cursor.rt:86:28
 enum-known-found-2 : tie.Need-enum-known-found-2 Inv-loop μ-loop
-enum-known-found-2 c = ?
+enum-known-found-2 c = search needs
 
--- src/cursor.rt:87:17
 returns-2 : tie.Need-returns-2 Inv-loop μ-loop
-returns-2 c = ?
+returns-2 c =
+    let k = c .before .before .before in
+    let l = k .before in
+    steps-refused (l .before .before .args .contents .now) (l .loop .at) (l .loop .left) _ (k .step-from .ensures .0) _ (c .before .found2 .given .1) ∙ l .loop .inv
 
 pub nth-by-steps-spec : {M : Type 1} → statement M
 nth-by-steps-spec =
