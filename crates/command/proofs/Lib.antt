@@ -4,4 +4,5 @@ pub mod Places
 pub mod WalkLaws
 pub mod CursorLaws
 pub mod Held
+pub mod Thin
 pub mod Examples
