@@ -2,6 +2,7 @@ pub mod EntryLaws
 pub mod Sound
 pub mod Places
 pub mod WalkLaws
+pub mod Called
 pub mod CursorLaws
 pub mod Held
 pub mod Thin
