@@ -3,7 +3,8 @@ pub mod Sound
 pub mod Places
 pub mod WalkLaws
 pub mod Called
-pub mod CursorLaws
+pub mod CursorMoves
+pub mod CursorSteps
 pub mod Held
 pub mod Thin
 pub mod Examples
