@@ -58,8 +58,10 @@ next-from s at n = case (parse commands (drop at s) 0) refl
   where
     here : ℕ → Answer
     here m = nthIn commands at (parse commands (drop at s) 0) m
+
     stays : (k : ℕ) → here 0 ≡ refused k → nthFrom s (past at (here 0)) n ≡ here (suc n)
     stays k e = ap (λ (a : Answer). nthFrom s (past at a) n) e ∙ refused-from s at k e n ∙ sym (refused-from s at k e (suc n))
+
     case : (p : Parsed) → parse commands (drop at s) 0 ≡ p → nthFrom s (past at (here 0)) n ≡ here (suc n)
     case unsound e = stays 7 (ap (λ (x : Parsed). nthIn commands at x 0) e)
     case (sound []) e = stays 15 (ap (λ (x : Parsed). nthIn commands at x 0) e)

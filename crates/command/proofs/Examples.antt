@@ -3,6 +3,7 @@ use mathlib.Core.Path.{_≡_, refl}
 use mathlib.Core.List.{[], _∷_}
 use Rattle.command.specs.Entries.{bytesOf, put, parse, found, refused, nthOf, nthIn}
 use Rattle.command.specs.Commands.{nthCommand, inside, nthInside}
+use Rattle.command.specs.Walk.{commandAt, placeAfter, placeOf}
 
 pub examples :
     -- an empty list is sound, and so is an empty wrapper
@@ -25,3 +26,23 @@ pub examples :
     × (nthInside (0x76 ∷ 0x02 ∷ 0x13 ∷ 0x02 ∷ 0x80 ∷ 0x80 ∷ []) 0 0 ≡ refused 7)
 unfolding bytesOf put parse nthOf nthIn nthCommand inside nthInside
 examples = (refl, refl, refl, refl, refl, refl, refl, refl, refl, refl, refl, refl)
+
+-- the same of a command cursor
+pub cursor-examples :
+    -- a short command, a wrapper, and then the end, where it stays
+    (commandAt (0x80 ∷ 0x76 ∷ 0x02 ∷ 0x13 ∷ 0x00 ∷ []) 0 ≡ found 0x80 1 0)
+    × (placeAfter (0x80 ∷ 0x76 ∷ 0x02 ∷ 0x13 ∷ 0x00 ∷ []) 0 ≡ 1)
+    × (commandAt (0x80 ∷ 0x76 ∷ 0x02 ∷ 0x13 ∷ 0x00 ∷ []) 1 ≡ found 0x76 3 2)
+    × (placeOf (0x80 ∷ 0x76 ∷ 0x02 ∷ 0x13 ∷ 0x00 ∷ []) 2 0 ≡ 5)
+    × (commandAt (0x80 ∷ 0x76 ∷ 0x02 ∷ 0x13 ∷ 0x00 ∷ []) 5 ≡ refused 15)
+    × (placeOf (0x80 ∷ 0x76 ∷ 0x02 ∷ 0x13 ∷ 0x00 ∷ []) 4 0 ≡ 5)
+    -- on the wrapper's data
+    × (commandAt (0x13 ∷ 0x00 ∷ []) 0 ≡ found 0x13 2 0)
+    -- on an unsound list it answers 7 from the first step on, and stays
+    × (commandAt (0x80 ∷ 0x20 ∷ 0x05 ∷ []) 0 ≡ refused 7)
+    × (placeOf (0x80 ∷ 0x20 ∷ 0x05 ∷ []) 3 0 ≡ 0)
+    -- a place past the end
+    × (commandAt (0x80 ∷ []) 9 ≡ refused 15)
+    × (placeAfter (0x80 ∷ []) 9 ≡ 9)
+unfolding bytesOf put parse nthOf nthIn commandAt placeAfter placeOf
+cursor-examples = (refl, refl, refl, refl, refl, refl, refl, refl, refl, refl, refl)
