@@ -13,7 +13,7 @@ pub struct CommandCursor<'a> {
     pub at: usize,
 }
 
-// What one step tells: the command at a place, and the place after it.
+// What one step tells: the command at a place, and the place after it, or the same place where the command is refused.
 pub struct Stepped {
     pub found: Found,
     pub next: usize,
@@ -27,7 +27,7 @@ impl<'a> CommandCursor<'a> {
         CommandCursor { contents, at: 0 }
     }
 
-    // The command at its place. Refusals 7 and 15.
+    // The command at its place. The counts from there on are checked first. Refusals 7 and 15.
     pub fn command(self) -> Found
         ensures { λ r. ⌜ foundMeans r ≡ commandAt (now (self .entry .contents)) (self .entry .at) ⌝ }
     {
@@ -53,7 +53,7 @@ impl<'a> CommandCursor<'a> {
     }
 }
 
-// One step of a cursor at a place, for callers that hold a slice and a place.
+// One step of a cursor, for callers that hold the contents and a place: they need no proof by hand.
 pub fn step_from(contents: &[u8], at: usize) -> Stepped
     ensures { λ r. ⌜ (foundMeans (r .found) ≡ commandAt (now (contents .entry)) at) × (r .next ≡ placeAfter (now (contents .entry)) at) ⌝ }
 {

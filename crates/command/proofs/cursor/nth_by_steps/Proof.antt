@@ -1,4 +1,3 @@
-use Prim.Native.Nat.{ℕ, _-_}
 use mathlib.Core.Path.{_≡_, refl, _∙_}
 use Rattle.command.specs.Commands.{nthCommand}
 use Rattle.command.proofs.CursorMoves.{nthFrom, from-found, from-refused, from-next}

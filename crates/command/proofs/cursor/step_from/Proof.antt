@@ -42,7 +42,7 @@ use Rattle.command.specs.declared.cursor.CommandCursor.{CommandCursor}
 use Rattle.command.specs.declared.cursor.Stepped.{Stepped}
 use Rattle.command.specs.declared.entries.Found.{Found}
 use Rattle.command.proofs.Called.{Over, over, OnCursor, to-cursor, asks-cursor, told-cursor}
-use Rattle.command.proofs.Held.{B, D, L, local, mach, Own, slice, passed, Lent, made}
+use Rattle.command.proofs.Held.{B, D, L, local, Own, slice, passed, Lent, made}
 use Rattle.command.proofs.cursor.CommandCursor as T
 use Rattle.command.proofs.cursor.CommandCursor.Laws as T′
 use Rattle.command.proofs.cursor.Stepped as P
