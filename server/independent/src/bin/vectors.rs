@@ -1,0 +1,293 @@
+//! Runs the worked examples on standard input and prints a line for each. The
+//! head of `crates/vectors/stdin` describes both.
+
+use std::io::{self, Read as _};
+use std::process::ExitCode;
+
+use independent::command::{self, Found};
+use independent::frame::{self, Read};
+use independent::line::{Answer, Line};
+use independent::reply::{self, Status};
+use independent::workout::{self, Goal, Workout};
+use independent::{lease, refusal};
+
+/// Room for whatever the examples write.
+const ROOM: usize = 300;
+const TABLE_LEN: usize = 2_048;
+
+fn main() -> ExitCode {
+    let mut text = String::new();
+    if let Err(error) = io::stdin().read_to_string(&mut text) {
+        eprintln!("{error}");
+        return ExitCode::FAILURE;
+    }
+    for line in text.lines().filter(|line| is_example(line)) {
+        let Some(answer) = run(line) else {
+            eprintln!("not an example: {line}");
+            return ExitCode::FAILURE;
+        };
+        println!("{answer}");
+    }
+    ExitCode::SUCCESS
+}
+
+fn is_example(line: &str) -> bool {
+    !line.is_empty() && !line.starts_with('#')
+}
+
+/// The answer to an example, or nothing where the line does not have its form.
+fn run(line: &str) -> Option<String> {
+    let (name, rest) = line.split_once(' ')?;
+    let (operation, arguments) = rest.split_once(' ').unwrap_or((rest, ""));
+    let answer = match operation {
+        "frame" => frame_answer(&bytes(arguments)?),
+        "contents" => contents_answer(&bytes(arguments)?),
+        "write-standard" => standard_answer(&bytes(arguments)?),
+        "write-extended" => extended_answer(&bytes(arguments)?)?,
+        "workout-distance" => {
+            workout_answer(arguments, |metres, split| Goal::Distance { metres, split })?
+        }
+        "workout-time" => {
+            workout_answer(arguments, |seconds, split| Goal::Time { seconds, split })?
+        }
+        "lease" => lease_answer(arguments)?,
+        "line" => line_answer(&bytes(arguments)?),
+        "number" => format!(" number={}", number(&bytes(arguments)?)),
+        _ => return None,
+    };
+    Some(format!("{name}{answer}"))
+}
+
+fn bytes(text: &str) -> Option<Vec<u8>> {
+    let byte = |word| u8::from_str_radix(word, 16).ok();
+    text.split_whitespace().map(byte).collect()
+}
+
+fn hex(bytes: &[u8]) -> String {
+    bytes.iter().map(|byte| format!("{byte:02X}")).collect()
+}
+
+/// What a writer leaves first in its output.
+fn written(write: impl FnOnce(&mut [u8]) -> Result<usize, u8>) -> Result<Vec<u8>, u8> {
+    let mut out = vec![0; ROOM];
+    let len = write(&mut out)?;
+    out.truncate(len);
+    Ok(out)
+}
+
+/// The bytes, or the refusal, as the value of a key.
+fn value(written: Result<Vec<u8>, u8>) -> String {
+    written.map_or_else(refused, |bytes| hex(&bytes))
+}
+
+fn refused(code: u8) -> String {
+    format!("refused:{code}")
+}
+
+fn frame_answer(wire: &[u8]) -> String {
+    let mut out = [0; ROOM];
+    let read = match frame::read(wire, &mut out) {
+        Ok(read) => read,
+        Err(code) => return refusal_of(code),
+    };
+    let contents = &out[..len_of(read)];
+    let again = value(written(|out| match read {
+        Read::Standard { .. } => frame::write_standard(contents, out),
+        Read::Extended { to, from, .. } => frame::write_extended(to, from, contents, out),
+    }));
+    let told = told_frame(read, contents);
+    let inside = contents_answer(contents);
+    format!("{told} written={again}{inside}")
+}
+
+fn refusal_of(code: u8) -> String {
+    format!(" kind=refused code={code}")
+}
+
+fn len_of(read: Read) -> usize {
+    match read {
+        Read::Standard { len } | Read::Extended { len, .. } => len,
+    }
+}
+
+fn told_frame(read: Read, contents: &[u8]) -> String {
+    let head = match read {
+        Read::Standard { len } => format!(" kind=std len={len}"),
+        Read::Extended { to, from, len } => {
+            format!(" kind=ext to={to:02X} from={from:02X} len={len}")
+        }
+    };
+    format!("{head} contents={}", hex(contents))
+}
+
+fn contents_answer(contents: &[u8]) -> String {
+    let commands = top_commands(contents);
+    let reply = reply_in(contents).unwrap_or_else(refused);
+    let workout = workout_in(contents).unwrap_or_else(refused);
+    format!(" commands={commands} reply={reply} workout={workout}")
+}
+
+/// Entries up to the first that does not exist, or why they can't be told.
+fn entries(nth: impl Fn(usize) -> Result<Found, u8>) -> Result<Vec<Found>, u8> {
+    let mut entries = Vec::new();
+    loop {
+        match nth(entries.len()) {
+            Ok(entry) => entries.push(entry),
+            Err(refusal::NONE) => return Ok(entries),
+            Err(code) => return Err(code),
+        }
+    }
+}
+
+fn place(entry: Found) -> String {
+    format!("{:02X}@{}+{}", entry.byte, entry.start, entry.len)
+}
+
+fn with_data(contents: &[u8], entry: Found) -> String {
+    format!("{}:{}", place(entry), hex(data_of(contents, entry)))
+}
+
+fn data_of(contents: &[u8], entry: Found) -> &[u8] {
+    &contents[entry.start..][..entry.len]
+}
+
+fn joined(entries: &[Found], show: impl FnMut(&Found) -> String) -> String {
+    let texts: Vec<String> = entries.iter().map(show).collect();
+    texts.join(",")
+}
+
+fn top_commands(contents: &[u8]) -> String {
+    let list = match entries(|n| command::nth(contents, n)) {
+        Ok(list) => list,
+        Err(code) => return refused(code),
+    };
+    let mut index = 0;
+    let commands = joined(&list, |&entry| {
+        let text = top_command(contents, index, entry);
+        index += 1;
+        text
+    });
+    format!("[{commands}]")
+}
+
+fn top_command(contents: &[u8], index: usize, entry: Found) -> String {
+    if !matches!(entry.byte, 0x1A | 0x76 | 0x77 | 0x7E | 0x7F) {
+        return with_data(contents, entry);
+    }
+    let inside = entries(|n| command::nth_inside(contents, index, n));
+    let inside = inside.map_or_else(refused, |list| {
+        joined(&list, |&entry| with_data(contents, entry))
+    });
+    format!("{}{{{inside}}}", place(entry))
+}
+
+fn reply_in(contents: &[u8]) -> Result<String, u8> {
+    let (status, count) = reply::read(contents)?;
+    let items = entries(|n| reply::nth_item(contents, n))?;
+    assert_eq!(items.len(), count);
+    let Status {
+        toggle,
+        previous,
+        state,
+    } = status;
+    let toggle = u8::from(toggle);
+    let again = value(rewritten_reply(contents, &items));
+    let items = joined(&items, |&item| with_data(contents, item));
+    Ok(format!(
+        "toggle:{toggle},previous:{previous},state:{state},items:[{items}],written:{again}"
+    ))
+}
+
+fn rewritten_reply(contents: &[u8], items: &[Found]) -> Result<Vec<u8>, u8> {
+    let start = written(|out| reply::write_status(contents[0], out))?;
+    items.iter().try_fold(start, |prior, &item| {
+        written(|out| reply::write_item(&prior, item.byte, data_of(contents, item), out))
+    })
+}
+
+fn workout_in(contents: &[u8]) -> Result<String, u8> {
+    let workout = workout::read(contents)?;
+    let again = value(written(|out| workout::write(workout, out)));
+    let goal = match workout.goal {
+        Goal::Distance { metres, split } => format!("distance:{metres},split:{split}"),
+        Goal::Time { seconds, split } => format!("time:{seconds},split:{split}"),
+    };
+    Ok(format!("{goal},watts:{},written:{again}", workout.watts))
+}
+
+fn standard_answer(contents: &[u8]) -> String {
+    writing_answer(written(|out| frame::write_standard(contents, out)))
+}
+
+fn extended_answer(arguments: &[u8]) -> Option<String> {
+    let &[to, from, ref contents @ ..] = arguments else {
+        return None;
+    };
+    let wire = written(|out| frame::write_extended(to, from, contents, out));
+    Some(writing_answer(wire))
+}
+
+fn writing_answer(wire: Result<Vec<u8>, u8>) -> String {
+    match wire {
+        Ok(wire) => format!(" len={} written={}", wire.len(), hex(&wire)),
+        Err(code) => format!(" code={code}"),
+    }
+}
+
+fn workout_answer(arguments: &str, goal: impl Fn(u32, u32) -> Goal) -> Option<String> {
+    let mut words = arguments.split(' ');
+    let goal = goal(words.next()?.parse().ok()?, words.next()?.parse().ok()?);
+    let watts = words.next()?.parse().ok()?;
+    let contents = match written(|out| workout::write(Workout { goal, watts }, out)) {
+        Ok(contents) => contents,
+        Err(code) => return Some(format!(" code={code}")),
+    };
+    let wire = value(written(|out| frame::write_standard(&contents, out)));
+    Some(format!(" contents={} written={wire}", hex(&contents)))
+}
+
+fn lease_answer(arguments: &str) -> Option<String> {
+    let mut table = [0; TABLE_LEN];
+    let call = |call| lease_call(&mut table, call);
+    arguments.split(" / ").map(call).collect()
+}
+
+fn lease_call(table: &mut [u8], call: &str) -> Option<String> {
+    let mut words = call.split(' ');
+    let name = words.next()?;
+    let address = u32::from_str_radix(words.next()?, 16).ok()?;
+    let token = words.next()?.parse().ok()?;
+    let done = |()| "done".to_string();
+    let answer = match name {
+        "hold" => lease::hold(table, address, token).map_or_else(refused, done),
+        "release" => lease::release(table, address, token).map_or_else(refused, done),
+        "stop" => value(written(|out| lease::stop(table, address, token, out))),
+        _ => return None,
+    };
+    Some(format!(" {name}={answer}"))
+}
+
+fn line_answer(bytes: &[u8]) -> String {
+    let mut line = Line::new();
+    let mut text = String::new();
+    for (at, &byte) in bytes.iter().enumerate() {
+        let answer = line.feed(byte);
+        text += &told_at(at, answer, line.contents());
+    }
+    let last = line.finish();
+    text + &told_at(bytes.len(), last, line.contents())
+}
+
+fn told_at(at: usize, answer: Answer, contents: &[u8]) -> String {
+    let told = match answer {
+        Answer::Nothing => return String::new(),
+        Answer::Frame(read) => told_frame(read, contents),
+        Answer::Refused(code) => refusal_of(code),
+    };
+    format!(" at={at}{told}")
+}
+
+fn number(bytes: &[u8]) -> u64 {
+    let lower = |number: u64, &byte: &u8| 256 * number + u64::from(byte);
+    bytes.iter().rev().fold(0, lower)
+}
