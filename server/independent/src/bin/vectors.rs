@@ -151,21 +151,16 @@ fn data_of(contents: &[u8], entry: Found) -> &[u8] {
     &contents[entry.start..][..entry.len]
 }
 
-fn joined(entries: &[Found], show: impl FnMut(&Found) -> String) -> String {
-    let texts: Vec<String> = entries.iter().map(show).collect();
+fn joined(entries: &[Found], show: impl Fn(usize, Found) -> String) -> String {
+    let shown = entries.iter().enumerate();
+    let texts: Vec<String> = shown.map(|(index, &entry)| show(index, entry)).collect();
     texts.join(",")
 }
 
 fn top_commands(contents: &[u8]) -> String {
-    let list = match entries(|n| command::nth(contents, n)) {
-        Ok(list) => list,
-        Err(code) => return refused(code),
-    };
-    let mut index = 0;
-    let commands = joined(&list, |&entry| {
-        let text = top_command(contents, index, entry);
-        index += 1;
-        text
+    let list = entries(|n| command::nth(contents, n));
+    let commands = list.map_or_else(refused, |list| {
+        joined(&list, |index, entry| top_command(contents, index, entry))
     });
     format!("[{commands}]")
 }
@@ -176,7 +171,7 @@ fn top_command(contents: &[u8], index: usize, entry: Found) -> String {
     }
     let inside = entries(|n| command::nth_inside(contents, index, n));
     let inside = inside.map_or_else(refused, |list| {
-        joined(&list, |&entry| with_data(contents, entry))
+        joined(&list, |_, entry| with_data(contents, entry))
     });
     format!("{}{{{inside}}}", place(entry))
 }
@@ -192,7 +187,7 @@ fn reply_in(contents: &[u8]) -> Result<String, u8> {
     } = status;
     let toggle = u8::from(toggle);
     let again = value(rewritten_reply(contents, &items));
-    let items = joined(&items, |&item| with_data(contents, item));
+    let items = joined(&items, |_, item| with_data(contents, item));
     Ok(format!(
         "toggle:{toggle},previous:{previous},state:{state},items:[{items}],written:{again}"
     ))

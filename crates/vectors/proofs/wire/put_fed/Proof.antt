@@ -1,0 +1,63 @@
+use Prim.Native.Nat.{_≤_, _-_}
+use mathlib.Core.Path.{_≡_}
+use lib.ListN.{length}
+use borrow.Author.Needs.{needs}
+use Rattle.vectors.proofs.wire.put_fed.Statement.{statement}
+use Rattle.vectors.proofs.wire.put_fed.Tie as tie
+
+abbrev Inv-loop : tie.InvT-loop
+Inv-loop bytes out₀ at held₀ len₀ mode₀ end₀ i₀ out held len mode end i = (i ≤ length bytes) × (length out ≡ length out₀)
+
+abbrev μ-loop : tie.MeasureT-loop
+μ-loop bytes out₀ at held₀ len₀ mode₀ end₀ i₀ out held len mode end i = length bytes - i
+
+loop-holds : tie.Need-loop-holds Inv-loop μ-loop
+loop-holds c = search needs
+
+shared-slice-read-step-in : tie.Need-shared-slice-read-step-in Inv-loop μ-loop
+shared-slice-read-step-in c = search needs
+
+step-in-requires : tie.Need-step-in-requires Inv-loop μ-loop
+step-in-requires c κs = search needs
+
+put-told-requires : tie.Need-put-told-requires Inv-loop μ-loop
+put-told-requires c κs = search needs
+
+add-i : tie.Need-add-i Inv-loop μ-loop
+add-i c = search needs
+
+loop-less : tie.Need-loop-less Inv-loop μ-loop
+loop-less c = search needs
+
+loop-again : tie.Need-loop-again Inv-loop μ-loop
+loop-again c = search needs
+
+finish-in-requires : tie.Need-finish-in-requires Inv-loop μ-loop
+finish-in-requires c κs = search needs
+
+put-told-requires-2 : tie.Need-put-told-requires-2 Inv-loop μ-loop
+put-told-requires-2 c κs = search needs
+
+same-length : tie.Need-same-length Inv-loop μ-loop
+same-length c = search needs
+
+returns : tie.Need-returns Inv-loop μ-loop
+returns c = search needs
+
+pub put-fed-spec : {M : Type 1} → statement M
+put-fed-spec =
+    tie.close
+    (tie.spec
+    Inv-loop
+    μ-loop
+    loop-holds
+    shared-slice-read-step-in
+    step-in-requires
+    put-told-requires
+    add-i
+    loop-less
+    loop-again
+    finish-in-requires
+    put-told-requires-2
+    same-length
+    returns)

@@ -1,0 +1,122 @@
+// The words, bytes and numbers of an example.
+ghost use Prim.Native.Nat.{_≤_};
+ghost use lib.ListN.{length};
+
+// What stands before the first `mark`, or all.
+pub fn upto(s: &[u8], mark: u8) -> &[u8]
+    ensures { λ r. ⌜ length (now r) ≤ length (now (s .entry)) ⌝ }
+{
+    let end = index_of(s, mark);
+    &s[..end]
+}
+
+// What stands after the first `mark`, or nothing.
+pub fn past(s: &[u8], mark: u8) -> &[u8] {
+    let end = index_of(s, mark);
+    if s.len() <= end {
+        return &s[..0];
+    }
+    &s[end + 1..]
+}
+
+pub fn first(s: &[u8]) -> &[u8] {
+    upto(s, b' ')
+}
+
+pub fn rest(s: &[u8]) -> &[u8] {
+    past(s, b' ')
+}
+
+// Puts bytes, two digits each and one character between two of them, first in `out`, and answers how many there are.
+pub fn bytes(s: &[u8], out: &mut [u8]) -> usize {
+    let mut n = 0;
+    let mut i = 0;
+    while i < s.len() {
+        n = crate::print::byte(pair_at(s, i), out, n);
+        if s.len() - i <= 3 {
+            return n;
+        }
+        i += 3;
+    }
+    n
+}
+
+// The byte whose two digits stand from an index on.
+pub fn pair_at(s: &[u8], i: usize) -> u8 {
+    if s.len() <= i {
+        return 0;
+    }
+    if s.len() - i <= 1 {
+        return 0;
+    }
+    16 * digit(s[i]) + digit(s[i + 1])
+}
+
+// The decimal number that the digits of a word are.
+pub fn number(s: &[u8]) -> u64 {
+    let mut n: u64 = 0;
+    let mut i = 0;
+    while i < s.len() {
+        n = with_digit(n, s[i]);
+        i += 1;
+    }
+    n
+}
+
+// The same, where it fits 32 bits.
+pub fn number32(s: &[u8]) -> u32 {
+    let n = number(s);
+    if n <= 0xFFFFFFFF {
+        return n as u32;
+    }
+    0
+}
+
+// The same, where it fits 16 bits.
+pub fn number16(s: &[u8]) -> u16 {
+    let n = number(s);
+    if n <= 0xFFFF {
+        return n as u16;
+    }
+    0
+}
+
+fn index_of(s: &[u8], mark: u8) -> usize
+    ensures { λ r. ⌜ r ≤ length (now (s .entry)) ⌝ }
+{
+    let mut i = 0;
+    while i < s.len() {
+        if s[i] == mark {
+            return i;
+        }
+        i += 1;
+    }
+    i
+}
+
+// One digit more, where the number then fits.
+fn with_digit(n: u64, c: u8) -> u64 {
+    if n <= 1844674407370955160 {
+        return 10 * n + digit(c) as u64;
+    }
+    n
+}
+
+// The value of a hexadecimal digit in upper case.
+fn digit(c: u8) -> u8
+    ensures { λ r. ⌜ r ≤ 15 ⌝ }
+{
+    if c < b'0' {
+        return 0;
+    }
+    if c <= b'9' {
+        return c - b'0';
+    }
+    if c < b'A' {
+        return 0;
+    }
+    if c <= b'F' {
+        return c - b'A' + 10;
+    }
+    0
+}
