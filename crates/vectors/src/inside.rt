@@ -15,158 +15,131 @@ use workout::Seconds;
 use workout::Workout;
 use workout::WorkoutRead;
 
-pub fn put_contents(contents: &[u8], out: &mut [u8], at: usize) -> usize {
-    let at = print::text(b" commands=", out, at);
-    let at = put_commands(contents, out, at);
-    let at = print::text(b" reply=", out, at);
-    let at = put_reply(contents, out, at);
-    let at = print::text(b" workout=", out, at);
-    put_workout(contents, out, at)
+pub fn print_contents(contents: &[u8]) {
+    print::text(b" commands=[");
+    print_list(contents);
+    print::text(b"] reply=");
+    print_reply(contents);
+    print::text(b" workout=");
+    print_workout(contents);
 }
 
 // ---- commands
 
-fn put_commands(contents: &[u8], out: &mut [u8], at: usize) -> usize {
-    let at = print::byte(b'[', out, at);
-    let at = put_list(contents, out, at);
-    print::byte(b']', out, at)
-}
-
 // A list has at most as many commands as bytes.
-fn put_list(contents: &[u8], out: &mut [u8], at: usize) -> usize {
-    let mut end = at;
+fn print_list(contents: &[u8]) {
     let mut n = 0;
     while n < contents.len() {
-        end = put_nth(contents, n, out, end);
+        print_nth(contents, n);
         n += 1;
     }
-    end
 }
 
-fn put_nth(contents: &[u8], n: usize, out: &mut [u8], at: usize) -> usize {
+fn print_nth(contents: &[u8], n: usize) {
     let found = command::nth(contents, n);
     match found {
         Found::At { byte, start, len } => {
-            let at = put_place(n, byte, start, len, out, at);
+            print_place(n, byte, start, len);
             if command::is_wrapper(byte) {
-                return put_wrapper(contents, n, out, at);
+                print_inner_list(contents, n);
+            } else {
+                print::bytes(b":", command::nth_data(contents, n));
             }
-            print::bytes(b":", command::nth_data(contents, n), out, at)
         }
-        Found::Refused(why) => put_reason(n, why, out, at),
+        Found::Refused(why) => print_reason(n, why),
     }
 }
 
-fn put_wrapper(contents: &[u8], w: usize, out: &mut [u8], at: usize) -> usize {
-    let at = print::byte(b'{', out, at);
-    let at = put_inner_list(contents, w, out, at);
-    print::byte(b'}', out, at)
-}
-
-fn put_inner_list(contents: &[u8], w: usize, out: &mut [u8], at: usize) -> usize {
-    let mut end = at;
+fn print_inner_list(contents: &[u8], w: usize) {
+    print::text(b"{");
     let mut n = 0;
     while n < contents.len() {
-        end = put_inner(contents, w, n, out, end);
+        print_inner(contents, w, n);
         n += 1;
     }
-    end
+    print::text(b"}");
 }
 
-fn put_inner(contents: &[u8], w: usize, n: usize, out: &mut [u8], at: usize) -> usize {
+fn print_inner(contents: &[u8], w: usize, n: usize) {
     let found = command::nth_inside(contents, w, n);
     match found {
         Found::At { byte, start, len } => {
-            let at = put_place(n, byte, start, len, out, at);
-            print::bytes(b":", command::nth_inside_data(contents, w, n), out, at)
+            print_place(n, byte, start, len);
+            print::bytes(b":", command::nth_inside_data(contents, w, n));
         }
-        Found::Refused(why) => put_reason(n, why, out, at),
+        Found::Refused(why) => print_reason(n, why),
     }
 }
 
 // The byte of the n-th entry and the place of its data, with a comma between two entries.
-fn put_place(n: usize, byte: u8, start: usize, len: usize, out: &mut [u8], at: usize) -> usize {
-    let at = put_comma(n, out, at);
-    let at = print::hex_byte(byte, out, at);
-    let at = print::number(b"@", start as u64, out, at);
-    print::number(b"+", len as u64, out, at)
-}
-
-fn put_comma(n: usize, out: &mut [u8], at: usize) -> usize {
-    if n == 0 {
-        return at;
+fn print_place(n: usize, byte: u8, start: usize, len: usize) {
+    if n != 0 {
+        print::text(b",");
     }
-    print::byte(b',', out, at)
+    print::hex_byte(byte);
+    print::number(b"@", start as u64);
+    print::number(b"+", len as u64);
 }
 
 // Why a list is none, once. That there is no n-th entry is no such reason.
-fn put_reason(n: usize, why: Refusal, out: &mut [u8], at: usize) -> usize {
+fn print_reason(n: usize, why: Refusal) {
     if n != 0 {
-        return at;
+        return;
     }
     match why {
-        Refusal::Absent => at,
-        _ => print::refused(why, out, at),
+        Refusal::Absent => {}
+        _ => print::refusal(b"refused:", why),
     }
 }
 
 // ---- replies
 
-fn put_reply(contents: &[u8], out: &mut [u8], at: usize) -> usize {
+fn print_reply(contents: &[u8]) {
     let read = reply::read_reply(contents);
     match read {
         ReplyRead::Reply { status, items } => {
-            let at = put_status(status, out, at);
-            let at = print::text(b",items:[", out, at);
-            let at = put_items(contents, items, out, at);
-            let at = print::text(b"],written:", out, at);
-            put_rewritten(contents, status, items, out, at)
+            print_status(status);
+            print_items(contents, items);
+            print_rewritten(contents, status, items);
         }
-        ReplyRead::Refused(why) => print::refused(why, out, at),
+        ReplyRead::Refused(why) => print::refusal(b"refused:", why),
     }
 }
 
-fn put_status(status: Status, out: &mut [u8], at: usize) -> usize {
-    let at = print::text(b"toggle:", out, at);
-    let at = print::byte(if status.toggle() { b'1' } else { b'0' }, out, at);
-    let at = print::number(b",previous:", status.previous() as u64, out, at);
-    print::number(b",state:", status.state() as u64, out, at)
+fn print_status(status: Status) {
+    print::number(b"toggle:", status.toggle() as u64);
+    print::number(b",previous:", status.previous() as u64);
+    print::number(b",state:", status.state() as u64);
 }
 
-fn put_items(contents: &[u8], items: usize, out: &mut [u8], at: usize) -> usize {
-    let mut end = at;
+fn print_items(contents: &[u8], items: usize) {
+    print::text(b",items:[");
     let mut n = 0;
     while n < items {
-        end = put_item(contents, n, out, end);
+        print_item(contents, n);
         n += 1;
     }
-    end
+    print::text(b"]");
 }
 
-fn put_item(contents: &[u8], n: usize, out: &mut [u8], at: usize) -> usize {
+fn print_item(contents: &[u8], n: usize) {
     let found = reply::nth_item(contents, n);
     match found {
         Found::At { byte, start, len } => {
-            let at = put_place(n, byte, start, len, out, at);
-            print::bytes(b":", reply::nth_item_data(contents, n), out, at)
+            print_place(n, byte, start, len);
+            print::bytes(b":", reply::nth_item_data(contents, n));
         }
-        Found::Refused(why) => print::refused(why, out, at),
+        Found::Refused(why) => print::refusal(b"refused:", why),
     }
 }
 
-// The reply written from its status and its items, one after the other.
-fn put_rewritten(
-    contents: &[u8],
-    status: Status,
-    items: usize,
-    out: &mut [u8],
-    at: usize,
-) -> usize {
+fn print_rewritten(contents: &[u8], status: Status, items: usize) {
     let mut room = io::buffer();
     let n = rewrite(contents, status, items, &mut room);
-    print::hex(entries::part(&room, 0, n), out, at)
+    print::bytes(b",written:", entries::part(&room, 0, n));
 }
 
+// The reply written from its status and its items, one after the other.
 fn rewrite(contents: &[u8], status: Status, items: usize, room: &mut [u8]) -> usize {
     let mut len = length_of(reply::write_status(status.to_byte(), room));
     let mut n = 0;
@@ -179,7 +152,7 @@ fn rewrite(contents: &[u8], status: Status, items: usize, room: &mut [u8]) -> us
 
 fn rewrite_item(contents: &[u8], n: usize, len: usize, room: &mut [u8]) -> usize {
     let mut prior = io::buffer();
-    let k = print::text(entries::part(room, 0, len), &mut prior, 0);
+    let k = words::copy(entries::part(room, 0, len), &mut prior);
     let found = reply::nth_item(contents, n);
     match found {
         Found::At { byte, start, len } => {
@@ -200,62 +173,63 @@ fn length_of(written: Written) -> usize {
 
 // ---- workouts
 
-fn put_workout(contents: &[u8], out: &mut [u8], at: usize) -> usize {
+fn print_workout(contents: &[u8]) {
     let read = workout::read_workout(contents);
     match read {
         WorkoutRead::Sound(workout) => {
-            let at = put_goal(workout, out, at);
-            let at = print::number(b",watts:", workout.watts as u64, out, at);
-            let at = print::text(b",written:", out, at);
+            print_goal(workout);
+            print::number(b",watts:", workout.watts as u64);
+            print::text(b",written:");
             let mut room = io::buffer();
             let written = workout::write_workout(workout, &mut room);
-            wire::put_written(written, &room, out, at)
+            wire::print_written(written, &room);
         }
-        WorkoutRead::Refused(why) => print::refused(why, out, at),
+        WorkoutRead::Refused(why) => print::refusal(b"refused:", why),
     }
 }
 
-fn put_goal(workout: Workout, out: &mut [u8], at: usize) -> usize {
+fn print_goal(workout: Workout) {
     let goal = workout.goal;
     match goal {
         Goal::Distance { goal, split } => {
-            let at = print::number(b"distance:", goal.0 as u64, out, at);
-            print::number(b",split:", split.0 as u64, out, at)
+            print::number(b"distance:", goal.0 as u64);
+            print::number(b",split:", split.0 as u64);
         }
         Goal::Time { goal, split } => {
-            let at = print::number(b"time:", goal.0 as u64, out, at);
-            print::number(b",split:", split.0 as u64, out, at)
+            print::number(b"time:", goal.0 as u64);
+            print::number(b",split:", split.0 as u64);
         }
     }
 }
 
-pub fn put_distance(arguments: &[u8], out: &mut [u8], at: usize) -> usize {
+pub fn write_distance(arguments: &[u8]) {
     let goal = Metres(words::number32(words::first(arguments)));
-    let split = Metres(words::number32(words::first(words::rest(arguments))));
-    let watts = words::number16(words::rest(words::rest(arguments)));
+    let rest = words::rest(arguments);
+    let split = Metres(words::number32(words::first(rest)));
+    let watts = words::number16(words::rest(rest));
     let goal = Goal::Distance { goal, split };
-    put_programmed(Workout { goal, watts }, out, at)
+    write_workout(Workout { goal, watts })
 }
 
-pub fn put_time(arguments: &[u8], out: &mut [u8], at: usize) -> usize {
+pub fn write_time(arguments: &[u8]) {
     let goal = Seconds(words::number32(words::first(arguments)));
-    let split = Hundredths(words::number32(words::first(words::rest(arguments))));
-    let watts = words::number16(words::rest(words::rest(arguments)));
+    let rest = words::rest(arguments);
+    let split = Hundredths(words::number32(words::first(rest)));
+    let watts = words::number16(words::rest(rest));
     let goal = Goal::Time { goal, split };
-    put_programmed(Workout { goal, watts }, out, at)
+    write_workout(Workout { goal, watts })
 }
 
 // A workout's contents, and the standard frame that has them.
-fn put_programmed(workout: Workout, out: &mut [u8], at: usize) -> usize {
+fn write_workout(workout: Workout) {
     let mut room = io::buffer();
     let written = workout::write_workout(workout, &mut room);
     match written {
         Written::Length(n) => {
             let contents = entries::part(&room, 0, n);
-            let at = print::bytes(b" contents=", contents, out, at);
-            let at = print::text(b" written=", out, at);
-            wire::put_framed(contents, out, at)
+            print::bytes(b" contents=", contents);
+            wire::print_standard(contents);
         }
-        Written::Refused(why) => print::number(b" code=", why.number() as u64, out, at),
+        Written::Refused(why) => print::refusal(b" code=", why),
     }
 }

@@ -7,7 +7,6 @@ mod wire;
 mod words;
 
 use command::entries;
-use libc::STDOUT_FILENO;
 
 fn main() {
     let mut text = io::large_buffer();
@@ -32,10 +31,10 @@ fn run_line(line: &[u8]) {
     if !is_example(line) {
         return;
     }
-    let mut out = io::buffer();
-    let at = put_answer(line, &mut out);
-    let end = print::byte(b'\n', &mut out, at);
-    io::write_all(STDOUT_FILENO, entries::part(&out, 0, end));
+    let rest = words::rest(line);
+    print::text(words::first(line));
+    run(words::first(rest), words::rest(rest));
+    print::text(b"\n");
 }
 
 // Not empty, and no comment.
@@ -46,50 +45,39 @@ fn is_example(line: &[u8]) -> bool {
     line[0] != b'#'
 }
 
-fn put_answer(line: &[u8], out: &mut [u8]) -> usize {
-    let at = print::text(words::first(line), out, 0);
-    let rest = words::rest(line);
-    run(words::first(rest), words::rest(rest), out, at)
-}
-
-fn run(operation: &[u8], arguments: &[u8], out: &mut [u8], at: usize) -> usize {
+fn run(operation: &[u8], arguments: &[u8]) {
     if check::same(operation, b"lease") {
-        return leases::put_calls(arguments, out, at);
+        return leases::run_calls(arguments);
     }
     if check::same(operation, b"workout-distance") {
-        return inside::put_distance(arguments, out, at);
+        return inside::write_distance(arguments);
     }
     if check::same(operation, b"workout-time") {
-        return inside::put_time(arguments, out, at);
+        return inside::write_time(arguments);
     }
     let mut room = io::buffer();
     let n = words::bytes(arguments, &mut room);
-    run_on_bytes(operation, entries::part(&room, 0, n), out, at)
+    run_on_bytes(operation, entries::part(&room, 0, n))
 }
 
-fn run_on_bytes(operation: &[u8], bytes: &[u8], out: &mut [u8], at: usize) -> usize {
+fn run_on_bytes(operation: &[u8], bytes: &[u8]) {
     if check::same(operation, b"frame") {
-        return wire::put_read(bytes, out, at);
+        return wire::read(bytes);
     }
     if check::same(operation, b"contents") {
-        return inside::put_contents(bytes, out, at);
+        return inside::print_contents(bytes);
     }
     if check::same(operation, b"write-standard") {
-        return wire::put_standard(bytes, out, at);
+        return wire::write_standard(bytes);
     }
     if check::same(operation, b"write-extended") {
-        return wire::put_extended(bytes, out, at);
+        return wire::write_extended(bytes);
     }
     if check::same(operation, b"line") {
-        return wire::put_fed(bytes, out, at);
+        return wire::feed(bytes);
     }
     if check::same(operation, b"number") {
-        return print::number(
-            b" number=",
-            packing::number_at(bytes, 0, bytes.len()),
-            out,
-            at,
-        );
+        return print::number(b" number=", packing::number_at(bytes, 0, bytes.len()));
     }
-    print::text(b" unknown operation", out, at)
+    print::text(b" unknown operation");
 }

@@ -1,62 +1,42 @@
-// Text, put together in a lent slice: each function puts its part at an index and answers the index after it. What does not fit is left out.
+// Pieces of a line on standard output.
+use libc::STDOUT_FILENO;
 use refusal::Refusal;
 
 const HEX_DIGITS: [u8; 16] = *b"0123456789ABCDEF";
 
-pub fn byte(b: u8, out: &mut [u8], at: usize) -> usize {
-    if at < out.len() {
-        out[at] = b;
-        return at + 1;
-    }
-    at
-}
-
-pub fn text(s: &[u8], out: &mut [u8], at: usize) -> usize {
-    let mut end = at;
-    let mut i = 0;
-    while i < s.len() {
-        end = byte(s[i], out, end);
-        i += 1;
-    }
-    end
+pub fn text(s: &[u8]) {
+    io::write_all(STDOUT_FILENO, s);
 }
 
 // Two digits for each byte.
-pub fn hex(s: &[u8], out: &mut [u8], at: usize) -> usize {
-    let mut end = at;
+pub fn hex(s: &[u8]) {
     let mut i = 0;
     while i < s.len() {
-        end = hex_byte(s[i], out, end);
+        hex_byte(s[i]);
         i += 1;
     }
-    end
 }
 
-pub fn hex_byte(b: u8, out: &mut [u8], at: usize) -> usize {
-    let next = byte(hex_digit(b / 16), out, at);
-    byte(hex_digit(b % 16), out, next)
-}
-
-pub fn decimal(n: u64, out: &mut [u8], at: usize) -> usize {
-    let mut digits = [0u8; 20];
-    let k = io::decimal(n, &mut digits);
-    text(&digits[..k], out, at)
+pub fn hex_byte(b: u8) {
+    let digits = [hex_digit(b / 16), hex_digit(b % 16)];
+    text(&digits);
 }
 
 // A key and a decimal number.
-pub fn number(key: &[u8], n: u64, out: &mut [u8], at: usize) -> usize {
-    let next = text(key, out, at);
-    decimal(n, out, next)
+pub fn number(key: &[u8], n: u64) {
+    text(key);
+    io::print_decimal(STDOUT_FILENO, n);
 }
 
 // A key and bytes.
-pub fn bytes(key: &[u8], s: &[u8], out: &mut [u8], at: usize) -> usize {
-    let next = text(key, out, at);
-    hex(s, out, next)
+pub fn bytes(key: &[u8], s: &[u8]) {
+    text(key);
+    hex(s);
 }
 
-pub fn refused(why: Refusal, out: &mut [u8], at: usize) -> usize {
-    number(b"refused:", why.number() as u64, out, at)
+// A key and a refusal's number.
+pub fn refusal(key: &[u8], why: Refusal) {
+    number(key, why.number() as u64);
 }
 
 // The upper-case digit of the low four bits.

@@ -8,135 +8,135 @@ use line::Mode;
 use line::Told;
 use refusal::Refusal;
 
-pub fn put_read(wire: &[u8], out: &mut [u8], at: usize) -> usize {
+// A frame that is read is written again from what was read.
+pub fn read(wire: &[u8]) {
     let mut room = io::buffer();
     let found = frame::read_frame(wire, &mut room);
     match found {
         Read::Standard { len } => {
             let contents = entries::part(&room, 0, len);
-            let at = put_standard_frame(contents, out, at);
-            let at = print::text(b" written=", out, at);
-            let at = put_framed(contents, out, at);
-            inside::put_contents(contents, out, at)
+            print_standard_frame(contents);
+            print_standard(contents);
+            inside::print_contents(contents);
         }
         Read::Extended { to, from, len } => {
             let contents = entries::part(&room, 0, len);
-            let at = put_extended_frame(to, from, contents, out, at);
-            let at = print::text(b" written=", out, at);
-            let at = put_addressed(to, from, contents, out, at);
-            inside::put_contents(contents, out, at)
+            print_extended_frame(to, from, contents);
+            print_extended(to, from, contents);
+            inside::print_contents(contents);
         }
-        Read::Refused(why) => put_refused(why, out, at),
+        Read::Refused(why) => print_refused(why),
     }
 }
 
-fn put_standard_frame(contents: &[u8], out: &mut [u8], at: usize) -> usize {
-    let at = print::number(b" kind=std len=", contents.len() as u64, out, at);
-    print::bytes(b" contents=", contents, out, at)
+fn print_standard_frame(contents: &[u8]) {
+    print::number(b" kind=std len=", contents.len() as u64);
+    print::bytes(b" contents=", contents);
 }
 
-fn put_extended_frame(to: u8, from: u8, contents: &[u8], out: &mut [u8], at: usize) -> usize {
-    let at = print::text(b" kind=ext to=", out, at);
-    let at = print::hex_byte(to, out, at);
-    let at = print::text(b" from=", out, at);
-    let at = print::hex_byte(from, out, at);
-    let at = print::number(b" len=", contents.len() as u64, out, at);
-    print::bytes(b" contents=", contents, out, at)
+fn print_extended_frame(to: u8, from: u8, contents: &[u8]) {
+    print::text(b" kind=ext to=");
+    print::hex_byte(to);
+    print::text(b" from=");
+    print::hex_byte(from);
+    print::number(b" len=", contents.len() as u64);
+    print::bytes(b" contents=", contents);
 }
 
-fn put_refused(why: Refusal, out: &mut [u8], at: usize) -> usize {
-    print::number(b" kind=refused code=", why.number() as u64, out, at)
+fn print_refused(why: Refusal) {
+    print::refusal(b" kind=refused code=", why);
 }
 
 // ---- writing
 
 // The bytes that a writer left first in `room`, or its refusal.
-pub fn put_written(written: Written, room: &[u8], out: &mut [u8], at: usize) -> usize {
+pub fn print_written(written: Written, room: &[u8]) {
     match written {
-        Written::Length(n) => print::hex(entries::part(room, 0, n), out, at),
-        Written::Refused(why) => print::refused(why, out, at),
+        Written::Length(n) => print::hex(entries::part(room, 0, n)),
+        Written::Refused(why) => print::refusal(b"refused:", why),
     }
 }
 
 // The standard frame that has these contents.
-pub fn put_framed(contents: &[u8], out: &mut [u8], at: usize) -> usize {
+pub fn print_standard(contents: &[u8]) {
     let mut room = io::buffer();
     let written = frame::write_standard(contents, &mut room);
-    put_written(written, &room, out, at)
+    print::text(b" written=");
+    print_written(written, &room);
 }
 
-fn put_addressed(to: u8, from: u8, contents: &[u8], out: &mut [u8], at: usize) -> usize {
+fn print_extended(to: u8, from: u8, contents: &[u8]) {
     let mut room = io::buffer();
     let written = frame::write_extended(to, from, contents, &mut room);
-    put_written(written, &room, out, at)
+    print::text(b" written=");
+    print_written(written, &room);
 }
 
-pub fn put_standard(contents: &[u8], out: &mut [u8], at: usize) -> usize {
+pub fn write_standard(contents: &[u8]) {
     let mut room = io::buffer();
     let written = frame::write_standard(contents, &mut room);
-    put_writing(written, &room, out, at)
+    print_writing(written, &room);
 }
 
 // The first two bytes are the addresses.
-pub fn put_extended(bytes: &[u8], out: &mut [u8], at: usize) -> usize {
+pub fn write_extended(bytes: &[u8]) {
     if bytes.len() < 2 {
-        return print::text(b" no addresses", out, at);
+        return print::text(b" no addresses");
     }
     let mut room = io::buffer();
     let written = frame::write_extended(bytes[0], bytes[1], &bytes[2..], &mut room);
-    put_writing(written, &room, out, at)
+    print_writing(written, &room);
 }
 
-fn put_writing(written: Written, room: &[u8], out: &mut [u8], at: usize) -> usize {
+fn print_writing(written: Written, room: &[u8]) {
     match written {
         Written::Length(n) => {
-            let at = print::number(b" len=", n as u64, out, at);
-            print::bytes(b" written=", entries::part(room, 0, n), out, at)
+            print::number(b" len=", n as u64);
+            print::bytes(b" written=", entries::part(room, 0, n));
         }
-        Written::Refused(why) => print::number(b" code=", why.number() as u64, out, at),
+        Written::Refused(why) => print::refusal(b" code=", why),
     }
 }
 
 // ---- the line
 
 // Every answer of a new line reader that is fed the bytes and then finished.
-pub fn put_fed(bytes: &[u8], out: &mut [u8], at: usize) -> usize {
+pub fn feed(bytes: &[u8]) {
     let mut held = [0u8; 118];
     let mut len = 0;
     let mut mode = Mode::Outside;
-    let mut end = at;
     let mut i = 0;
     while i < bytes.len() {
         let moved = line::step_in(&mut held, len, mode, bytes[i]);
         let told = moved.told;
-        end = put_told(i, told, &held, out, end);
+        print_told(i, told, &held);
         len = moved.len;
         mode = moved.mode;
         i += 1;
     }
     let moved = line::finish_in(mode);
     let told = moved.told;
-    put_told(i, told, &held, out, end)
+    print_told(i, told, &held);
 }
 
-fn put_told(index: usize, told: Told, held: &[u8; 118], out: &mut [u8], at: usize) -> usize {
+fn print_told(index: usize, told: Told, held: &[u8; 118]) {
     match told {
-        Told::Nothing => at,
+        Told::Nothing => {}
         Told::Refused(why) => {
-            let at = put_index(index, out, at);
-            put_refused(why, out, at)
+            print_index(index);
+            print_refused(why);
         }
         Told::Standard { len } => {
-            let at = put_index(index, out, at);
-            put_standard_frame(entries::part(held, 0, len), out, at)
+            print_index(index);
+            print_standard_frame(entries::part(held, 0, len));
         }
         Told::Extended { to, from, len } => {
-            let at = put_index(index, out, at);
-            put_extended_frame(to, from, entries::part(held, 0, len), out, at)
+            print_index(index);
+            print_extended_frame(to, from, entries::part(held, 0, len));
         }
     }
 }
 
-fn put_index(index: usize, out: &mut [u8], at: usize) -> usize {
-    print::number(b" at=", index as u64, out, at)
+fn print_index(index: usize) {
+    print::number(b" at=", index as u64);
 }

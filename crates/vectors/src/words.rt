@@ -32,11 +32,22 @@ pub fn bytes(s: &[u8], out: &mut [u8]) -> usize {
     let mut n = 0;
     let mut i = 0;
     while i < s.len() {
-        n = crate::print::byte(pair_at(s, i), out, n);
+        n = put(pair_at(s, i), out, n);
         if s.len() - i <= 3 {
             return n;
         }
         i += 3;
+    }
+    n
+}
+
+// Puts as much of a slice first in `out` as fits, and answers how much that is.
+pub fn copy(s: &[u8], out: &mut [u8]) -> usize {
+    let mut n = 0;
+    let mut i = 0;
+    while i < s.len() {
+        n = put(s[i], out, n);
+        i += 1;
     }
     n
 }
@@ -92,6 +103,15 @@ fn index_of(s: &[u8], mark: u8) -> usize
         i += 1;
     }
     i
+}
+
+// Puts a byte at an index, where that is one, and answers the index after it.
+fn put(b: u8, out: &mut [u8], at: usize) -> usize {
+    if at < out.len() {
+        out[at] = b;
+        return at + 1;
+    }
+    at
 }
 
 // One digit more, where the number then fits.

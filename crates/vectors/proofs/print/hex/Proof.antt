@@ -1,15 +1,14 @@
 use Prim.Native.Nat.{_≤_, _-_}
-use mathlib.Core.Path.{_≡_}
 use lib.ListN.{length}
 use borrow.Author.Needs.{needs}
 use Rattle.vectors.proofs.print.hex.Statement.{statement}
 use Rattle.vectors.proofs.print.hex.Tie as tie
 
 abbrev Inv-loop : tie.InvT-loop
-Inv-loop s out₀ at end₀ i₀ out end i = (i ≤ length s) × (length out ≡ length out₀)
+Inv-loop s i₀ i = i ≤ length s
 
 abbrev μ-loop : tie.MeasureT-loop
-μ-loop s out₀ at end₀ i₀ out end i = length s - i
+μ-loop s i₀ i = length s - i
 
 loop-holds : tie.Need-loop-holds Inv-loop μ-loop
 loop-holds c = search needs
@@ -29,9 +28,6 @@ loop-less c = search needs
 loop-again : tie.Need-loop-again Inv-loop μ-loop
 loop-again c = search needs
 
-same-length : tie.Need-same-length Inv-loop μ-loop
-same-length c = search needs
-
 returns : tie.Need-returns Inv-loop μ-loop
 returns c = search needs
 
@@ -47,5 +43,4 @@ hex-spec =
     add-i
     loop-less
     loop-again
-    same-length
     returns)

@@ -17,8 +17,8 @@ loop-holds c = search needs
 pair-at-requires : tie.Need-pair-at-requires Inv-loop μ-loop
 pair-at-requires c κs = search needs
 
-byte-requires : tie.Need-byte-requires Inv-loop μ-loop
-byte-requires c κs = search needs
+put-requires : tie.Need-put-requires Inv-loop μ-loop
+put-requires c κs = search needs
 
 sub-if1 : tie.Need-sub-if1 Inv-loop μ-loop
 sub-if1 c = search needs
@@ -52,7 +52,7 @@ bytes-spec =
     μ-loop
     loop-holds
     pair-at-requires
-    byte-requires
+    put-requires
     sub-if1
     same-length
     returns

@@ -1,15 +1,14 @@
 use Prim.Native.Nat.{_≤_, _-_}
-use mathlib.Core.Path.{_≡_}
 use lib.ListN.{length}
 use borrow.Author.Needs.{needs}
-use Rattle.vectors.proofs.wire.put_fed.Statement.{statement}
-use Rattle.vectors.proofs.wire.put_fed.Tie as tie
+use Rattle.vectors.proofs.wire.feed.Statement.{statement}
+use Rattle.vectors.proofs.wire.feed.Tie as tie
 
 abbrev Inv-loop : tie.InvT-loop
-Inv-loop bytes out₀ at held₀ len₀ mode₀ end₀ i₀ out held len mode end i = (i ≤ length bytes) × (length out ≡ length out₀)
+Inv-loop bytes held₀ len₀ mode₀ i₀ held len mode i = i ≤ length bytes
 
 abbrev μ-loop : tie.MeasureT-loop
-μ-loop bytes out₀ at held₀ len₀ mode₀ end₀ i₀ out held len mode end i = length bytes - i
+μ-loop bytes held₀ len₀ mode₀ i₀ held len mode i = length bytes - i
 
 loop-holds : tie.Need-loop-holds Inv-loop μ-loop
 loop-holds c = search needs
@@ -20,8 +19,8 @@ shared-slice-read-step-in c = search needs
 step-in-requires : tie.Need-step-in-requires Inv-loop μ-loop
 step-in-requires c κs = search needs
 
-put-told-requires : tie.Need-put-told-requires Inv-loop μ-loop
-put-told-requires c κs = search needs
+print-told-requires : tie.Need-print-told-requires Inv-loop μ-loop
+print-told-requires c κs = search needs
 
 add-i : tie.Need-add-i Inv-loop μ-loop
 add-i c = search needs
@@ -35,17 +34,14 @@ loop-again c = search needs
 finish-in-requires : tie.Need-finish-in-requires Inv-loop μ-loop
 finish-in-requires c κs = search needs
 
-put-told-requires-2 : tie.Need-put-told-requires-2 Inv-loop μ-loop
-put-told-requires-2 c κs = search needs
-
-same-length : tie.Need-same-length Inv-loop μ-loop
-same-length c = search needs
+print-told-requires-2 : tie.Need-print-told-requires-2 Inv-loop μ-loop
+print-told-requires-2 c κs = search needs
 
 returns : tie.Need-returns Inv-loop μ-loop
 returns c = search needs
 
-pub put-fed-spec : {M : Type 1} → statement M
-put-fed-spec =
+pub feed-spec : {M : Type 1} → statement M
+feed-spec =
     tie.close
     (tie.spec
     Inv-loop
@@ -53,11 +49,10 @@ put-fed-spec =
     loop-holds
     shared-slice-read-step-in
     step-in-requires
-    put-told-requires
+    print-told-requires
     add-i
     loop-less
     loop-again
     finish-in-requires
-    put-told-requires-2
-    same-length
+    print-told-requires-2
     returns)

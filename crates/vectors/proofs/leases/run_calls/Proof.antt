@@ -1,15 +1,14 @@
 use Prim.Native.Nat.{_≤_, _-_}
-use mathlib.Core.Path.{_≡_}
 use lib.ListN.{length}
 use borrow.Author.Needs.{needs}
-use Rattle.vectors.proofs.leases.put_calls.Statement.{statement}
-use Rattle.vectors.proofs.leases.put_calls.Tie as tie
+use Rattle.vectors.proofs.leases.run_calls.Statement.{statement}
+use Rattle.vectors.proofs.leases.run_calls.Tie as tie
 
 abbrev Inv-loop : tie.InvT-loop
-Inv-loop calls out₀ at table₀ end₀ i₀ out table end i = (i ≤ length calls) × (length out ≡ length out₀)
+Inv-loop calls table₀ i₀ table i = i ≤ length calls
 
 abbrev μ-loop : tie.MeasureT-loop
-μ-loop calls out₀ at table₀ end₀ i₀ out table end i = length calls - i
+μ-loop calls table₀ i₀ table i = length calls - i
 
 loop-holds : tie.Need-loop-holds Inv-loop μ-loop
 loop-holds c = search needs
@@ -29,14 +28,11 @@ upto-requires c κs = search needs
 unspaced-requires : tie.Need-unspaced-requires Inv-loop μ-loop
 unspaced-requires c κs = search needs
 
-put-call-requires : tie.Need-put-call-requires Inv-loop μ-loop
-put-call-requires c κs = search needs
+run-call-requires : tie.Need-run-call-requires Inv-loop μ-loop
+run-call-requires c κs = search needs
 
 add-last : tie.Need-add-last Inv-loop μ-loop
 add-last c = search needs
-
-same-length : tie.Need-same-length Inv-loop μ-loop
-same-length c = search needs
 
 returns : tie.Need-returns Inv-loop μ-loop
 returns c = search needs
@@ -50,14 +46,11 @@ loop-less c = search needs
 loop-again : tie.Need-loop-again Inv-loop μ-loop
 loop-again c = search needs
 
-same-length-2 : tie.Need-same-length-2 Inv-loop μ-loop
-same-length-2 c = search needs
-
 returns-2 : tie.Need-returns-2 Inv-loop μ-loop
 returns-2 c = search needs
 
-pub put-calls-spec : {M : Type 1} → statement M
-put-calls-spec =
+pub run-calls-spec : {M : Type 1} → statement M
+run-calls-spec =
     tie.close
     (tie.spec
     Inv-loop
@@ -68,12 +61,10 @@ put-calls-spec =
     part-upto-end
     upto-requires
     unspaced-requires
-    put-call-requires
+    run-call-requires
     add-last
-    same-length
     returns
     add-i
     loop-less
     loop-again
-    same-length-2
     returns-2)

@@ -1,0 +1,156 @@
+//! The worked examples that `crates/vectors` runs too: the stored answers are
+//! those of the program here, no example of the source documents is missing, and
+//! each answer says what those documents' table has.
+
+mod examples;
+
+use std::collections::HashMap;
+use std::fs;
+use std::path::PathBuf;
+use std::process::{Command, Stdio};
+
+fn stored(name: &str) -> PathBuf {
+    PathBuf::from(env!("CARGO_MANIFEST_DIR"))
+        .join("../../crates/vectors")
+        .join(name)
+}
+
+fn text(name: &str) -> String {
+    fs::read_to_string(stored(name)).unwrap()
+}
+
+/// The first word of each line that is no comment, and the rest.
+fn by_name(text: &str) -> HashMap<&str, &str> {
+    let lines = text.lines();
+    let examples = lines.filter(|line| !line.is_empty() && !line.starts_with('#'));
+    examples
+        .map(|line| line.split_once(' ').unwrap_or((line, "")))
+        .collect()
+}
+
+/// The value of a key in an answer.
+fn value<'a>(answer: &'a str, key: &str) -> &'a str {
+    let mut fields = answer.split(' ');
+    fields.find_map(|field| field.strip_prefix(key)).unwrap()
+}
+
+/// What the answer to a frame begins with, by the verdict of the examples.
+fn answer_to(verdict: &str) -> String {
+    let words: Vec<&str> = verdict.split(' ').collect();
+    match words[..] {
+        ["std", len] => format!("kind=std len={len} "),
+        ["ext", "to", to, "from", from, len] => {
+            format!("kind=ext to={to} from={from} len={len} ")
+        }
+        ["refused", code] => format!("kind=refused code={code}"),
+        _ => panic!("verdict {verdict}"),
+    }
+}
+
+#[test]
+fn stored_answers_are_what_the_program_prints() {
+    let output = Command::new(env!("CARGO_BIN_EXE_vectors"))
+        .stdin(fs::File::open(stored("stdin")).unwrap())
+        .stderr(Stdio::inherit())
+        .output()
+        .unwrap();
+    assert!(output.status.success());
+    assert!(String::from_utf8(output.stdout).unwrap() == text("stdout"));
+}
+
+#[test]
+fn every_example_has_one_answer() {
+    let (examples, answers) = (text("stdin"), text("stdout"));
+    let names = by_name(&examples);
+    assert_eq!(names.len(), answers.lines().count());
+    for line in answers.lines() {
+        let name = line.split(' ').next().unwrap();
+        assert!(names.contains_key(name), "{name}");
+    }
+}
+
+#[test]
+fn every_frame_of_the_sources_is_among_them() {
+    let (examples, answers) = (text("stdin"), text("stdout"));
+    let (examples, answers) = (by_name(&examples), by_name(&answers));
+    for (name, wire, verdict) in examples::FRAMES {
+        assert_eq!(examples[name], format!("frame {wire}"), "{name}");
+        let answer = answers[name];
+        assert!(answer.starts_with(&answer_to(verdict)), "{name}: {answer}");
+    }
+    for (name, contents) in examples::BARE {
+        assert_eq!(examples[name], format!("contents {contents}"), "{name}");
+    }
+}
+
+/// A list of commands without places, and without the colon before no data.
+fn without_places(list: &str) -> String {
+    let mut parts = list.split('@');
+    let mut text = parts.next().unwrap().to_string();
+    for part in parts {
+        text += part.trim_start_matches(|c: char| c.is_ascii_digit() || c == '+');
+    }
+    text.replace(":,", ",")
+        .replace(":}", "}")
+        .replace(":]", "]")
+}
+
+#[test]
+fn commands_are_those_of_the_table() {
+    let answers = text("stdout");
+    let answers = by_name(&answers);
+    for (name, list) in examples::LISTS {
+        let commands = without_places(value(answers[name], "commands="));
+        assert_eq!(commands, format!("[{}]", list.replace(' ', "")), "{name}");
+    }
+}
+
+/// The value that a reply or a workout of the table has in an answer, up to what
+/// is written.
+fn table_value(notation: &str) -> String {
+    if let Some(code) = notation.strip_prefix("refusal ") {
+        return format!("refused:{code}");
+    }
+    if notation.starts_with("toggle") {
+        return reply_value(notation);
+    }
+    let words: Vec<&str> = notation.split([' ', ',']).collect();
+    let [goal, number, "", "split", split, "", watts, "W"] = words[..] else {
+        panic!("workout {notation}");
+    };
+    format!("{goal}:{number},split:{split},watts:{watts},written:")
+}
+
+fn reply_value(notation: &str) -> String {
+    let (status, item) = notation.split_once("; 1 item: ").unwrap();
+    let (toggle, state) = status.split_once(", ok, ").unwrap();
+    let state = match state {
+        "ready" => 1,
+        "offline" => 9,
+        _ => panic!("state {state}"),
+    };
+    let (byte, data) = item.trim_end_matches(']').split_once('[').unwrap();
+    let data = data.replace(' ', "");
+    let len = data.len() / 2;
+    let toggle = toggle.replace(' ', ":");
+    format!("{toggle},previous:0,state:{state},items:[{byte}@3+{len}:{data}],written:")
+}
+
+fn assert_values(key: &str, table: &[(&str, &str)]) {
+    let answers = text("stdout");
+    let answers = by_name(&answers);
+    for (name, notation) in table {
+        let told = value(answers[name], key);
+        assert!(told.starts_with(&table_value(notation)), "{name}: {told}");
+    }
+}
+
+#[test]
+fn replies_are_those_of_the_table() {
+    assert_values("reply=", examples::REPLIES);
+}
+
+#[test]
+fn workouts_are_those_of_the_table() {
+    assert_values("workout=", examples::WORKOUTS);
+}
