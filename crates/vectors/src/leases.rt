@@ -38,6 +38,10 @@ fn run_call(call: &[u8], table: &mut [u8; 2048]) {
     print::text(b" ");
     print::text(name);
     print::text(b"=");
+    answer(name, table, address, token);
+}
+
+fn answer(name: &[u8], table: &mut [u8; 2048], address: u32, token: u64) {
     if check::same(name, b"hold") {
         return print_outcome(lease::hold_lent(table, address, token));
     }

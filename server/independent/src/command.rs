@@ -99,7 +99,8 @@ fn command_at(list: &[u8], at: usize) -> Result<Found, u8> {
     })
 }
 
-fn is_wrapper(byte: u8) -> bool {
+/// Whether the data of a command at the top is a list of commands again.
+pub fn is_wrapper(byte: u8) -> bool {
     matches!(byte, 0x1A | PROPRIETARY_WRAPPER | 0x77 | 0x7E | 0x7F)
 }
 

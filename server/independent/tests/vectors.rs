@@ -1,6 +1,8 @@
 //! The worked examples that `crates/vectors` runs too: the stored answers are
 //! those of the program here, no example of the source documents is missing, and
-//! each answer says what those documents' table has.
+//! each answer says what those documents' table has. To store the answers:
+//!
+//!     cargo run --bin vectors < ../../crates/vectors/stdin > ../../crates/vectors/stdout
 
 mod examples;
 
@@ -55,7 +57,11 @@ fn stored_answers_are_what_the_program_prints() {
         .output()
         .unwrap();
     assert!(output.status.success());
-    assert!(String::from_utf8(output.stdout).unwrap() == text("stdout"));
+    let (printed, stored) = (String::from_utf8(output.stdout).unwrap(), text("stdout"));
+    for (printed, stored) in printed.lines().zip(stored.lines()) {
+        assert_eq!(printed, stored);
+    }
+    assert_eq!(printed.len(), stored.len());
 }
 
 #[test]

