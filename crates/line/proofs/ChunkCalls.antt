@@ -38,7 +38,7 @@ feed-whole r (b ∷ s) =
     by-answer true t h f k = h
     by-answer false t h f k = k
 
-feeds-outcome : (bytes : List ℕ) (f : Fed) (r : LineReader) (s : List ℕ) → Feeds bytes f (feedOf r s) → outcomeOf (toldMeans (f .told)) bytes ≡ feedOf r s .outcome
+pub feeds-outcome : (bytes : List ℕ) (f : Fed) (r : LineReader) (s : List ℕ) → Feeds bytes f (feedOf r s) → outcomeOf (toldMeans (f .told)) bytes ≡ feedOf r s .outcome
 feeds-outcome bytes f r s k =
     ap (λ (h : Summary). outcomeOf h bytes) (k .told-is)
     ∙ ap (λ (u : LineReader). outcomeOf (summaryOf (feedOf r s .outcome)) (u .bytes)) (k .next-is)

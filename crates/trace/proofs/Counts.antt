@@ -64,7 +64,7 @@ open-at r b false true t₂ = refl
 open-at r b false false true = refl
 open-at r b false false false = grown-open (r .mode) (r .bytes) (r .len) b
 
-open-is : (r : LineReader) (b : ℕ) → isOpen (stepOf r b .next .mode) ≡ openAfter (roleOf b) (isOpen (r .mode))
+pub open-is : (r : LineReader) (b : ℕ) → isOpen (stepOf r b .next .mode) ≡ openAfter (roleOf b) (isOpen (r .mode))
 open-is r b = open-at r b (eqb b 0xF0) (eqb b 0xF1) (eqb b 0xF2)
 
 -- ---- the text from a state on

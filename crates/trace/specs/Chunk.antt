@@ -1,12 +1,14 @@
--- How far a call on a chunk has come.
+-- How far a call on a chunk has come, and what bytes up to an answer add to it.
 use mathlib.Core.Path.{_≡_}
-use mathlib.Core.List.{List}
-use Prim.Native.Nat.{ℕ, _+_, _-_, _≤_}
+use mathlib.Core.Bool.{Bool, true, false}
+use mathlib.Core.List.{List, [], _∷_}
+use Prim.Native.Nat.{ℕ, _+_, _-_, _<_, _≤_}
 use lib.ListN.{length, take, drop}
+use Rattle.packing.specs.Choice.{pick, within}
 use Rattle.text.specs.Writing.{Wrote, lineRoom}
-use Rattle.trace.specs.Machine.{after, texts, takenOf}
+use Rattle.trace.specs.Machine.{after, texts, takenOf, listing}
 use Rattle.trace.specs.declared.Listing.{Listing}
-use Rattle.trace.specs.declared.Tally.{Tally}
+use Rattle.trace.specs.declared.Turn.{Turn}
 
 -- From the state s₀ on, the bytes before the index i are taken, which leaves the state s, and their lines stand before the index at.
 pub record Going (s₀ : Listing) (chunk out₀ : List ℕ) (s : Listing) (out : List ℕ) (at i : ℕ) : Type 0 where
@@ -14,13 +16,32 @@ pub record Going (s₀ : Listing) (chunk out₀ : List ℕ) (s : Listing) (out :
   pub wrote : Wrote out₀ 0 (texts s₀ (take i chunk)) out at
   pub taken : takenOf s₀ chunk (length out₀) ≡ i + takenOf s (drop i chunk) (length out₀ - at)
 
--- The bytes from the index i up to j have no answer and take the state s to s′: wherever a call has come to i with room for a line, it
--- comes to j.
-pub record Passes (chunk : List ℕ) (s : Listing) (i : ℕ) (s′ : Listing) (j : ℕ) : Type 0 where
-  pub from : i ≤ j
-  pub fits : j ≤ length chunk
-  pub goes : (s₀ : Listing) (out₀ out : List ℕ) (at : ℕ) → at ≤ length out₀ → lineRoom ≤ length out₀ - at → Going s₀ chunk out₀ s out at i → Going s₀ chunk out₀ s′ out at j
+-- The first n bytes take the state s to s′ and give the text w. A call with room for a line takes all of them.
+pub record Leads (s : Listing) (bytes : List ℕ) (n : ℕ) (s′ : Listing) (w : List ℕ) : Type 0 where
+  pub fits : n ≤ length bytes
+  pub state : s′ ≡ after s (take n bytes)
+  pub text : w ≡ texts s (take n bytes)
+  pub taken : (room : ℕ) → lineRoom ≤ room → takenOf s bytes room ≡ n + takenOf s′ (drop n bytes) (room - length w)
 
--- The same numbers with another length.
-abbrev pub withLength : Tally → ℕ → Tally
-withLength t len = record { len = len; mode = t .mode; frames = t .frames; refused = t .refused; stray = t .stray }
+-- Bytes up to an answer, at least one, and their text at a place.
+pub record Advances (s : Listing) (rest bytes out : List ℕ) (at : ℕ) (out′ : List ℕ) (r : Turn) : Type 0 where
+  pub text : List ℕ
+  pub leads : Leads s rest (r .taken) (listing bytes (r .tally)) text
+  pub some : 0 < length rest → 0 < r .taken
+  pub wrote : Wrote out at text out′ (r .at)
+  pub within : r .at ≤ at + lineRoom
+
+-- ---- stray bytes
+
+abbrev pub isStart : ℕ → Bool
+isStart b = within 0xF0 0xF1 b
+
+-- How many bytes stand before the first start flag.
+unfoldable pub runOf : List ℕ → ℕ
+runOf [] = 0
+runOf (b ∷ bytes) = pick (isStart b) 0 (1 + runOf bytes)
+
+-- The stray bytes among those up to an answer.
+abbrev pub strayFirst : (is-open : Bool) → List ℕ → ℕ
+strayFirst true bytes = 0
+strayFirst false bytes = runOf bytes

@@ -6,7 +6,6 @@ use Prim.Native.Nat.{ℕ, _+_, _-_, _%_, _^_, _<_, _≤_}
 use lib.ListN.{length, take, drop}
 use lib.Dec.{ltb}
 use Rattle.packing.specs.Choice.{pick}
-use Rattle.framing.specs.Reference.{Role, starts, stops, plain}
 use Rattle.frame.specs.Answers.{readStandard, readExtended, notRead}
 use Rattle.line.specs.Outcome.{Summary, silent, tells}
 use Rattle.line.specs.Reader.{newReader, stepOf, finishOf}
@@ -16,18 +15,12 @@ use Rattle.line.specs.declared.Mode.the-variants.{Outside, InStandard, InExtend
 use Rattle.text.specs.Lines.{line, totals}
 use Rattle.text.specs.Strays.{strayAt}
 use Rattle.text.specs.Text.{frameOne, refusedOne}
-use Rattle.text.specs.Writing.{Wrote, lineRoom}
+use Rattle.text.specs.Writing.{lineRoom}
 use Rattle.trace.specs.declared.Listing.{Listing}
 use Rattle.trace.specs.declared.Listed.{Listed}
 use Rattle.trace.specs.declared.Tally.{Tally}
-use Rattle.trace.specs.declared.Turn.{Turn}
 
 -- ---- what an answer and a mode tell
-
--- Whether there is an answer.
-abbrev pub isTold : Summary → Bool
-isTold silent = false
-isTold (tells a) = true
 
 -- 1 for a frame, and 1 for a refusal.
 abbrev pub frameCount : Summary → ℕ
@@ -48,19 +41,6 @@ isOpen Outside = false
 isOpen InStandard = true
 isOpen InExtended = true
 isOpen Overlong = true
-
--- Whether the bytes of an open candidate are held.
-abbrev pub isHeld : Mode → Bool
-isHeld Outside = false
-isHeld InStandard = true
-isHeld InExtended = true
-isHeld Overlong = false
-
--- Whether a byte is no flag.
-abbrev pub isPlain : Role → Bool
-isPlain starts = false
-isPlain stops = false
-isPlain plain = true
 
 -- ---- one byte
 
@@ -138,9 +118,3 @@ listing bytes t = record { reader = record { bytes = bytes; len = t .len; mode =
 
 abbrev pub listedOf : (taken wrote : ℕ) → Listing → Listed
 listedOf taken wrote s = record { taken = taken; wrote = wrote; next = s }
-
--- One byte: the state after it, and its line at a place.
-pub record Turns (s : Listing) (b : ℕ) (bytes out : List ℕ) (at : ℕ) (out′ : List ℕ) (r : Turn) : Type 0 where
-  pub next-is : listing bytes (r .tally) ≡ nextOf s b
-  pub wrote : Wrote out at (textOf s b) out′ (r .at)
-  pub within : r .at ≤ at + lineRoom

@@ -5,22 +5,17 @@ use line::Mode;
 use line::Told;
 ghost use mathlib.Core.Path.{_≡_};
 ghost use Prim.Native.Nat.{_+_, _≤_};
-ghost use lib.ListN.{length};
+ghost use lib.ListN.{length, drop};
 ghost use Rattle.line.specs.Outcome.{toldMeans};
-ghost use Rattle.line.specs.Rowing.{roleOf};
-ghost use Rattle.text.specs.Strays.{strayAt};
-ghost use mathlib.Core.Bool.{true};
-ghost use Rattle.trace.specs.Chunk.{Passes, withLength};
-ghost use Rattle.trace.specs.Machine.{isTold, frameCount, refusedCount, isOpen, isHeld, isPlain, newListing, numberAfter, Lists, Ends, listing, listedOf, Turns};
+ghost use Rattle.trace.specs.Chunk.{isStart, runOf, strayFirst, Advances};
+ghost use Rattle.trace.specs.Machine.{frameCount, refusedCount, isOpen, newListing, numberAfter, Lists, Ends, listing, listedOf};
 
 const EXTENDED_START: u8 = 0xF0;
 
 const STANDARD_START: u8 = 0xF1;
 
-const STOP: u8 = 0xF2;
-
-// The most bytes of a candidate that are held.
-const HELD: usize = 118;
+// How many bytes are tested for start flags together.
+const BLOCK: usize = 32;
 
 // The room that the line of the finish and the totals fit in.
 const LAST_ROOM: usize = 192;
@@ -49,14 +44,9 @@ struct Tally {
     stray: u64,
 }
 
-// The index after bytes that have no answer, and how many bytes are held.
-struct Passed {
-    at: usize,
-    len: usize,
-}
-
-// The index after the line that a byte gave, and the state without its array.
+// How many bytes were taken, the index after the line that they gave, and the state without its array.
 struct Turn {
+    taken: usize,
     at: usize,
     tally: Tally,
 }
@@ -72,7 +62,7 @@ pub fn new() -> Listing
     }
 }
 
-// Takes bytes of a chunk as long as there is room for any line. The array is copied once for a chunk, and lent for each byte.
+// Takes bytes of a chunk as long as there is room for any line. The array is copied once for a chunk, and lent for each answer.
 pub fn list(s: Listing, chunk: &[u8], out: &mut [u8]) -> Listed
     ensures { λ r. ⌜ Lists s (now (chunk .entry)) (now (out .entry)) (now (out .exit)) r ⌝ }
 {
@@ -92,16 +82,10 @@ pub fn list(s: Listing, chunk: &[u8], out: &mut [u8]) -> Listed
         if out.len() - at < text::LINE_ROOM {
             return packed(i, at, bytes, tally);
         }
-        let passed = pass(&mut bytes, tally, chunk, i);
-        tally = with_length(tally, passed.len);
-        i = passed.at;
-        if chunk.len() <= i {
-            return packed(i, at, bytes, tally);
-        }
-        let t = feed(&mut bytes, tally, chunk[i], out, at);
+        let t = advance(&mut bytes, tally, &chunk[i..], out, at);
         tally = t.tally;
         at = t.at;
-        i += 1;
+        i += t.taken;
     }
     packed(i, at, bytes, tally)
 }
@@ -147,129 +131,30 @@ fn packed(taken: usize, wrote: usize, bytes: [u8; 118], t: Tally) -> Listed
     }
 }
 
-// The same state with so many bytes held.
-fn with_length(t: Tally, len: usize) -> Tally
-    ensures { λ r. ⌜ r ≡ withLength t len ⌝ }
-{
-    let mode = t.mode;
-    Tally {
-        len,
-        mode,
-        frames: t.frames,
-        refused: t.refused,
-        stray: t.stray,
-    }
-}
-
-// Takes bytes of an open candidate from an index on, up to a flag or a full array, in a loop that does nothing else. What it leaves
-// out, `feed` takes.
-fn pass(bytes: &mut [u8; 118], t: Tally, chunk: &[u8], from: usize) -> Passed
-    requires { ⌜ from ≤ length (now chunk) ⌝ }
-    ensures { λ r. ⌜ Passes (now (chunk .entry)) (listing (now (bytes .entry)) t) from (listing (now (bytes .exit)) (withLength t (r .len))) (r .at) ⌝ }
-{
-    let mode = t.mode;
-    match mode {
-        Mode::Outside => Passed {
-            at: from,
-            len: t.len,
-        },
-        Mode::InStandard => keep(bytes, t, chunk, from),
-        Mode::InExtended => keep(bytes, t, chunk, from),
-        Mode::Overlong => Passed {
-            at: from,
-            len: t.len,
-        },
-    }
-}
-
-// The bytes of a candidate that is held.
-fn keep(bytes: &mut [u8; 118], t: Tally, chunk: &[u8], from: usize) -> Passed
-    requires { ⌜ isHeld (t .mode) ≡ true ⌝ }
-    requires { ⌜ from ≤ length (now chunk) ⌝ }
-    ensures { λ r. ⌜ Passes (now (chunk .entry)) (listing (now (bytes .entry)) t) from (listing (now (bytes .exit)) (withLength t (r .len))) (r .at) ⌝ }
-{
-    let mut len = t.len;
-    let mut i = from;
-    while i < chunk.len() {
-        if HELD <= len {
-            return Passed { at: i, len };
-        }
-        let b = chunk[i];
-        if !is_plain(b) {
-            return Passed { at: i, len };
-        }
-        bytes[len] = b;
-        len += 1;
-        i += 1;
-    }
-    Passed { at: i, len }
-}
-
-// Whether a byte is no flag.
-fn is_plain(b: u8) -> bool
-    ensures { λ r. ⌜ r ≡ isPlain (roleOf b) ⌝ }
-{
-    if b == EXTENDED_START {
-        return false;
-    }
-    if b == STANDARD_START {
-        return false;
-    }
-    if b == STOP {
-        return false;
-    }
-    true
-}
-
-// One byte: at most one line, at an index where there is room for any. Most bytes have no answer and call nothing that writes.
-fn feed(bytes: &mut [u8; 118], t: Tally, b: u8, out: &mut [u8], at: usize) -> Turn
+// Takes bytes up to the first that is answered, at least one, and writes its line at an index where there is room for any.
+fn advance(bytes: &mut [u8; 118], t: Tally, rest: &[u8], out: &mut [u8], at: usize) -> Turn
     requires { ⌜ at + 96 ≤ length (now out) ⌝ }
-    ensures { λ r. ⌜ Turns (listing (now (bytes .entry)) t) b (now (bytes .exit)) (now (out .entry)) at (now (out .exit)) r ⌝ }
+    ensures { λ r. ⌜ Advances (listing (now (bytes .entry)) t) (now (rest .entry)) (now (bytes .exit)) (now (out .entry)) at (now (out .exit)) r ⌝ }
 {
     let before = t.mode;
     let frames = t.frames;
     let refused = t.refused;
-    let moved = line::step_in(bytes, t.len, before, b);
-    let told = moved.told;
-    let mode = moved.mode;
-    let stray = std::num::wrapping_add_u64(t.stray, stray_count(before, b));
-    if is_told(told) {
-        let end = text::put_answer(told, bytes, number(frames, refused), out, at);
-        return Turn {
-            at: end,
-            tally: Tally {
-                len: moved.len,
-                mode,
-                frames: std::num::wrapping_add_u64(frames, frame_count(told)),
-                refused: std::num::wrapping_add_u64(refused, refused_count(told)),
-                stray,
-            },
-        };
-    }
+    let fed = line::feed_in(bytes, t.len, before, rest);
+    let taken = fed.taken;
+    let told = fed.told;
+    let mode = fed.mode;
+    let stray = stray_first(before, &rest[..taken]);
+    let end = text::put_answer(told, bytes, number(frames, refused), out, at);
     Turn {
-        at,
+        taken,
+        at: end,
         tally: Tally {
-            len: moved.len,
+            len: fed.len,
             mode,
-            frames,
-            refused,
-            stray,
+            frames: std::num::wrapping_add_u64(frames, frame_count(told)),
+            refused: std::num::wrapping_add_u64(refused, refused_count(told)),
+            stray: std::num::wrapping_add_u64(t.stray, stray),
         },
-    }
-}
-
-fn is_told(told: Told) -> bool
-    ensures { λ r. ⌜ r ≡ isTold (toldMeans told) ⌝ }
-{
-    match told {
-        Told::Nothing => false,
-        Told::Refused(_) => true,
-        Told::Standard { len: _ } => true,
-        Told::Extended {
-            to: _,
-            from: _,
-            len: _,
-        } => true,
     }
 }
 
@@ -323,18 +208,50 @@ fn is_open(mode: Mode) -> bool
     }
 }
 
-// 1 for a byte that stands in no candidate.
-fn stray_count(mode: Mode, b: u8) -> u64
-    ensures { λ r. ⌜ r ≡ strayAt (roleOf b) (isOpen mode) ⌝ }
+// The stray bytes among those up to an answer. A candidate that is open ends only at the answer, so they stand before the first start flag.
+fn stray_first(mode: Mode, bytes: &[u8]) -> u64
+    ensures { λ r. ⌜ r ≡ strayFirst (isOpen mode) (now (bytes .entry)) ⌝ }
 {
     if is_open(mode) {
         return 0;
     }
-    if b == EXTENDED_START {
-        return 0;
+    stray_run(bytes) as u64
+}
+
+// How many bytes stand before the first start flag. Whole blocks without one are passed over first, because a block is tested
+// without a branch for each byte.
+fn stray_run(bytes: &[u8]) -> usize
+    ensures { λ r. ⌜ r ≡ runOf (now (bytes .entry)) ⌝ }
+{
+    let mut i = stray_blocks(bytes);
+    while i < bytes.len() {
+        if is_start(bytes[i]) {
+            return i;
+        }
+        i += 1;
     }
-    if b == STANDARD_START {
-        return 0;
+    i
+}
+
+fn stray_blocks(bytes: &[u8]) -> usize
+    ensures { λ r. ⌜ r ≤ length (now (bytes .entry)) ⌝ }
+    ensures { λ r. ⌜ runOf (now (bytes .entry)) ≡ r + runOf (drop r (now (bytes .entry))) ⌝ }
+{
+    let mut i: usize = 0;
+    while BLOCK <= bytes.len() - i {
+        if !packing::none_within(&bytes[i..i + BLOCK], EXTENDED_START, STANDARD_START) {
+            return i;
+        }
+        i += BLOCK;
     }
-    1
+    i
+}
+
+fn is_start(b: u8) -> bool
+    ensures { λ r. ⌜ r ≡ isStart b ⌝ }
+{
+    if b < EXTENDED_START {
+        return false;
+    }
+    b <= STANDARD_START
 }

@@ -1,5 +1,5 @@
 use native.Mathlib.Omega.{arith}
-use Rattle.trace.proofs.TurnLaws.{ends-short, ends-whole}
+use Rattle.trace.proofs.AnswerLaws.{ends-short, ends-whole}
 use borrow.Author.Needs.{needs}
 use Rattle.trace.proofs.finish.Statement.{statement}
 use Rattle.trace.proofs.finish.Tie as tie

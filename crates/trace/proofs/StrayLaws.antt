@@ -1,0 +1,130 @@
+-- The laws of stray bytes: the loops that count them, and that those among bytes up to an answer stand before the first start flag.
+use mathlib.Core.Path.{_≡_, refl, sym, ap, _∙_}
+use mathlib.Core.Bool.{Bool, true, false, true≢false}
+use mathlib.Core.List.{List, [], _∷_}
+use Prim.Native.Nat.{ℕ, zero, suc, _+_, _-_, _≤_, _<_}
+use native.Mathlib.Nat.{zero-add}
+use native.Mathlib.Numerals.{add-one}
+use native.Mathlib.Omega.{arith}
+use lib.ListN.{length, take, drop, getD, length-drop, drop-of-length-le}
+use lib.Seq.{drop-cons, drop-drop}
+use lib.Dec.{eqb}
+use borrow.Author.Tests.{eqb-true, eqb-false}
+use Rattle.packing.specs.Choice.{pick, noneOf}
+use Rattle.packing.proofs.Cases.{by-bool}
+use Rattle.packing.proofs.Tests.{within-true}
+use Rattle.framing.specs.Reference.{Role, starts, stops, plain}
+use Rattle.line.specs.Feed.{isAnswer, Feeding, feeding, plus, feedOf}
+use Rattle.line.specs.Reader.{stepOf, restartOf, stopOf, growOf, terminatedIn}
+use Rattle.line.specs.Rowing.{roleOf}
+use Rattle.line.specs.declared.LineReader.{LineReader}
+use Rattle.line.specs.declared.Mode.{Mode}
+use Rattle.line.specs.declared.Mode.the-variants.{Outside, InStandard, InExtended, Overlong}
+use Rattle.text.specs.Strays.{strayAt, openAfter, strays}
+use Rattle.trace.specs.Chunk.{isStart, runOf, strayFirst}
+use Rattle.trace.specs.Machine.{isOpen}
+use Rattle.trace.proofs.Counts.{open-is}
+
+-- ---- the bytes before the first start flag
+
+run-at : (s : List ℕ) (i : ℕ) → i < length s → runOf (drop i s) ≡ pick (isStart (getD s i 0)) 0 (1 + runOf (drop (i + 1) s))
+unfolding runOf
+run-at s i h = ap runOf (drop-cons s i 0 h) ∙ ap (λ (n : ℕ). pick (isStart (getD s i 0)) 0 (1 + runOf (drop n s))) (sym (add-one i))
+
+pub run-here : (s : List ℕ) (i : ℕ) → i < length s → isStart (getD s i 0) ≡ true → runOf s ≡ i + runOf (drop i s) → i ≡ runOf s
+run-here s i h e so-far = let q : runOf (drop i s) ≡ 0 = run-at s i h ∙ simp e in omega (arith, so-far, q)
+
+pub run-more : (s : List ℕ) (i : ℕ) → i < length s → isStart (getD s i 0) ≡ false → runOf s ≡ i + runOf (drop i s) → runOf s ≡ i + 1 + runOf (drop (i + 1) s)
+run-more s i h e so-far = let q : runOf (drop i s) ≡ 1 + runOf (drop (i + 1) s) = run-at s i h ∙ simp e in omega (arith, so-far, q)
+
+pub run-end : (s : List ℕ) (i : ℕ) → length s ≤ i → runOf s ≡ i + runOf (drop i s) → i ≡ runOf s
+unfolding runOf
+run-end s i h so-far = let q : runOf (drop i s) ≡ 0 = ap runOf (drop-of-length-le s {i = i} h) in omega (arith, so-far, q)
+
+-- a block without a start flag
+front-clear : (n : ℕ) (s : List ℕ) → n ≤ length s → noneOf isStart (take n s) ≡ true → runOf s ≡ n + runOf (drop n s)
+unfolding runOf noneOf
+front-clear zero s h e = sym (zero-add (runOf s))
+front-clear (suc n) [] h e = absurd (omega arith)
+front-clear (suc n) (b ∷ s) h e =
+    by-bool (isStart b)
+    (λ y. absurd (true≢false (sym e ∙ simp y)))
+    (λ k. let q : runOf s ≡ n + runOf (drop n s) = front-clear n s (omega arith) (simp k at e) in simp k (omega (arith, q)))
+
+pub run-block : (s : List ℕ) (i : ℕ) (clear : Bool) → i + 32 ≤ length s → clear ≡ noneOf isStart (take (i + 32 - i) (drop i s)) → clear ≡ true → runOf s ≡ i + runOf (drop i s)
+    → runOf s ≡ i + 32 + runOf (drop (i + 32) s)
+run-block s i clear h e y so-far =
+    let n : i + 32 - i ≡ 32 = omega arith in
+    let none : noneOf isStart (take 32 (drop i s)) ≡ true = ap (λ (k : ℕ). noneOf isStart (take k (drop i s))) (sym n) ∙ sym e ∙ y in
+    let q : runOf (drop i s) ≡ 32 + runOf (drop (i + 32) s) =
+    front-clear 32 (drop i s) (omega (arith, length-drop i s)) none ∙ ap (λ (l : List ℕ). 32 + runOf l) (drop-drop 32 i s) in
+    omega (arith, so-far, q)
+
+-- ---- up to an answer
+
+-- whether a byte's role is to start a candidate
+abbrev isStarts : Role → Bool
+isStarts starts = true
+isStarts stops = false
+isStarts plain = false
+
+start-role : (b : ℕ) → isStart b ≡ isStarts (roleOf b)
+start-role b = by-flag (eqb b 0xF0) (eqb b 0xF1) (eqb b 0xF2) refl refl
+  where
+    no-start : (t₂ : Bool) → isStarts (pick t₂ stops plain) ≡ false
+    no-start true = refl
+    no-start false = refl
+
+    by-flag : (t₀ t₁ t₂ : Bool) → eqb b 0xF0 ≡ t₀ → eqb b 0xF1 ≡ t₁ → isStart b ≡ isStarts (pick t₀ starts (pick t₁ starts (pick t₂ stops plain)))
+    by-flag true t₁ t₂ e₀ e₁ = ap isStart (eqb-true b 0xF0 e₀)
+    by-flag false true t₂ e₀ e₁ = ap isStart (eqb-true b 0xF1 e₁)
+    by-flag false false t₂ e₀ e₁ =
+        by-bool (isStart b)
+        (λ y. let h = within-true 0xF0 0xF1 b y in absurd (omega (arith, h .0, h .1, eqb-false b 0xF0 e₀, eqb-false b 0xF1 e₁)))
+        (λ n. n ∙ sym (no-start t₂))
+
+none-stray : (o : Bool) → 0 ≡ strayFirst o []
+unfolding runOf
+none-stray true = refl
+none-stray false = refl
+
+by-role : (ρ : Role) (o : Bool) (b : ℕ) (bytes : List ℕ) → isStart b ≡ isStarts ρ → (o ≡ true → ρ ≡ stops → strays false bytes ≡ 0)
+    → strays (openAfter ρ o) bytes ≡ strayFirst (openAfter ρ o) bytes → strayAt ρ o + strays (openAfter ρ o) bytes ≡ strayFirst o (b ∷ bytes)
+unfolding runOf
+by-role starts true b bytes e stopped h = zero-add _ ∙ h
+by-role starts false b bytes e stopped h = simp e (zero-add _ ∙ h)
+by-role stops true b bytes e stopped h = zero-add _ ∙ stopped refl refl
+by-role stops false b bytes e stopped h = simp e (ap (λ (n : ℕ). 1 + n) h)
+by-role plain true b bytes e stopped h = zero-add _ ∙ h
+by-role plain false b bytes e stopped h = simp e (ap (λ (n : ℕ). 1 + n) h)
+
+-- the stop flag of an open candidate is answered
+terminated-answers : (m : Mode) (bytes : List ℕ) (len : ℕ) → isOpen m ≡ true → isAnswer (terminatedIn m bytes len) ≡ true
+terminated-answers Outside bytes len e = absurd (true≢false (sym e))
+terminated-answers InStandard bytes len e = refl
+terminated-answers InExtended bytes len e = refl
+terminated-answers Overlong bytes len e = refl
+
+stop-answers : (r : LineReader) (b : ℕ) (t₀ t₁ t₂ : Bool) → isOpen (r .mode) ≡ true → pick t₀ starts (pick t₁ starts (pick t₂ stops plain)) ≡ stops
+    → isAnswer ((pick t₀ (restartOf r InExtended) (pick t₁ (restartOf r InStandard) (pick t₂ (stopOf r) (growOf r b)))) .outcome) ≡ true
+stop-answers r b true t₁ t₂ h e = let z : _≡_ {A = ℕ} 0 1 = cc in absurd (omega arith)
+stop-answers r b false true t₂ h e = let z : _≡_ {A = ℕ} 0 1 = cc in absurd (omega arith)
+stop-answers r b false false true h e = terminated-answers (r .mode) (r .bytes) (r .len) h
+stop-answers r b false false false h e = let z : _≡_ {A = ℕ} 0 1 = cc in absurd (omega arith)
+
+pub stray-first : (r : LineReader) (bytes : List ℕ) → strays (isOpen (r .mode)) (take (feedOf r bytes .taken) bytes) ≡ strayFirst (isOpen (r .mode)) (take (feedOf r bytes .taken) bytes)
+unfolding feedOf
+stray-first r [] = none-stray (isOpen (r .mode))
+stray-first r (b ∷ bytes) =
+    by-answer (isAnswer (stepOf r b .outcome)) refl (feedOf (stepOf r b .next) bytes) (stray-first (stepOf r b .next) bytes)
+  where
+    by-answer : (q : Bool) → isAnswer (stepOf r b .outcome) ≡ q → (f : Feeding)
+        → strays (isOpen (stepOf r b .next .mode)) (take (f .taken) bytes) ≡ strayFirst (isOpen (stepOf r b .next .mode)) (take (f .taken) bytes)
+        → strays (isOpen (r .mode)) (take (pick q (feeding (stepOf r b .outcome) (stepOf r b .next) 1) (plus 1 f) .taken) (b ∷ bytes))
+        ≡ strayFirst (isOpen (r .mode)) (take (pick q (feeding (stepOf r b .outcome) (stepOf r b .next) 1) (plus 1 f) .taken) (b ∷ bytes))
+    by-answer true e f h = by-role (roleOf b) (isOpen (r .mode)) b [] (start-role b) (λ o ρ. refl) (none-stray (openAfter (roleOf b) (isOpen (r .mode))))
+    by-answer false e f h =
+        let m : 1 + f .taken ≡ suc (f .taken) = omega arith in
+        rw m (by-role (roleOf b) (isOpen (r .mode)) b (take (f .taken) bytes) (start-role b)
+        (λ o ρ. absurd (true≢false (sym (stop-answers r b (eqb b 0xF0) (eqb b 0xF1) (eqb b 0xF2) o ρ) ∙ e)))
+        (ap (λ (o : Bool). strays o (take (f .taken) bytes)) (sym (open-is r b)) ∙ h ∙ ap (λ (o : Bool). strayFirst o (take (f .taken) bytes)) (open-is r b)))

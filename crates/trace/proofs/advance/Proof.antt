@@ -1,0 +1,78 @@
+use mathlib.Core.Path.{sym}
+use Prim.Native.Nat.{_≤_}
+use native.Mathlib.Omega.{arith}
+use lib.ListN.{length}
+use lib.Seq.{length-take-le}
+use Rattle.trace.proofs.FeedLaws.{Counted, fed-fits, advances}
+use Rattle.trace.specs.Machine.{listing}
+use borrow.Author.Needs.{needs}
+use Rattle.trace.proofs.advance.Statement.{statement}
+use Rattle.trace.proofs.advance.Tie as tie
+
+feed-in-requires : tie.Need-feed-in-requires
+feed-in-requires c κs = search needs
+
+counted : (start : tie.Start) → Counted (listing (start .args .bytes .now) (start .args .t))
+counted start = (omega (arith, start .fits), omega (arith, start .fits), omega (arith, start .fits))
+
+slice-aggregate-stray-first : tie.Need-slice-aggregate-stray-first
+slice-aggregate-stray-first c =
+    let start = c .before .before .before .before .before in
+    let f = c .before .feed-in in
+    sym (length-take-le (f .result .taken) (start .args .rest .now) (fed-fits (start .args .bytes .now) (start .args .t) (start .args .rest .now) (f .last .0) (f .result) (f .ensures) (counted start)))
+
+stray-first-requires : tie.Need-stray-first-requires
+stray-first-requires c κs = search needs
+
+number-requires : tie.Need-number-requires
+number-requires c κs = search needs
+
+put-answer-requires : tie.Need-put-answer-requires
+put-answer-requires c κs = search needs
+
+frame-count-requires : tie.Need-frame-count-requires
+frame-count-requires c κs = search needs
+
+wrapping-add-u64-requires : tie.Need-wrapping-add-u64-requires
+wrapping-add-u64-requires c κs = search needs
+
+refused-count-requires : tie.Need-refused-count-requires
+refused-count-requires c κs = search needs
+
+wrapping-add-u64-requires-2 : tie.Need-wrapping-add-u64-requires-2
+wrapping-add-u64-requires-2 c κs = search needs
+
+wrapping-add-u64-requires-3 : tie.Need-wrapping-add-u64-requires-3
+wrapping-add-u64-requires-3 c κs = search needs
+
+same-length : tie.Need-same-length
+same-length c = search needs
+
+returns : tie.Need-returns
+returns c =
+    let p = c .before .before .before .before .before .before .before in
+    let n = p .before .before in
+    let sc = n .before .before .before in
+    let f = sc .before .before in
+    let start = f .before .before .before .before in
+    let w = p .put-answer .ensures .written (start .pre) in
+    advances (start .args .bytes .now) (start .args .t) (start .args .rest .now) (f .feed-in .last .0) (f .feed-in .result) (f .feed-in .ensures) (counted start) (n .number .result) (c .before .before .before .wrapping-add-u64 .result) (c .before .wrapping-add-u642 .result) (c .wrapping-add-u643 .result)
+    (c .before .before .before .before .frame-count .result) (c .before .before .refused-count .result) (sc .stray-first .result) (n .number .ensures) (c .before .before .before .wrapping-add-u64 .ensures) (c .before .before .before .before .frame-count .ensures) (c .before .wrapping-add-u642 .ensures) (c .before .before .refused-count .ensures)
+    (c .wrapping-add-u643 .ensures) (sc .stray-first .ensures) (w .0) (w .1)
+
+pub advance-spec : {M : Type 1} → statement M
+advance-spec =
+    tie.close
+    (tie.spec
+    feed-in-requires
+    slice-aggregate-stray-first
+    stray-first-requires
+    number-requires
+    put-answer-requires
+    frame-count-requires
+    wrapping-add-u64-requires
+    refused-count-requires
+    wrapping-add-u64-requires-2
+    wrapping-add-u64-requires-3
+    same-length
+    returns)

@@ -1,0 +1,12 @@
+use borrow.Author.Tests.{lt-leb, le-leb}
+use Rattle.trace.proofs.is_start.Statement.{statement}
+use Rattle.trace.proofs.is_start.Tie as tie
+
+returns : tie.Need-returns
+returns c = simp (lt-leb 0xF0 _ (c .if1 .taken))
+
+returns-2 : tie.Need-returns-2
+returns-2 c = simp (le-leb 0xF0 _ (c .if1 .left))
+
+pub is-start-spec : {M : Type 1} → statement M
+is-start-spec = tie.close (tie.spec returns returns-2)
