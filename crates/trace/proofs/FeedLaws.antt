@@ -9,7 +9,7 @@ use lib.ListN.{length, take, drop}
 use lib.Dec.{ltb}
 use borrow.Author.Tests.{le-ltb}
 use Rattle.packing.specs.Choice.{pick}
-use Rattle.line.specs.Outcome.{Outcome, nothing, judged, toldMeans, outcomeOf, summaryOf}
+use Rattle.line.specs.Outcome.{Outcome, nothing, judged, toldMeans, outcomeOf}
 use Rattle.line.specs.Feed.{isAnswer, Feeding, feeding, plus, feedOf, Feeds}
 use Rattle.line.specs.Reader.{reader, stepOf}
 use Rattle.line.specs.Rowing.{roleOf}
@@ -17,17 +17,17 @@ use Rattle.line.specs.declared.Fed.{Fed}
 use Rattle.line.specs.declared.LineReader.{LineReader}
 use Rattle.line.proofs.ChunkCalls.{feeds-outcome}
 use Rattle.text.specs.Lines.{line}
-use Rattle.text.specs.Strays.{strayAt, openAfter, strays}
+use Rattle.text.specs.Strays.{strayAt, strays}
 use Rattle.text.specs.Text.{frameOne, refusedOne}
 use Rattle.text.specs.Writing.{Wrote, lineRoom}
 use Rattle.text.proofs.Writing.{wrote-as}
-use Rattle.trace.specs.Chunk.{Leads, Advances, strayFirst}
+use Rattle.trace.specs.Chunk.{Leads, Advances, strayCount}
 use Rattle.trace.specs.Machine.{frameCount, refusedCount, isOpen, add64, numberAfter, nextOf, textOf, after, texts, takenOf, listing}
 use Rattle.trace.specs.declared.Listing.{Listing}
 use Rattle.trace.specs.declared.Tally.{Tally}
 use Rattle.trace.proofs.AnswerLaws.{frame-count, refused-count, add-none}
 use Rattle.trace.proofs.Counts.{open-is}
-use Rattle.trace.proofs.StrayLaws.{stray-first}
+use Rattle.trace.proofs.StrayLaws.{stray-count-is}
 
 -- ---- no byte, one byte, and one without a line before others
 
@@ -150,7 +150,7 @@ module _ (bytes₀ : List ℕ) (t : Tally) (rest bytes : List ℕ) (f : Fed) (g 
   fed-fits = omega (arith, g .taken-is, feed-leads (listing bytes₀ t) rest h .fits)
 
   pub advances : (n x y z fc rc sc : ℕ) → n ≡ numberAfter (t .frames) (t .refused) → x ≡ add64 (t .frames) fc → fc ≡ frameCount (toldMeans (f .told))
-      → y ≡ add64 (t .refused) rc → rc ≡ refusedCount (toldMeans (f .told)) → z ≡ add64 (t .stray) sc → sc ≡ strayFirst (isOpen (t .mode)) (take (f .taken) rest)
+      → y ≡ add64 (t .refused) rc → rc ≡ refusedCount (toldMeans (f .told)) → z ≡ add64 (t .stray) sc → sc ≡ strayCount (isOpen (t .mode)) (take (f .taken) rest)
       → {out out′ : List ℕ} {at end : ℕ} → Wrote out at (line n (outcomeOf (toldMeans (f .told)) bytes)) out′ end → end ≤ at + lineRoom
       → Advances (listing bytes₀ t) rest bytes out at out′ (record { taken = f .taken; at = end; tally = record { len = f .len; mode = f .mode; frames = x; refused = y; stray = z } })
   advances n x y z fc rc sc en ex efc ey erc ez esc p k =
@@ -161,7 +161,7 @@ module _ (bytes₀ : List ℕ) (t : Tally) (rest bytes : List ℕ) (f : Fed) (g 
       let fr : add64 (t .frames) (frameOne o) ≡ x = sym (ex ∙ ap (add64 (t .frames)) (efc ∙ ap frameCount (g .told-is) ∙ frame-count o)) in
       let re : add64 (t .refused) (refusedOne o) ≡ y = sym (ey ∙ ap (add64 (t .refused)) (erc ∙ ap refusedCount (g .told-is) ∙ refused-count o)) in
       let st : add64 (t .stray) (strays (isOpen (t .mode)) (take (d .taken) rest)) ≡ z =
-      sym (ez ∙ ap (add64 (t .stray)) (esc ∙ ap (λ (i : ℕ). strayFirst (isOpen (t .mode)) (take i rest)) (g .taken-is) ∙ sym (stray-first (s .reader) rest))) in
+      sym (ez ∙ ap (add64 (t .stray)) (esc ∙ ap (λ (i : ℕ). strayCount (isOpen (t .mode)) (take i rest)) (g .taken-is) ∙ sym (stray-count-is (s .reader) rest))) in
       let next : counting s o (d .next) (strays (isOpen (t .mode)) (take (d .taken) rest)) ≡ listing bytes (record { len = f .len; mode = f .mode; frames = x; refused = y; stray = z }) =
       (λ i. record { reader = sym (g .next-is) i; frames = fr i; refused = re i; stray = st i }) in
       let w : List ℕ = line (numberAfter (t .frames) (t .refused)) o in

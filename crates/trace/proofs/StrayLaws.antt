@@ -21,43 +21,43 @@ use Rattle.line.specs.declared.LineReader.{LineReader}
 use Rattle.line.specs.declared.Mode.{Mode}
 use Rattle.line.specs.declared.Mode.the-variants.{Outside, InStandard, InExtended, Overlong}
 use Rattle.text.specs.Strays.{strayAt, openAfter, strays}
-use Rattle.trace.specs.Chunk.{isStart, runOf, strayFirst}
+use Rattle.trace.specs.Chunk.{isStart, strayRun, strayCount}
 use Rattle.trace.specs.Machine.{isOpen}
 use Rattle.trace.proofs.Counts.{open-is}
 
 -- ---- the bytes before the first start flag
 
-run-at : (s : List ℕ) (i : ℕ) → i < length s → runOf (drop i s) ≡ pick (isStart (getD s i 0)) 0 (1 + runOf (drop (i + 1) s))
-unfolding runOf
-run-at s i h = ap runOf (drop-cons s i 0 h) ∙ ap (λ (n : ℕ). pick (isStart (getD s i 0)) 0 (1 + runOf (drop n s))) (sym (add-one i))
+run-at : (s : List ℕ) (i : ℕ) → i < length s → strayRun (drop i s) ≡ pick (isStart (getD s i 0)) 0 (1 + strayRun (drop (i + 1) s))
+unfolding strayRun
+run-at s i h = ap strayRun (drop-cons s i 0 h) ∙ ap (λ (n : ℕ). pick (isStart (getD s i 0)) 0 (1 + strayRun (drop n s))) (sym (add-one i))
 
-pub run-here : (s : List ℕ) (i : ℕ) → i < length s → isStart (getD s i 0) ≡ true → runOf s ≡ i + runOf (drop i s) → i ≡ runOf s
-run-here s i h e so-far = let q : runOf (drop i s) ≡ 0 = run-at s i h ∙ simp e in omega (arith, so-far, q)
+pub run-here : (s : List ℕ) (i : ℕ) → i < length s → isStart (getD s i 0) ≡ true → strayRun s ≡ i + strayRun (drop i s) → i ≡ strayRun s
+run-here s i h e so-far = let q : strayRun (drop i s) ≡ 0 = run-at s i h ∙ simp e in omega (arith, so-far, q)
 
-pub run-more : (s : List ℕ) (i : ℕ) → i < length s → isStart (getD s i 0) ≡ false → runOf s ≡ i + runOf (drop i s) → runOf s ≡ i + 1 + runOf (drop (i + 1) s)
-run-more s i h e so-far = let q : runOf (drop i s) ≡ 1 + runOf (drop (i + 1) s) = run-at s i h ∙ simp e in omega (arith, so-far, q)
+pub run-more : (s : List ℕ) (i : ℕ) → i < length s → isStart (getD s i 0) ≡ false → strayRun s ≡ i + strayRun (drop i s) → strayRun s ≡ i + 1 + strayRun (drop (i + 1) s)
+run-more s i h e so-far = let q : strayRun (drop i s) ≡ 1 + strayRun (drop (i + 1) s) = run-at s i h ∙ simp e in omega (arith, so-far, q)
 
-pub run-end : (s : List ℕ) (i : ℕ) → length s ≤ i → runOf s ≡ i + runOf (drop i s) → i ≡ runOf s
-unfolding runOf
-run-end s i h so-far = let q : runOf (drop i s) ≡ 0 = ap runOf (drop-of-length-le s {i = i} h) in omega (arith, so-far, q)
+pub run-end : (s : List ℕ) (i : ℕ) → length s ≤ i → strayRun s ≡ i + strayRun (drop i s) → i ≡ strayRun s
+unfolding strayRun
+run-end s i h so-far = let q : strayRun (drop i s) ≡ 0 = ap strayRun (drop-of-length-le s {i = i} h) in omega (arith, so-far, q)
 
 -- a block without a start flag
-front-clear : (n : ℕ) (s : List ℕ) → n ≤ length s → noneOf isStart (take n s) ≡ true → runOf s ≡ n + runOf (drop n s)
-unfolding runOf noneOf
-front-clear zero s h e = sym (zero-add (runOf s))
+front-clear : (n : ℕ) (s : List ℕ) → n ≤ length s → noneOf isStart (take n s) ≡ true → strayRun s ≡ n + strayRun (drop n s)
+unfolding strayRun noneOf
+front-clear zero s h e = sym (zero-add (strayRun s))
 front-clear (suc n) [] h e = absurd (omega arith)
 front-clear (suc n) (b ∷ s) h e =
     by-bool (isStart b)
     (λ y. absurd (true≢false (sym e ∙ simp y)))
-    (λ k. let q : runOf s ≡ n + runOf (drop n s) = front-clear n s (omega arith) (simp k at e) in simp k (omega (arith, q)))
+    (λ k. let q : strayRun s ≡ n + strayRun (drop n s) = front-clear n s (omega arith) (simp k at e) in simp k (omega (arith, q)))
 
-pub run-block : (s : List ℕ) (i : ℕ) (clear : Bool) → i + 32 ≤ length s → clear ≡ noneOf isStart (take (i + 32 - i) (drop i s)) → clear ≡ true → runOf s ≡ i + runOf (drop i s)
-    → runOf s ≡ i + 32 + runOf (drop (i + 32) s)
+pub run-block : (s : List ℕ) (i : ℕ) (clear : Bool) → i + 32 ≤ length s → clear ≡ noneOf isStart (take (i + 32 - i) (drop i s)) → clear ≡ true → strayRun s ≡ i + strayRun (drop i s)
+    → strayRun s ≡ i + 32 + strayRun (drop (i + 32) s)
 run-block s i clear h e y so-far =
     let n : i + 32 - i ≡ 32 = omega arith in
     let none : noneOf isStart (take 32 (drop i s)) ≡ true = ap (λ (k : ℕ). noneOf isStart (take k (drop i s))) (sym n) ∙ sym e ∙ y in
-    let q : runOf (drop i s) ≡ 32 + runOf (drop (i + 32) s) =
-    front-clear 32 (drop i s) (omega (arith, length-drop i s)) none ∙ ap (λ (l : List ℕ). 32 + runOf l) (drop-drop 32 i s) in
+    let q : strayRun (drop i s) ≡ 32 + strayRun (drop (i + 32) s) =
+    front-clear 32 (drop i s) (omega (arith, length-drop i s)) none ∙ ap (λ (l : List ℕ). 32 + strayRun l) (drop-drop 32 i s) in
     omega (arith, so-far, q)
 
 -- ---- up to an answer
@@ -83,14 +83,14 @@ start-role b = by-flag (eqb b 0xF0) (eqb b 0xF1) (eqb b 0xF2) refl refl
         (λ y. let h = within-true 0xF0 0xF1 b y in absurd (omega (arith, h .0, h .1, eqb-false b 0xF0 e₀, eqb-false b 0xF1 e₁)))
         (λ n. n ∙ sym (no-start t₂))
 
-none-stray : (o : Bool) → 0 ≡ strayFirst o []
-unfolding runOf
+none-stray : (o : Bool) → 0 ≡ strayCount o []
+unfolding strayRun
 none-stray true = refl
 none-stray false = refl
 
 by-role : (ρ : Role) (o : Bool) (b : ℕ) (bytes : List ℕ) → isStart b ≡ isStarts ρ → (o ≡ true → ρ ≡ stops → strays false bytes ≡ 0)
-    → strays (openAfter ρ o) bytes ≡ strayFirst (openAfter ρ o) bytes → strayAt ρ o + strays (openAfter ρ o) bytes ≡ strayFirst o (b ∷ bytes)
-unfolding runOf
+    → strays (openAfter ρ o) bytes ≡ strayCount (openAfter ρ o) bytes → strayAt ρ o + strays (openAfter ρ o) bytes ≡ strayCount o (b ∷ bytes)
+unfolding strayRun
 by-role starts true b bytes e stopped h = zero-add _ ∙ h
 by-role starts false b bytes e stopped h = simp e (zero-add _ ∙ h)
 by-role stops true b bytes e stopped h = zero-add _ ∙ stopped refl refl
@@ -112,19 +112,19 @@ stop-answers r b false true t₂ h e = let z : _≡_ {A = ℕ} 0 1 = cc in absur
 stop-answers r b false false true h e = terminated-answers (r .mode) (r .bytes) (r .len) h
 stop-answers r b false false false h e = let z : _≡_ {A = ℕ} 0 1 = cc in absurd (omega arith)
 
-pub stray-first : (r : LineReader) (bytes : List ℕ) → strays (isOpen (r .mode)) (take (feedOf r bytes .taken) bytes) ≡ strayFirst (isOpen (r .mode)) (take (feedOf r bytes .taken) bytes)
+pub stray-count-is : (r : LineReader) (bytes : List ℕ) → strays (isOpen (r .mode)) (take (feedOf r bytes .taken) bytes) ≡ strayCount (isOpen (r .mode)) (take (feedOf r bytes .taken) bytes)
 unfolding feedOf
-stray-first r [] = none-stray (isOpen (r .mode))
-stray-first r (b ∷ bytes) =
-    by-answer (isAnswer (stepOf r b .outcome)) refl (feedOf (stepOf r b .next) bytes) (stray-first (stepOf r b .next) bytes)
+stray-count-is r [] = none-stray (isOpen (r .mode))
+stray-count-is r (b ∷ bytes) =
+    by-answer (isAnswer (stepOf r b .outcome)) refl (feedOf (stepOf r b .next) bytes) (stray-count-is (stepOf r b .next) bytes)
   where
     by-answer : (q : Bool) → isAnswer (stepOf r b .outcome) ≡ q → (f : Feeding)
-        → strays (isOpen (stepOf r b .next .mode)) (take (f .taken) bytes) ≡ strayFirst (isOpen (stepOf r b .next .mode)) (take (f .taken) bytes)
+        → strays (isOpen (stepOf r b .next .mode)) (take (f .taken) bytes) ≡ strayCount (isOpen (stepOf r b .next .mode)) (take (f .taken) bytes)
         → strays (isOpen (r .mode)) (take (pick q (feeding (stepOf r b .outcome) (stepOf r b .next) 1) (plus 1 f) .taken) (b ∷ bytes))
-        ≡ strayFirst (isOpen (r .mode)) (take (pick q (feeding (stepOf r b .outcome) (stepOf r b .next) 1) (plus 1 f) .taken) (b ∷ bytes))
+        ≡ strayCount (isOpen (r .mode)) (take (pick q (feeding (stepOf r b .outcome) (stepOf r b .next) 1) (plus 1 f) .taken) (b ∷ bytes))
     by-answer true e f h = by-role (roleOf b) (isOpen (r .mode)) b [] (start-role b) (λ o ρ. refl) (none-stray (openAfter (roleOf b) (isOpen (r .mode))))
     by-answer false e f h =
         let m : 1 + f .taken ≡ suc (f .taken) = omega arith in
         rw m (by-role (roleOf b) (isOpen (r .mode)) b (take (f .taken) bytes) (start-role b)
         (λ o ρ. absurd (true≢false (sym (stop-answers r b (eqb b 0xF0) (eqb b 0xF1) (eqb b 0xF2) o ρ) ∙ e)))
-        (ap (λ (o : Bool). strays o (take (f .taken) bytes)) (sym (open-is r b)) ∙ h ∙ ap (λ (o : Bool). strayFirst o (take (f .taken) bytes)) (open-is r b)))
+        (ap (λ (o : Bool). strays o (take (f .taken) bytes)) (sym (open-is r b)) ∙ h ∙ ap (λ (o : Bool). strayCount o (take (f .taken) bytes)) (open-is r b)))

@@ -33,15 +33,16 @@ pub record Advances (s : Listing) (rest bytes out : List ℕ) (at : ℕ) (out′
 
 -- ---- stray bytes
 
+-- Whether a byte starts a candidate.
 abbrev pub isStart : ℕ → Bool
 isStart b = within 0xF0 0xF1 b
 
 -- How many bytes stand before the first start flag.
-unfoldable pub runOf : List ℕ → ℕ
-runOf [] = 0
-runOf (b ∷ bytes) = pick (isStart b) 0 (1 + runOf bytes)
+unfoldable pub strayRun : List ℕ → ℕ
+strayRun [] = 0
+strayRun (b ∷ bytes) = pick (isStart b) 0 (1 + strayRun bytes)
 
--- The stray bytes among those up to an answer.
-abbrev pub strayFirst : (is-open : Bool) → List ℕ → ℕ
-strayFirst true bytes = 0
-strayFirst false bytes = runOf bytes
+-- The stray bytes among those up to an answer. A candidate that is open ends only there.
+abbrev pub strayCount : (is-open : Bool) → List ℕ → ℕ
+strayCount true bytes = 0
+strayCount false bytes = strayRun bytes

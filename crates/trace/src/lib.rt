@@ -7,7 +7,7 @@ ghost use mathlib.Core.Path.{_≡_};
 ghost use Prim.Native.Nat.{_+_, _≤_};
 ghost use lib.ListN.{length, drop};
 ghost use Rattle.line.specs.Outcome.{toldMeans};
-ghost use Rattle.trace.specs.Chunk.{isStart, runOf, strayFirst, Advances};
+ghost use Rattle.trace.specs.Chunk.{isStart, strayRun, strayCount, Advances};
 ghost use Rattle.trace.specs.Machine.{frameCount, refusedCount, isOpen, newListing, numberAfter, Lists, Ends, listing, listedOf};
 
 const EXTENDED_START: u8 = 0xF0;
@@ -143,7 +143,7 @@ fn advance(bytes: &mut [u8; 118], t: Tally, rest: &[u8], out: &mut [u8], at: usi
     let taken = fed.taken;
     let told = fed.told;
     let mode = fed.mode;
-    let stray = stray_first(before, &rest[..taken]);
+    let stray = stray_count(before, &rest[..taken]);
     let end = text::put_answer(told, bytes, number(frames, refused), out, at);
     Turn {
         taken,
@@ -209,8 +209,8 @@ fn is_open(mode: Mode) -> bool
 }
 
 // The stray bytes among those up to an answer. A candidate that is open ends only at the answer, so they stand before the first start flag.
-fn stray_first(mode: Mode, bytes: &[u8]) -> u64
-    ensures { λ r. ⌜ r ≡ strayFirst (isOpen mode) (now (bytes .entry)) ⌝ }
+fn stray_count(mode: Mode, bytes: &[u8]) -> u64
+    ensures { λ r. ⌜ r ≡ strayCount (isOpen mode) (now (bytes .entry)) ⌝ }
 {
     if is_open(mode) {
         return 0;
@@ -221,7 +221,7 @@ fn stray_first(mode: Mode, bytes: &[u8]) -> u64
 // How many bytes stand before the first start flag. Whole blocks without one are passed over first, because a block is tested
 // without a branch for each byte.
 fn stray_run(bytes: &[u8]) -> usize
-    ensures { λ r. ⌜ r ≡ runOf (now (bytes .entry)) ⌝ }
+    ensures { λ r. ⌜ r ≡ strayRun (now (bytes .entry)) ⌝ }
 {
     let mut i = stray_blocks(bytes);
     while i < bytes.len() {
@@ -235,7 +235,7 @@ fn stray_run(bytes: &[u8]) -> usize
 
 fn stray_blocks(bytes: &[u8]) -> usize
     ensures { λ r. ⌜ r ≤ length (now (bytes .entry)) ⌝ }
-    ensures { λ r. ⌜ runOf (now (bytes .entry)) ≡ r + runOf (drop r (now (bytes .entry))) ⌝ }
+    ensures { λ r. ⌜ strayRun (now (bytes .entry)) ≡ r + strayRun (drop r (now (bytes .entry))) ⌝ }
 {
     let mut i: usize = 0;
     while BLOCK <= bytes.len() - i {

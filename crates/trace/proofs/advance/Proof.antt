@@ -1,7 +1,5 @@
 use mathlib.Core.Path.{sym}
-use Prim.Native.Nat.{_≤_}
 use native.Mathlib.Omega.{arith}
-use lib.ListN.{length}
 use lib.Seq.{length-take-le}
 use Rattle.trace.proofs.FeedLaws.{Counted, fed-fits, advances}
 use Rattle.trace.specs.Machine.{listing}
@@ -15,14 +13,14 @@ feed-in-requires c κs = search needs
 counted : (start : tie.Start) → Counted (listing (start .args .bytes .now) (start .args .t))
 counted start = (omega (arith, start .fits), omega (arith, start .fits), omega (arith, start .fits))
 
-slice-aggregate-stray-first : tie.Need-slice-aggregate-stray-first
-slice-aggregate-stray-first c =
+slice-aggregate-stray-count : tie.Need-slice-aggregate-stray-count
+slice-aggregate-stray-count c =
     let start = c .before .before .before .before .before in
     let f = c .before .feed-in in
     sym (length-take-le (f .result .taken) (start .args .rest .now) (fed-fits (start .args .bytes .now) (start .args .t) (start .args .rest .now) (f .last .0) (f .result) (f .ensures) (counted start)))
 
-stray-first-requires : tie.Need-stray-first-requires
-stray-first-requires c κs = search needs
+stray-count-requires : tie.Need-stray-count-requires
+stray-count-requires c κs = search needs
 
 number-requires : tie.Need-number-requires
 number-requires c κs = search needs
@@ -57,16 +55,16 @@ returns c =
     let start = f .before .before .before .before in
     let w = p .put-answer .ensures .written (start .pre) in
     advances (start .args .bytes .now) (start .args .t) (start .args .rest .now) (f .feed-in .last .0) (f .feed-in .result) (f .feed-in .ensures) (counted start) (n .number .result) (c .before .before .before .wrapping-add-u64 .result) (c .before .wrapping-add-u642 .result) (c .wrapping-add-u643 .result)
-    (c .before .before .before .before .frame-count .result) (c .before .before .refused-count .result) (sc .stray-first .result) (n .number .ensures) (c .before .before .before .wrapping-add-u64 .ensures) (c .before .before .before .before .frame-count .ensures) (c .before .wrapping-add-u642 .ensures) (c .before .before .refused-count .ensures)
-    (c .wrapping-add-u643 .ensures) (sc .stray-first .ensures) (w .0) (w .1)
+    (c .before .before .before .before .frame-count .result) (c .before .before .refused-count .result) (sc .stray-count .result) (n .number .ensures) (c .before .before .before .wrapping-add-u64 .ensures) (c .before .before .before .before .frame-count .ensures) (c .before .wrapping-add-u642 .ensures) (c .before .before .refused-count .ensures)
+    (c .wrapping-add-u643 .ensures) (sc .stray-count .ensures) (w .0) (w .1)
 
 pub advance-spec : {M : Type 1} → statement M
 advance-spec =
     tie.close
     (tie.spec
     feed-in-requires
-    slice-aggregate-stray-first
-    stray-first-requires
+    slice-aggregate-stray-count
+    stray-count-requires
     number-requires
     put-answer-requires
     frame-count-requires

@@ -18,7 +18,7 @@ abbrev μ-loop : tie.MeasureT-loop
 μ-loop chunk out₀ bytes₀ tally₀ at₀ i₀ out bytes tally at i = length chunk - i
 
 loop-holds : tie.Need-loop-holds Inv-loop μ-loop
-loop-holds c = let a = c .before .before .before .before .args in (search needs, refl, search needs, going-start (a .s) (a .chunk .now) (a .out .now))
+loop-holds c = (search needs, refl, search needs, going-start _ _ _)
 
 sub-if1 : tie.Need-sub-if1 Inv-loop μ-loop
 sub-if1 c = omega arith

@@ -4,20 +4,20 @@ use native.Mathlib.Omega.{arith}
 use lib.ListN.{length, drop}
 use Prim.Native.Nat.{_+_, _-_, _≤_}
 use borrow.Author.Tests.{not-false}
-use Rattle.trace.specs.Chunk.{runOf}
+use Rattle.trace.specs.Chunk.{strayRun}
 use Rattle.trace.proofs.StrayLaws.{run-block}
 use borrow.Author.Needs.{needs}
 use Rattle.trace.proofs.stray_blocks.Statement.{statement}
 use Rattle.trace.proofs.stray_blocks.Tie as tie
 
 abbrev Inv-loop : tie.InvT-loop
-Inv-loop bytes i₀ i = (i ≤ length bytes) × (runOf bytes ≡ i + runOf (drop i bytes))
+Inv-loop bytes i₀ i = (i ≤ length bytes) × (strayRun bytes ≡ i + strayRun (drop i bytes))
 
 abbrev μ-loop : tie.MeasureT-loop
 μ-loop bytes i₀ i = length bytes - i
 
 loop-holds : tie.Need-loop-holds Inv-loop μ-loop
-loop-holds c = (omega arith, sym (zero-add (runOf (c .before .args .bytes .now))))
+loop-holds c = (omega arith, sym (zero-add (strayRun (c .before .args .bytes .now))))
 
 sub-loop : tie.Need-sub-loop Inv-loop μ-loop
 sub-loop c = search needs

@@ -2,14 +2,14 @@ use mathlib.Core.Path.{_≡_, sym, _∙_}
 use native.Mathlib.Omega.{arith}
 use lib.ListN.{length, drop}
 use Prim.Native.Nat.{_+_, _-_, _≤_}
-use Rattle.trace.specs.Chunk.{runOf}
+use Rattle.trace.specs.Chunk.{strayRun}
 use Rattle.trace.proofs.StrayLaws.{run-here, run-more, run-end}
 use borrow.Author.Needs.{needs}
 use Rattle.trace.proofs.stray_run.Statement.{statement}
 use Rattle.trace.proofs.stray_run.Tie as tie
 
 abbrev Inv-loop : tie.InvT-loop
-Inv-loop bytes i₀ i = (i ≤ length bytes) × (runOf bytes ≡ i + runOf (drop i bytes))
+Inv-loop bytes i₀ i = (i ≤ length bytes) × (strayRun bytes ≡ i + strayRun (drop i bytes))
 
 abbrev μ-loop : tie.MeasureT-loop
 μ-loop bytes i₀ i = length bytes - i

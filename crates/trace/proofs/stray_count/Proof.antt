@@ -1,7 +1,7 @@
 use mathlib.Core.Path.{sym, _∙_}
 use borrow.Author.Needs.{needs}
-use Rattle.trace.proofs.stray_first.Statement.{statement}
-use Rattle.trace.proofs.stray_first.Tie as tie
+use Rattle.trace.proofs.stray_count.Statement.{statement}
+use Rattle.trace.proofs.stray_count.Tie as tie
 
 is-open-requires : tie.Need-is-open-requires
 is-open-requires c κs = search needs
@@ -15,5 +15,5 @@ stray-run-requires c κs = search needs
 returns-2 : tie.Need-returns-2
 returns-2 c = rw (sym (c .before .before .is-open .ensures) ∙ c .before .if1 .left) (c .stray-run .ensures)
 
-pub stray-first-spec : {M : Type 1} → statement M
-stray-first-spec = tie.close (tie.spec is-open-requires returns stray-run-requires returns-2)
+pub stray-count-spec : {M : Type 1} → statement M
+stray-count-spec = tie.close (tie.spec is-open-requires returns stray-run-requires returns-2)
