@@ -5,13 +5,14 @@ use mathlib.Core.List.{List}
 use native.Mathlib.Nat.{add-zero}
 use native.Mathlib.Omega.{arith}
 use lib.ListN.{length, take, drop, getD, set, length-drop}
-use lib.Seq.{getD-take, getD-drop, length-take-le}
+use lib.Seq.{getD-take, getD-drop, length-take-le, take-all}
 use lib.Dec.{leb}
 use Prim.Native.Nat.{ℕ, zero, suc, _+_, _-_, _≤_, _<_}
 use borrow.Author.Tests.{lt-ltb, ne-eqb, leb-true, leb-false}
-use Rattle.packing.specs.Choice.{pick, noneOf}
+use Rattle.packing.specs.Choice.{pick, noneOf, countBefore}
 use Rattle.packing.proofs.Cases.{by-bool}
 use Rattle.packing.proofs.Tests.{none-at}
+use Rattle.packing.proofs.Before.{before-fits, before-clear}
 use Rattle.frame.specs.Stuffing.{isFlag}
 use Rattle.line.specs.Outcome.{nothing}
 use Rattle.line.specs.Reader.{Turn, turn, reader, withByte, grownIn, stepOf}
@@ -55,10 +56,6 @@ held InStandard r b h = refl
 held InExtended r b h = refl
 held Overlong r b h = absurd (false≢true h)
 
-pub skip-more : (s : List ℕ) (from i : ℕ) → ((r : LineReader) → isHeld (r .mode) ≡ false → Reaches s from r i r) → i < length s → isFlag (getD s i 0) ≡ false
-    → (r : LineReader) → isHeld (r .mode) ≡ false → Reaches s from r (i + 1) r
-skip-more s from i so-far below e r h = plain-more s from r i r r (so-far r h) below e (unheld (r .mode) r (getD s i 0) h)
-
 pub keep-more : (s : List ℕ) (from : ℕ) (bytes₀ : List ℕ) (len : ℕ) (i : ℕ) (bytes : List ℕ) (n : ℕ)
     → ((m : Mode) → isHeld m ≡ true → Reaches s from (reader bytes₀ len m) i (reader bytes n m)) → i < length s → isFlag (getD s i 0) ≡ false → n < 118
     → (m : Mode) → isHeld m ≡ true → Reaches s from (reader bytes₀ len m) (i + 1) (reader (set bytes n (getD s i 0)) (n + 1) m)
@@ -91,7 +88,7 @@ in-block s from n k h none l =
     ∙ none-at isFlag (take n (drop from s)) none k (omega (arith, length-take-le n (drop from s) (omega (arith, length-drop from s))))
 
 -- the bytes of such a block are passed over by a reader that does not hold them
-pub skip-block : (s : List ℕ) (from n : ℕ) → from + n ≤ length s → noneOf isFlag (take n (drop from s)) ≡ true → (r : LineReader) → isHeld (r .mode) ≡ false → Reaches s from r (from + n) r
+skip-block : (s : List ℕ) (from n : ℕ) → from + n ≤ length s → noneOf isFlag (take n (drop from s)) ≡ true → (r : LineReader) → isHeld (r .mode) ≡ false → Reaches s from r (from + n) r
 skip-block s from n h none r held′ = go n (omega arith)
   where
     go : (k : ℕ) → k ≤ n → Reaches s from r (from + k) r
@@ -100,6 +97,17 @@ skip-block s from n h none r held′ = go n (omega arith)
         let more = plain-more s from r (from + k) r r (go k (omega arith)) (omega arith) (in-block s from n k h none (omega arith)) (unheld (r .mode) r (getD s (from + k) 0) held′) in
         let e : from + k + 1 ≡ from + suc k = omega arith in
         subst (λ (m : ℕ). Reaches s from r m r) e more
+
+-- and so are all bytes before the first flag, counted over the part from an index on, as the code takes it
+module _ (s : List ℕ) (from n : ℕ) (h : from ≤ length s) (e : n ≡ countBefore isFlag (take (length s - from) (drop from s))) where
+  count-is : n ≡ countBefore isFlag (drop from s)
+  count-is = e ∙ ap (countBefore isFlag) (take-all (length s - from) (drop from s) (omega (arith, length-drop from s)))
+
+  pub skip-fits : from + n ≤ length s
+  skip-fits = omega (arith, count-is, before-fits isFlag (drop from s), length-drop from s)
+
+  pub skip-all : (r : LineReader) → isHeld (r .mode) ≡ false → Reaches s from r (from + n) r
+  skip-all = skip-block s from n skip-fits (ap (λ (k : ℕ). noneOf isFlag (take k (drop from s))) count-is ∙ before-clear isFlag (drop from s))
 
 -- how far the loop that holds bytes goes
 pub at-most : (room left most : ℕ) → most ≡ pick (leb room left) room left → (most ≤ room) × (most ≤ left)

@@ -52,35 +52,12 @@ fn is_flag(b: u8) -> bool
     b <= crate::STOP
 }
 
-// Bytes that are not held. Whole blocks without a flag are passed over first, because a block is tested without a branch
-// for each byte.
+// Bytes that are not held.
 fn skip(input: &[u8], from: usize) -> usize
     requires { ⌜ from ≤ length (now input) ⌝ }
     ensures { λ at. ⌜ ((r : LineReader) → isHeld (r .mode) ≡ false → Reaches (now (input .entry)) from r at r) ⌝ }
 {
-    let mut i = skip_blocks(input, from);
-    while i < input.len() {
-        if is_flag(input[i]) {
-            return i;
-        }
-        i += 1;
-    }
-    i
-}
-
-fn skip_blocks(input: &[u8], from: usize) -> usize
-    requires { ⌜ from ≤ length (now input) ⌝ }
-    ensures { λ at. ⌜ at ≤ length (now (input .entry)) ⌝ }
-    ensures { λ at. ⌜ ((r : LineReader) → isHeld (r .mode) ≡ false → Reaches (now (input .entry)) from r at r) ⌝ }
-{
-    let mut i = from;
-    while BLOCK <= input.len() - i {
-        if !packing::none_within(&input[i..i + BLOCK], crate::EXTENDED_START, crate::STOP) {
-            return i;
-        }
-        i += BLOCK;
-    }
-    i
+    from + packing::count_before(&input[from..], crate::EXTENDED_START, crate::STOP)
 }
 
 // How many bytes more may be held.

@@ -2,5 +2,6 @@ pub mod Cases
 pub mod Splices
 pub mod Lists
 pub mod Tests
+pub mod Before
 pub mod Drafts
 pub mod Numbers

@@ -22,3 +22,8 @@ noneOf p (x ∷ s) = pick (p x) false (noneOf p s)
 unfoldable pub countOf : (ℕ → Bool) → List ℕ → ℕ
 countOf p [] = 0
 countOf p (x ∷ s) = pick (p x) 1 0 + countOf p s
+
+-- How many elements of a list stand before the first that passes a test.
+unfoldable pub countBefore : (ℕ → Bool) → List ℕ → ℕ
+countBefore p [] = 0
+countBefore p (x ∷ s) = pick (p x) 0 (1 + countBefore p s)

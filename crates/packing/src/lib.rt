@@ -1,14 +1,17 @@
 // Definitions and laws on lists that the layers above share: a choice by a test, a test on every element, a list put into another
 // at a place, what a writer answers, and numbers of several bytes.
 ghost use mathlib.Core.Path.{_≡_};
-ghost use Prim.Native.Nat.{_+_};
+ghost use Prim.Native.Nat.{_+_, _≤_};
 ghost use lib.Dec.{leb};
-ghost use lib.ListN.{getD};
-ghost use Rattle.packing.specs.Choice.{pick, within, noneOf};
+ghost use lib.ListN.{length, drop, getD};
+ghost use Rattle.packing.specs.Choice.{pick, within, noneOf, countBefore};
 ghost use Rattle.packing.specs.Number.{number};
 
 // The most bytes of a number.
 const WIDEST: usize = 8;
+
+// How many bytes are tested together.
+const BLOCK: usize = 32;
 
 // The lesser of two numbers.
 pub fn lesser(a: usize, b: usize) -> usize
@@ -41,6 +44,35 @@ pub fn none_within(s: &[u8], low: u8, high: u8) -> bool
         i += 1;
     }
     seen == 0
+}
+
+// How many bytes stand before the first that lies between two values, both included. Whole blocks without one are passed over first,
+// because a block is tested without a branch for each byte.
+pub fn count_before(s: &[u8], low: u8, high: u8) -> usize
+    ensures { λ r. ⌜ r ≡ countBefore (within low high) (now (s .entry)) ⌝ }
+{
+    let mut i = blocks_before(s, low, high);
+    while i < s.len() {
+        if mark(s[i], low, high) == 1 {
+            return i;
+        }
+        i += 1;
+    }
+    i
+}
+
+fn blocks_before(s: &[u8], low: u8, high: u8) -> usize
+    ensures { λ r. ⌜ r ≤ length (now (s .entry)) ⌝ }
+    ensures { λ r. ⌜ countBefore (within low high) (now (s .entry)) ≡ r + countBefore (within low high) (drop r (now (s .entry))) ⌝ }
+{
+    let mut i: usize = 0;
+    while BLOCK <= s.len() - i {
+        if !none_within(&s[i..i + BLOCK], low, high) {
+            return i;
+        }
+        i += BLOCK;
+    }
+    i
 }
 
 // The number of at most eight bytes from an index on, lowest first. A byte past the end counts as 0.

@@ -1,16 +1,14 @@
--- The laws of stray bytes: the loops that count them, and that those among bytes up to an answer stand before the first start flag.
+-- The stray bytes among those up to an answer stand before the first start flag.
 use mathlib.Core.Path.{_≡_, refl, sym, ap, _∙_}
 use mathlib.Core.Bool.{Bool, true, false, true≢false}
 use mathlib.Core.List.{List, [], _∷_}
-use Prim.Native.Nat.{ℕ, zero, suc, _+_, _-_, _≤_, _<_}
+use Prim.Native.Nat.{ℕ, suc, _+_, _-_}
 use native.Mathlib.Nat.{zero-add}
-use native.Mathlib.Numerals.{add-one}
 use native.Mathlib.Omega.{arith}
-use lib.ListN.{length, take, drop, getD, length-drop, drop-of-length-le}
-use lib.Seq.{drop-cons, drop-drop}
+use lib.ListN.{take}
 use lib.Dec.{eqb}
 use borrow.Author.Tests.{eqb-true, eqb-false}
-use Rattle.packing.specs.Choice.{pick, noneOf}
+use Rattle.packing.specs.Choice.{pick, countBefore}
 use Rattle.packing.proofs.Cases.{by-bool}
 use Rattle.packing.proofs.Tests.{within-true}
 use Rattle.framing.specs.Reference.{Role, starts, stops, plain}
@@ -21,46 +19,9 @@ use Rattle.line.specs.declared.LineReader.{LineReader}
 use Rattle.line.specs.declared.Mode.{Mode}
 use Rattle.line.specs.declared.Mode.the-variants.{Outside, InStandard, InExtended, Overlong}
 use Rattle.text.specs.Strays.{strayAt, openAfter, strays}
-use Rattle.trace.specs.Chunk.{isStart, strayRun, strayCount}
+use Rattle.trace.specs.Chunk.{isStart, strayCount}
 use Rattle.trace.specs.Machine.{isOpen}
 use Rattle.trace.proofs.Counts.{open-is}
-
--- ---- the bytes before the first start flag
-
-run-at : (s : List ℕ) (i : ℕ) → i < length s → strayRun (drop i s) ≡ pick (isStart (getD s i 0)) 0 (1 + strayRun (drop (i + 1) s))
-unfolding strayRun
-run-at s i h = ap strayRun (drop-cons s i 0 h) ∙ ap (λ (n : ℕ). pick (isStart (getD s i 0)) 0 (1 + strayRun (drop n s))) (sym (add-one i))
-
-pub run-here : (s : List ℕ) (i : ℕ) → i < length s → isStart (getD s i 0) ≡ true → strayRun s ≡ i + strayRun (drop i s) → i ≡ strayRun s
-run-here s i h e so-far = let q : strayRun (drop i s) ≡ 0 = run-at s i h ∙ simp e in omega (arith, so-far, q)
-
-pub run-more : (s : List ℕ) (i : ℕ) → i < length s → isStart (getD s i 0) ≡ false → strayRun s ≡ i + strayRun (drop i s) → strayRun s ≡ i + 1 + strayRun (drop (i + 1) s)
-run-more s i h e so-far = let q : strayRun (drop i s) ≡ 1 + strayRun (drop (i + 1) s) = run-at s i h ∙ simp e in omega (arith, so-far, q)
-
-pub run-end : (s : List ℕ) (i : ℕ) → length s ≤ i → strayRun s ≡ i + strayRun (drop i s) → i ≡ strayRun s
-unfolding strayRun
-run-end s i h so-far = let q : strayRun (drop i s) ≡ 0 = ap strayRun (drop-of-length-le s {i = i} h) in omega (arith, so-far, q)
-
--- a block without a start flag
-front-clear : (n : ℕ) (s : List ℕ) → n ≤ length s → noneOf isStart (take n s) ≡ true → strayRun s ≡ n + strayRun (drop n s)
-unfolding strayRun noneOf
-front-clear zero s h e = sym (zero-add (strayRun s))
-front-clear (suc n) [] h e = absurd (omega arith)
-front-clear (suc n) (b ∷ s) h e =
-    by-bool (isStart b)
-    (λ y. absurd (true≢false (sym e ∙ simp y)))
-    (λ k. let q : strayRun s ≡ n + strayRun (drop n s) = front-clear n s (omega arith) (simp k at e) in simp k (omega (arith, q)))
-
-pub run-block : (s : List ℕ) (i : ℕ) (clear : Bool) → i + 32 ≤ length s → clear ≡ noneOf isStart (take (i + 32 - i) (drop i s)) → clear ≡ true → strayRun s ≡ i + strayRun (drop i s)
-    → strayRun s ≡ i + 32 + strayRun (drop (i + 32) s)
-run-block s i clear h e y so-far =
-    let n : i + 32 - i ≡ 32 = omega arith in
-    let none : noneOf isStart (take 32 (drop i s)) ≡ true = ap (λ (k : ℕ). noneOf isStart (take k (drop i s))) (sym n) ∙ sym e ∙ y in
-    let q : strayRun (drop i s) ≡ 32 + strayRun (drop (i + 32) s) =
-    front-clear 32 (drop i s) (omega (arith, length-drop i s)) none ∙ ap (λ (l : List ℕ). 32 + strayRun l) (drop-drop 32 i s) in
-    omega (arith, so-far, q)
-
--- ---- up to an answer
 
 -- whether a byte's role is to start a candidate
 abbrev isStarts : Role → Bool
@@ -84,13 +45,13 @@ start-role b = by-flag (eqb b 0xF0) (eqb b 0xF1) (eqb b 0xF2) refl refl
         (λ n. n ∙ sym (no-start t₂))
 
 none-stray : (o : Bool) → 0 ≡ strayCount o []
-unfolding strayRun
+unfolding countBefore
 none-stray true = refl
 none-stray false = refl
 
 by-role : (ρ : Role) (o : Bool) (b : ℕ) (bytes : List ℕ) → isStart b ≡ isStarts ρ → (o ≡ true → ρ ≡ stops → strays false bytes ≡ 0)
     → strays (openAfter ρ o) bytes ≡ strayCount (openAfter ρ o) bytes → strayAt ρ o + strays (openAfter ρ o) bytes ≡ strayCount o (b ∷ bytes)
-unfolding strayRun
+unfolding countBefore
 by-role starts true b bytes e stopped h = zero-add _ ∙ h
 by-role starts false b bytes e stopped h = simp e (zero-add _ ∙ h)
 by-role stops true b bytes e stopped h = zero-add _ ∙ stopped refl refl

@@ -1,10 +1,10 @@
 -- How far a call on a chunk has come, and what bytes up to an answer add to it.
 use mathlib.Core.Path.{_≡_}
 use mathlib.Core.Bool.{Bool, true, false}
-use mathlib.Core.List.{List, [], _∷_}
+use mathlib.Core.List.{List}
 use Prim.Native.Nat.{ℕ, _+_, _-_, _<_, _≤_}
 use lib.ListN.{length, take, drop}
-use Rattle.packing.specs.Choice.{pick, within}
+use Rattle.packing.specs.Choice.{within, countBefore}
 use Rattle.text.specs.Writing.{Wrote, lineRoom}
 use Rattle.trace.specs.Machine.{after, texts, takenOf, listing}
 use Rattle.trace.specs.declared.Listing.{Listing}
@@ -37,12 +37,7 @@ pub record Advances (s : Listing) (rest bytes out : List ℕ) (at : ℕ) (out′
 abbrev pub isStart : ℕ → Bool
 isStart b = within 0xF0 0xF1 b
 
--- How many bytes stand before the first start flag.
-unfoldable pub strayRun : List ℕ → ℕ
-strayRun [] = 0
-strayRun (b ∷ bytes) = pick (isStart b) 0 (1 + strayRun bytes)
-
--- The stray bytes among those up to an answer. A candidate that is open ends only there.
+-- The stray bytes among those up to an answer: a candidate that is open ends only there, so they stand before the first start flag.
 abbrev pub strayCount : (is-open : Bool) → List ℕ → ℕ
 strayCount true bytes = 0
-strayCount false bytes = strayRun bytes
+strayCount false bytes = countBefore isStart bytes

@@ -5,17 +5,14 @@ use line::Mode;
 use line::Told;
 ghost use mathlib.Core.Path.{_≡_};
 ghost use Prim.Native.Nat.{_+_, _≤_};
-ghost use lib.ListN.{length, drop};
+ghost use lib.ListN.{length};
 ghost use Rattle.line.specs.Outcome.{toldMeans};
-ghost use Rattle.trace.specs.Chunk.{isStart, strayRun, strayCount, Advances};
+ghost use Rattle.trace.specs.Chunk.{strayCount, Advances};
 ghost use Rattle.trace.specs.Machine.{frameCount, refusedCount, isOpen, newListing, numberAfter, Lists, Ends, listing, listedOf};
 
 const EXTENDED_START: u8 = 0xF0;
 
 const STANDARD_START: u8 = 0xF1;
-
-// How many bytes are tested for start flags together.
-const BLOCK: usize = 32;
 
 // The room that the line of the finish and the totals fit in.
 const LAST_ROOM: usize = 192;
@@ -215,43 +212,5 @@ fn stray_count(mode: Mode, bytes: &[u8]) -> u64
     if is_open(mode) {
         return 0;
     }
-    stray_run(bytes) as u64
-}
-
-// How many bytes stand before the first start flag. Whole blocks without one are passed over first, because a block is tested
-// without a branch for each byte.
-fn stray_run(bytes: &[u8]) -> usize
-    ensures { λ r. ⌜ r ≡ strayRun (now (bytes .entry)) ⌝ }
-{
-    let mut i = stray_blocks(bytes);
-    while i < bytes.len() {
-        if is_start(bytes[i]) {
-            return i;
-        }
-        i += 1;
-    }
-    i
-}
-
-fn stray_blocks(bytes: &[u8]) -> usize
-    ensures { λ r. ⌜ r ≤ length (now (bytes .entry)) ⌝ }
-    ensures { λ r. ⌜ strayRun (now (bytes .entry)) ≡ r + strayRun (drop r (now (bytes .entry))) ⌝ }
-{
-    let mut i: usize = 0;
-    while BLOCK <= bytes.len() - i {
-        if !packing::none_within(&bytes[i..i + BLOCK], EXTENDED_START, STANDARD_START) {
-            return i;
-        }
-        i += BLOCK;
-    }
-    i
-}
-
-fn is_start(b: u8) -> bool
-    ensures { λ r. ⌜ r ≡ isStart b ⌝ }
-{
-    if b < EXTENDED_START {
-        return false;
-    }
-    b <= STANDARD_START
+    packing::count_before(bytes, EXTENDED_START, STANDARD_START) as u64
 }

@@ -9,11 +9,11 @@ is-open-requires c κs = search needs
 returns : tie.Need-returns
 returns c = search needs
 
-stray-run-requires : tie.Need-stray-run-requires
-stray-run-requires c κs = search needs
+count-before-requires : tie.Need-count-before-requires
+count-before-requires c κs = search needs
 
 returns-2 : tie.Need-returns-2
-returns-2 c = rw (sym (c .before .before .is-open .ensures) ∙ c .before .if1 .left) (c .stray-run .ensures)
+returns-2 c = rw (sym (c .before .before .is-open .ensures) ∙ c .before .if1 .left) (c .count-before .ensures)
 
 pub stray-count-spec : {M : Type 1} → statement M
-stray-count-spec = tie.close (tie.spec is-open-requires returns stray-run-requires returns-2)
+stray-count-spec = tie.close (tie.spec is-open-requires returns count-before-requires returns-2)

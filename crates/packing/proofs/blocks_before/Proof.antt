@@ -4,20 +4,20 @@ use native.Mathlib.Omega.{arith}
 use lib.ListN.{length, drop}
 use Prim.Native.Nat.{_+_, _-_, _≤_}
 use borrow.Author.Tests.{not-false}
-use Rattle.trace.specs.Chunk.{strayRun}
-use Rattle.trace.proofs.StrayLaws.{run-block}
+use Rattle.packing.specs.Choice.{within, countBefore}
+use Rattle.packing.proofs.Before.{before-block}
 use borrow.Author.Needs.{needs}
-use Rattle.trace.proofs.stray_blocks.Statement.{statement}
-use Rattle.trace.proofs.stray_blocks.Tie as tie
+use Rattle.packing.proofs.blocks_before.Statement.{statement}
+use Rattle.packing.proofs.blocks_before.Tie as tie
 
 abbrev Inv-loop : tie.InvT-loop
-Inv-loop bytes i₀ i = (i ≤ length bytes) × (strayRun bytes ≡ i + strayRun (drop i bytes))
+Inv-loop s low high i₀ i = (i ≤ length s) × (countBefore (within low high) s ≡ i + countBefore (within low high) (drop i s))
 
 abbrev μ-loop : tie.MeasureT-loop
-μ-loop bytes i₀ i = length bytes - i
+μ-loop s low high i₀ i = length s - i
 
 loop-holds : tie.Need-loop-holds Inv-loop μ-loop
-loop-holds c = (omega arith, sym (zero-add (strayRun (c .before .args .bytes .now))))
+loop-holds c = (omega arith, sym (zero-add _))
 
 sub-loop : tie.Need-sub-loop Inv-loop μ-loop
 sub-loop c = search needs
@@ -50,13 +50,13 @@ loop-again : tie.Need-loop-again Inv-loop μ-loop
 loop-again c =
     let l = c .before .before .before .before in
     let t = c .before .before .before .loop-test .taken in
-    (omega arith, run-block _ (l .loop .i) _ (omega arith) (c .before .none-within .ensures) (not-false _ (c .if1 .left)) (l .loop .inv .1))
+    (omega arith, before-block _ _ (l .loop .i) 32 _ (omega arith) (c .before .none-within .ensures) (not-false _ (c .if1 .left)) (l .loop .inv .1))
 
 returns-2 : tie.Need-returns-2 Inv-loop μ-loop
 returns-2 c = let l = c .before in (l .loop .inv .0, l .loop .inv .1)
 
-pub stray-blocks-spec : {M : Type 1} → statement M
-stray-blocks-spec =
+pub blocks-before-spec : {M : Type 1} → statement M
+blocks-before-spec =
     tie.close
     (tie.spec
     Inv-loop
