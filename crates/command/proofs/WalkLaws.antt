@@ -2,7 +2,7 @@
 use Prim.Native.Nat.{ℕ, _+_, _-_, _≤_, _<_, _^_}
 use mathlib.Core.Path.{_≡_, sym, ap, _∙_, subst}
 use mathlib.Core.Bool.{Bool, true, false}
-use mathlib.Core.List.{List, []}
+use mathlib.Core.List.{List}
 use native.Mathlib.Omega.{arith}
 use lib.ListN.{length, take, drop, length-drop}
 use lib.Seq.{length-take-le}
@@ -19,9 +19,6 @@ use Rattle.command.proofs.Places.{within-command}
 
 pub part-is : (s : List ℕ) (f : Found) (b start len : ℕ) → f ≡ At b start len → take len (drop start s) ≡ partOf s (foundMeans f)
 part-is s f b start len e = ap (λ (x : Found). partOf s (foundMeans x)) (sym e)
-
-pub part-none : (s : List ℕ) (f : Found) (r : Refusal) → f ≡ Refused r → [] ≡ partOf s (foundMeans f)
-part-none s f r e = ap (λ (x : Found). partOf s (foundMeans x)) (sym e)
 
 pub part-fits : (s : List ℕ) (f : Found) (b start len : ℕ) → f ≡ At b start len → Within s (foundMeans f) → start + len ≤ length s
 part-fits s f b start len e w = subst (λ (x : Found). Within s (foundMeans x)) e w

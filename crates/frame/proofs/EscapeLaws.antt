@@ -14,12 +14,12 @@ use borrow.Author.Tests.{leb-true, leb-false, eqb-true, eqb-false, ne-eqb}
 use Rattle.packing.specs.Choice.{pick, within, noneOf, countOf}
 use Rattle.packing.proofs.Cases.{by-bool}
 use Rattle.packing.proofs.Lists.{drop-two, last-apart}
-use Rattle.packing.proofs.Tests.{within-yes, within-true, mark-all, none-last}
+use Rattle.packing.proofs.Tests.{within-yes, within-true, mark-all, count-last, count-none}
 use Rattle.frame.specs.Stuffing.{Unstuffed, badEscape, bytes, prepend, unstuff}
 use Rattle.frame.specs.Checksum.{sumFrom, checksum}
 use Rattle.frame.specs.Steps.{isSound, goodPair, lowerByte, lowered, scanFrom, bytesOf}
 use Rattle.frame.specs.declared.candidate.Scan.the-variants.{Fault, Good}
-use Rattle.frame.proofs.ChecksumLaws.{sumFrom-last, sum-last, sum-escape}
+use Rattle.frame.proofs.ChecksumLaws.{sumFrom-last, sum-escape}
 use Rattle.frame.proofs.StuffingLaws.{prepend-inv, unstuff-plain}
 
 -- ---- one byte
@@ -224,19 +224,23 @@ module _ (s : List ℕ) (last : ℕ) (some : 1 ≤ length s) (is : last ≡ getD
   unfolding scanFrom
   scan-unsound n = sym (ap (scanFrom 0 0) (unsound-bad (unstuff false s) n))
 
-  pub scan-plain : (sum : ℕ) → (last ≡ 0xF3 → ⊥) → noneOf (within 0xF3 0xF3) (take (length s - 1) s) ≡ true → sum ≡ checksum (take (length s - 1) s)
-      → Good (length s) (bitXor sum last) ≡ scanFrom 0 0 (unstuff false s)
-  scan-plain sum n h q =
-      scan-as-is s (none-last (within 0xF3 0xF3) s last some is h (escape-no last (ne-eqb last 0xF3 n))) (length s) (bitXor sum last) refl (sum-last s sum last some is q)
-
   pub scan-ends-bad : last ≡ 0xF3 → Fault ≡ scanFrom 0 0 (unstuff false s)
   scan-ends-bad e =
       scan-unsound (sym (good-unstuff s) ∙ ap good (parts ∙ ap (λ (b : ℕ). take (length s - 1) s ++ (b ∷ [])) e) ∙ ends-bad (take (length s - 1) s))
 
-  pub scan-counted : (len sum count : ℕ) → (last ≡ 0xF3 → ⊥) → isSound (unstuff false s) ≡ true → count ≡ countOf (within 0xF3 0xF3) s
+  -- the last byte is no escape
+  count-here : (last ≡ 0xF3 → ⊥) → countOf (within 0xF3 0xF3) (take (length s - 1) s) ≡ countOf (within 0xF3 0xF3) s
+  count-here n = count-last (within 0xF3 0xF3) s last some is (escape-no last (ne-eqb last 0xF3 n))
+
+  -- without an escape all is sound
+  pub scan-none : (count : ℕ) → (last ≡ 0xF3 → ⊥) → count ≡ countOf (within 0xF3 0xF3) (take (length s - 1) s) → count ≡ 0 → isSound (unstuff false s) ≡ true
+  scan-none count n c z = ap isSound (unstuff-plain s (count-none (within 0xF3 0xF3) s (sym (count-here n) ∙ sym c ∙ z)))
+
+  pub scan-counted : (len sum count : ℕ) → (last ≡ 0xF3 → ⊥) → isSound (unstuff false s) ≡ true → count ≡ countOf (within 0xF3 0xF3) (take (length s - 1) s)
       → len ≡ length s - count → sum ≡ checksum (lowered (take (length s - 1) s)) → Good len (bitXor sum last) ≡ scanFrom 0 0 (unstuff false s)
   unfolding scanFrom lowered
-  scan-counted len sum count n y c l q =
+  scan-counted len sum count n y c′ l q =
+      let c : count ≡ countOf (within 0xF3 0xF3) s = c′ ∙ count-here n in
       let u = bytesOf (unstuff false s) in
       let e = sound-bytes (unstuff false s) y in
       let k = counts s u e in

@@ -8,7 +8,7 @@ ghost use mathlib.Core.Bool.{true, false};
 ghost use mathlib.Core.List.{_++_};
 ghost use Prim.Native.Nat.{_-_, _≤_};
 ghost use lib.ListN.{length, getD, take, drop};
-ghost use Rattle.packing.specs.Choice.{pick};
+ghost use Rattle.packing.specs.Choice.{pick, within, countOf};
 ghost use Rattle.frame.specs.Stuffing.{unstuff, prepend};
 ghost use Rattle.frame.specs.Checksum.{checksum};
 ghost use Rattle.frame.specs.Steps.{isBounded, nextAt, scanFrom, isSound, goodPair, lowerByte, lowered, bytesOf, kindIn, AddressesIn, Unescaped, Examines, ExaminesWhole};
@@ -32,6 +32,12 @@ pub(crate) enum Next {
 pub(crate) enum Scan {
     Fault,
     Good { len: usize, sum: u8 },
+}
+
+// What one pass over stuffed bytes finds.
+struct Tally {
+    escapes: u8,
+    sum: u8,
 }
 
 // The addresses at the start of a body, and the index after them.
@@ -93,8 +99,9 @@ pub(crate) fn next_at(s: &[u8], at: usize) -> Next
     Next::Byte(0xF0 + e, at + 2)
 }
 
-// Bytes without an escape are counted and summed as they stand. The last byte is taken by itself: it is the checksum,
-// and a loop whose last turn is compared with 0 is not turned into vector code.
+// Where every escape is sound, each takes one byte from the number, and its two bytes have the exclusive or of F0 and
+// the second. The last byte is taken by itself: it is the checksum, and a loop whose last turn is compared with 0 is not
+// turned into vector code.
 fn scan_bytes(s: &[u8]) -> Scan
     requires { ⌜ length (now s) ≤ 118 ⌝ }
     ensures { λ r. ⌜ r ≡ scanFrom 0 0 (unstuff false (now (s .entry))) ⌝ }
@@ -107,34 +114,17 @@ fn scan_bytes(s: &[u8]) -> Scan
     if last == ESCAPE {
         return Scan::Fault;
     }
-    let looked = crate::bytes::look(&s[..n - 1], ESCAPE, ESCAPE);
-    if looked.clear {
-        return Scan::Good {
-            len: n,
-            sum: looked.sum ^ last,
-        };
+    let found = tally_escapes(&s[..n - 1]);
+    let sum = found.sum ^ last;
+    if found.escapes == 0 {
+        return Scan::Good { len: n, sum };
     }
-    scan_escaped(s, last)
-}
-
-// Where every escape is sound, each takes one byte from the number, and its two bytes have the exclusive or of F0 and
-// the second.
-fn scan_escaped(s: &[u8], last: u8) -> Scan
-    requires { ⌜ 1 ≤ length (now s) ⌝ }
-    requires { ⌜ length (now s) ≤ 118 ⌝ }
-    requires { ⌜ last ≡ getD (now s) (length (now s) - 1) 0 ⌝ }
-    requires { ⌜ (last ≡ 0xF3 → ⊥) ⌝ }
-    ensures { λ r. ⌜ r ≡ scanFrom 0 0 (unstuff false (now (s .entry))) ⌝ }
-{
     if !escapes_sound(s) {
         return Scan::Fault;
     }
-    let n = s.len();
-    let escapes = crate::bytes::count_within(s, ESCAPE, ESCAPE);
-    let sum = lowered_sum(&s[..n - 1]);
     Scan::Good {
-        len: n - escapes as usize,
-        sum: sum ^ last,
+        len: n - found.escapes as usize,
+        sum,
     }
 }
 
@@ -161,17 +151,21 @@ fn unsound(b: u8, after: u8) -> u8
     packing::mark(b, ESCAPE, ESCAPE) & packing::mark(after, ESCAPED_LIMIT + 1, 0xFF)
 }
 
-// The exclusive or of bytes, an escape taken as F0.
-fn lowered_sum(s: &[u8]) -> u8
-    ensures { λ r. ⌜ r ≡ checksum (lowered (now (s .entry))) ⌝ }
+// How many bytes are escapes, and the exclusive or of all with an escape taken as F0.
+fn tally_escapes(s: &[u8]) -> Tally
+    requires { ⌜ length (now s) ≤ 255 ⌝ }
+    ensures { λ r. ⌜ r .escapes ≡ countOf (within 0xF3 0xF3) (now (s .entry)) ⌝ }
+    ensures { λ r. ⌜ r .sum ≡ checksum (lowered (now (s .entry))) ⌝ }
 {
+    let mut escapes: u8 = 0;
     let mut sum: u8 = 0;
     let mut i: usize = 0;
     while i < s.len() {
+        escapes = escapes + packing::mark(s[i], ESCAPE, ESCAPE);
         sum = sum ^ lower(s[i]);
         i += 1;
     }
-    sum
+    Tally { escapes, sum }
 }
 
 fn lower(b: u8) -> u8

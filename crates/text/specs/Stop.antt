@@ -35,11 +35,7 @@ terminates e = pick (eqb (e .byte) 0x13) (isOneTwo (e .body)) false
 unfoldable pub stopsWithin : Entry → Bool
 stopsWithin e = pick (eqb (e .byte) 0x76) (anyIn terminates (parse commands (e .body) 0)) false
 
--- An entry of a top list is such a wrapper.
-abbrev pub stopsIn : List Entry → Bool
-stopsIn es = anyOf stopsWithin es
-
--- The whole test.
+-- An entry of the top list is such a wrapper.
 unfoldable pub stopsWorkout : List ℕ → Bool
 stopsWorkout contents = anyIn stopsWithin (parse commands contents 0)
 

@@ -1,12 +1,14 @@
 use mathlib.Core.Path.{_≡_, refl, sym, ap, _∙_}
-use Prim.Native.Nat.{ℕ, _-_}
+use Prim.Native.Nat.{ℕ, _-_, _≤_}
 use mathlib.Core.List.{List, [], _∷_}
 use native.Mathlib.Omega.{arith}
-use lib.ListN.{length}
+use lib.ListN.{length, take}
 use lib.Seq.{length-take-le}
+use borrow.Author.Tests.{not-true, not-false}
 use Rattle.packing.specs.Choice.{within, noneOf}
+use Rattle.packing.proofs.Tests.{count-most}
 use Rattle.frame.specs.Checksum.{sumFrom, checksum}
-use Rattle.frame.proofs.EscapeLaws.{scan-as-is, scan-plain, scan-ends-bad}
+use Rattle.frame.proofs.EscapeLaws.{scan-as-is, scan-ends-bad, scan-unsound, scan-none, scan-counted}
 use borrow.Author.Needs.{needs}
 use Rattle.frame.proofs.candidate.scan_bytes.Statement.{statement}
 use Rattle.frame.proofs.candidate.scan_bytes.Tie as tie
@@ -14,6 +16,12 @@ use Rattle.frame.proofs.candidate.scan_bytes.Tie as tie
 empty : (s : List ℕ) → length s ≡ 0 → s ≡ []
 empty [] h = refl
 empty (b ∷ s) h = absurd (omega arith)
+
+abbrev S : tie.After-tally-escapes → List ℕ
+S t = t .before .before .before .before .before .before .args .s .now
+
+some : (t : tie.After-tally-escapes) → 1 ≤ length (S t)
+some t = omega (arith, t .before .before .before .before .if1 .left)
 
 returns : tie.Need-returns
 unfolding noneOf sumFrom
@@ -30,26 +38,39 @@ shared-slice-read-last c = search needs
 returns-2 : tie.Need-returns-2
 returns-2 c = let s = c .before .before .before .before .args .s .now in scan-ends-bad s _ (omega arith) refl (c .if2 .taken)
 
-sub-look : tie.Need-sub-look
-sub-look c = search needs
+sub-tally-escapes : tie.Need-sub-tally-escapes
+sub-tally-escapes c = search needs
 
-slice-aggregate-look : tie.Need-slice-aggregate-look
-slice-aggregate-look c = let s = c .before .before .before .before .before .args .s .now in sym (length-take-le (length s - 1) s (omega arith))
+slice-aggregate-tally-escapes : tie.Need-slice-aggregate-tally-escapes
+slice-aggregate-tally-escapes c = let s = c .before .before .before .before .before .args .s .now in sym (length-take-le (length s - 1) s (omega arith))
 
-look-requires : tie.Need-look-requires
-look-requires c κs = search needs
+tally-escapes-requires : tie.Need-tally-escapes-requires
+tally-escapes-requires c κs = let s = c .before .before .before .before .before .args .s .now in omega (arith, length-take-le (length s - 1) s (omega arith), c .before .before .before .before .before .pre)
 
 returns-3 : tie.Need-returns-3
 returns-3 c =
-    let t = c .before .before in
-    let s = t .before .before .before .before .before .before .args .s .now in
-    scan-plain s _ (omega arith) refl _ (t .before .before .if2 .left) (sym (t .look .ensures .0) ∙ c .before .if3 .taken) (t .look .ensures .1)
+    let t = c .before .before .before in
+    let n = t .before .before .if2 .left in
+    let k = t .tally-escapes .ensures in
+    scan-counted (S t) _ (some t) refl _ _ _ n (scan-none (S t) _ (some t) refl _ n (k .0) (c .if3 .taken)) (k .0) (omega (arith, c .if3 .taken)) (k .1)
 
-scan-escaped-requires : tie.Need-scan-escaped-requires
-scan-escaped-requires c κs = let t = c .before in (omega arith, (t .before .before .before .before .before .before .pre, (refl, t .before .before .if2 .left)))
+escapes-sound-requires : tie.Need-escapes-sound-requires
+escapes-sound-requires c κs = search needs
 
 returns-4 : tie.Need-returns-4
-returns-4 c = search needs
+returns-4 c = let t = c .before .before .before .before .before in scan-unsound (S t) _ (some t) refl (sym (c .before .escapes-sound .ensures) ∙ not-true _ (c .if4 .taken))
+
+cast-t7 : tie.Need-cast-t7
+cast-t7 c = search needs
+
+sub-t13 : tie.Need-sub-t13
+sub-t13 c = let t = c .before .before .before .before .before .before in omega (arith, count-most (within 0xF3 0xF3) (take (length (S t) - 1) (S t)), length-take-le (length (S t) - 1) (S t) (omega arith), t .tally-escapes .ensures .0)
+
+returns-5 : tie.Need-returns-5
+returns-5 c =
+    let t = c .before .before .before .before .before .before in
+    let k = t .tally-escapes .ensures in
+    scan-counted (S t) _ (some t) refl _ _ _ (t .before .before .if2 .left) (sym (c .before .before .escapes-sound .ensures) ∙ not-false _ (c .before .if4 .left)) (k .0) refl (k .1)
 
 pub scan-bytes-spec : {M : Type 1} → statement M
 scan-bytes-spec =
@@ -59,9 +80,12 @@ scan-bytes-spec =
     sub-last
     shared-slice-read-last
     returns-2
-    sub-look
-    slice-aggregate-look
-    look-requires
+    sub-tally-escapes
+    slice-aggregate-tally-escapes
+    tally-escapes-requires
     returns-3
-    scan-escaped-requires
-    returns-4)
+    escapes-sound-requires
+    returns-4
+    cast-t7
+    sub-t13
+    returns-5)
