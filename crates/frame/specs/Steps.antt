@@ -113,7 +113,7 @@ pub record Unescaped (body : List ℕ) (sum : ℕ) : Type 0 where
   pub clear : noneOf isStuffed body ≡ true
   pub summed : sum ≡ checksum body
 
--- Such a body, whose addresses end before an index, and the exclusive or of what follows them.
+-- A body without an escape, whose addresses end before an index, and the exclusive or of what follows them.
 pub record UnescapedAfter (header : Header) (body : List ℕ) (start sum : ℕ) : Type 0 where
   pub limit : length body ≤ 118
   pub clear : noneOf (within 0xF3 0xF3) body ≡ true
