@@ -7,10 +7,11 @@ use lib.Dec.{ltb}
 use lib.ListN.{length, drop}
 use lib.Seq.{drop-drop, drop-append-seam}
 use borrow.Author.Tests.{ltb-false}
-use Rattle.packing.proofs.Cases.{by-bool}
-use Rattle.refusal.specs.Number.{numberOf}
-use Rattle.refusal.specs.declared.Refusal.{Refusal}
-use Rattle.command.specs.Entries.{Entry, commands, bytesOf, wireOf, Formed, AllFormed, Parsed, unsound, sound, parse, headOf, Answer, found, refused, nthOf, nthIn}
+use Rattle.lists.proofs.Cases.{by-bool}
+use Rattle.answer.specs.Refusals.{numberOf}
+use Rattle.answer.specs.declared.Refusal.{Refusal}
+use Rattle.command.specs.Entries.{Entry, commands, bytesOf, wireOf, Formed, AllFormed, Parsed, unsound, sound, parse, headOf, found, nthOf, nthIn, Extent}
+use Rattle.answer.specs.Answer.{Answer, result, refused}
 use Rattle.command.specs.Answers.{foundMeans}
 use Rattle.command.specs.Walk.{commandAt, past, placeAfter}
 use Rattle.command.specs.declared.entries.Found.{Found}
@@ -19,7 +20,7 @@ use Rattle.command.proofs.Places.{found-within}
 use Rattle.command.proofs.Sound.{sound-exactly, parse-wire}
 
 -- the n-th command from a place on
-abbrev pub nthFrom : List ℕ → (at n : ℕ) → Answer
+abbrev pub nthFrom : List ℕ → (at n : ℕ) → Answer Extent
 nthFrom s at n = nthIn commands at (parse commands (drop at s) 0) n
 
 -- what is refused at a place is refused for every number from there on
@@ -56,11 +57,11 @@ pub next-from : (s : List ℕ) (at n : ℕ) → nthFrom s (placeAfter s at) n �
 unfolding commandAt placeAfter nthIn nthOf
 next-from s at n = case (parse commands (drop at s) 0) refl
   where
-    here : ℕ → Answer
+    here : ℕ → Answer Extent
     here m = nthIn commands at (parse commands (drop at s) 0) m
 
     stays : (k : ℕ) → here 0 ≡ refused k → nthFrom s (past at (here 0)) n ≡ here (suc n)
-    stays k e = ap (λ (a : Answer). nthFrom s (past at a) n) e ∙ refused-from s at k e n ∙ sym (refused-from s at k e (suc n))
+    stays k e = ap (λ (a : Answer Extent). nthFrom s (past at a) n) e ∙ refused-from s at k e n ∙ sym (refused-from s at k e (suc n))
 
     case : (p : Parsed) → parse commands (drop at s) 0 ≡ p → nthFrom s (past at (here 0)) n ≡ here (suc n)
     case unsound e = stays 7 (ap (λ (x : Parsed). nthIn commands at x 0) e)
@@ -76,7 +77,7 @@ module _ (s : List ℕ) (at : ℕ) (f : Found) (d : foundMeans f ≡ commandAt s
   pub after-found : (b start len : ℕ) → f ≡ At b start len → (start + len ≤ length s) × (start + len ≡ placeAfter s at)
   unfolding commandAt placeAfter
   after-found b start len e =
-      let a : commandAt s at ≡ found b start len = sym d ∙ ap foundMeans e in
+      let a : commandAt s at ≡ result (found b start len) = sym d ∙ ap foundMeans e in
       (found-within commands at s 0 b start len a, sym (ap (past at) a))
 
   pub after-refused : (r : Refusal) → f ≡ Refused r → at ≡ placeAfter s at

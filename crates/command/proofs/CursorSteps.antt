@@ -8,8 +8,9 @@ use native.Mathlib.Omega.{arith}
 use lib.ListN.{length, take, drop, length-append, length-drop, drop-of-length-le}
 use lib.Seq.{take-take, drop-drop, length-take-le}
 use denote.Ref.{RefT, now}
-use Rattle.packing.specs.Choice.{pick}
-use Rattle.command.specs.Entries.{Entry, commands, bytesOf, wireOf, Parsed, unsound, sound, parse, Answer, found, refused, nthOf, nthIn}
+use Rattle.lists.specs.Choice.{pick}
+use Rattle.command.specs.Entries.{Entry, commands, bytesOf, wireOf, Parsed, unsound, sound, parse, found, nthOf, nthIn, Extent}
+use Rattle.answer.specs.Answer.{Answer, result, refused}
 use Rattle.command.specs.Answers.{partOf}
 use Rattle.command.specs.Commands.{isWrapper, nthCommand, shifted, inside, nthInside}
 use Rattle.command.specs.Steps.{Within}
@@ -77,7 +78,7 @@ run-answers s row first next k = let r = stands k in ap (λ (c : RefT (List ℕ)
 pub refused-stays : (s : List ℕ) (at n : ℕ) → commandAt s at ≡ refused n → (k : ℕ) → placeOf s k at ≡ at
 unfolding placeOf placeAfter
 refused-stays s at n h zero = refl
-refused-stays s at n h (suc k) = ap (λ (a : Answer). placeOf s k (past at a)) h ∙ refused-stays s at n h k
+refused-stays s at n h (suc k) = ap (λ (a : Answer Extent). placeOf s k (past at a)) h ∙ refused-stays s at n h k
 
 -- A place at the end or past it has no command: 15.
 pub none-past-end : (s : List ℕ) (at : ℕ) → length s ≤ at → commandAt s at ≡ refused 15
@@ -103,13 +104,13 @@ unsound-always s h k =
 -- ---- in a wrapper
 
 -- A new cursor on a wrapper's data answers as the call inside the wrapper does, with places that count from the data's start.
-pub kth-inside : (s : List ℕ) (w k b start len : ℕ) → nthCommand s w ≡ found b start len → isWrapper b ≡ true
+pub kth-inside : (s : List ℕ) (w k b start len : ℕ) → nthCommand s w ≡ result (found b start len) → isWrapper b ≡ true
     → nthInside s w k ≡ shifted start (commandAt (partOf s (nthCommand s w)) (placeOf (partOf s (nthCommand s w)) k 0))
 unfolding nthInside inside
 kth-inside s w k b start len e y =
     let part = partOf s (nthCommand s w) in
     let l : take len (drop start s) ≡ part = sym (ap (partOf s) e) in
-    ap (λ (a : Answer). inside s a k) e
+    ap (λ (a : Answer Extent). inside s a k) e
     ∙ ap (λ (t : Bool). pick t (shifted start (nthCommand (take len (drop start s)) k)) (refused 15)) y
     ∙ ap (λ (x : List ℕ). shifted start (nthCommand x k)) l ∙ ap (shifted start) (sym (kth-step part k))
 
@@ -119,14 +120,14 @@ part-of-part (suc at) l zero s h = absurd (omega arith)
 part-of-part (suc at) l (suc len) [] h = refl
 part-of-part (suc at) l (suc len) (x ∷ s) h = part-of-part at l len s (omega arith)
 
-part-shifted : (s : List ℕ) (start len : ℕ) → start + len ≤ length s → (part : List ℕ) → part ≡ take len (drop start s) → (a : Answer) → Within part a → partOf part a ≡ partOf s (shifted start a)
+part-shifted : (s : List ℕ) (start len : ℕ) → start + len ≤ length s → (part : List ℕ) → part ≡ take len (drop start s) → (a : Answer Extent) → Within part a → partOf part a ≡ partOf s (shifted start a)
 part-shifted s start len h part d (refused k) w = refl
-part-shifted s start len h part d (found b at l) w =
+part-shifted s start len h part d (result (found b at l)) w =
     let n : length part ≡ len = ap length d ∙ length-take-le len (drop start s) (omega (arith, length-drop start s)) in
     ap (λ (x : List ℕ). take l (drop at x)) d ∙ part-of-part at l len (drop start s) (omega arith) ∙ ap (take l) (drop-drop at start s)
 
 -- Its data is that call's data, the same part of the whole contents.
-pub kth-inside-data : (s : List ℕ) (w k b start len : ℕ) → nthCommand s w ≡ found b start len → isWrapper b ≡ true
+pub kth-inside-data : (s : List ℕ) (w k b start len : ℕ) → nthCommand s w ≡ result (found b start len) → isWrapper b ≡ true
     → partOf (partOf s (nthCommand s w)) (commandAt (partOf s (nthCommand s w)) (placeOf (partOf s (nthCommand s w)) k 0)) ≡ partOf s (nthInside s w k)
 kth-inside-data s w k b start len e y =
     let part = partOf s (nthCommand s w) in

@@ -10,10 +10,11 @@ use lib.Dec.{leb, ltb}
 use lib.ListN.{length, getD, take, drop, length-drop, drop-of-length-le}
 use lib.Seq.{drop-cons, drop-drop, length-take-le, take-all, take-nil}
 use borrow.Author.Tests.{ltb-true, ltb-false, leb-true, leb-false}
-use Rattle.packing.specs.Choice.{pick}
-use Rattle.packing.proofs.Cases.{by-bool}
-use Rattle.command.specs.Entries.{Entry, entry, bytesOf, Parsed, unsound, sound, put, parse, parseCounted, headOf, Answer, found, refused, nthOf, nthIn}
-use Rattle.command.specs.Answers.{Count, uncounted, entries, counted}
+use Rattle.lists.specs.Choice.{pick}
+use Rattle.lists.proofs.Cases.{by-bool}
+use Rattle.command.specs.Entries.{Entry, entry, bytesOf, Parsed, unsound, sound, put, parse, parseCounted, headOf, found, nthOf, nthIn, Extent}
+use Rattle.answer.specs.Answer.{Answer, result, refused, through}
+use Rattle.command.specs.Answers.{counted}
 use Rattle.command.specs.Steps.{cursor, stepAt, ifSound}
 use Rattle.command.specs.declared.entries.Cursor.{Cursor}
 use Rattle.command.specs.declared.entries.Step.{Step}
@@ -124,36 +125,35 @@ module _ (limit : ℕ) (s : List ℕ) (at : ℕ) {x : Step} (p : x ≡ stepAt li
 -- ---- counting
 
 -- entries that were counted before
-abbrev pub plus : ℕ → Count → Count
-plus n uncounted = uncounted
-plus n (entries k) = entries (n + k)
+abbrev pub plus : ℕ → Answer ℕ → Answer ℕ
+plus n a = through (λ (k : ℕ). n + k) a
 
-pub plus-none : (c : Count) → plus 0 c ≡ c
-plus-none uncounted = refl
-plus-none (entries k) = ap entries (omega arith)
+pub plus-none : (a : Answer ℕ) → plus 0 a ≡ a
+plus-none (refused k) = refl
+plus-none (result k) = ap result (omega arith)
 
-pub count-end : (n : ℕ) (p : Parsed) → p ≡ sound [] → entries n ≡ plus n (counted p)
+pub count-end : (n : ℕ) (p : Parsed) → p ≡ sound [] → result n ≡ plus n (counted p)
 unfolding counted
-count-end n p e = sym (ap (λ (x : Parsed). plus n (counted x)) e ∙ ap entries (add-zero n))
+count-end n p e = sym (ap (λ (x : Parsed). plus n (counted x)) e ∙ ap result (add-zero n))
 
-pub count-broken : (n : ℕ) (p : Parsed) → p ≡ unsound → uncounted ≡ plus n (counted p)
+pub count-broken : (n : ℕ) (p : Parsed) → p ≡ unsound → refused 7 ≡ plus n (counted p)
 unfolding counted
 count-broken n p e = sym (ap (λ (x : Parsed). plus n (counted x)) e)
 
 count-put : (n : ℕ) (e : Entry) (p : Parsed) → plus n (counted (put e p)) ≡ plus (n + 1) (counted p)
 unfolding counted put
 count-put n e unsound = refl
-count-put n e (sound es) = ap entries (omega arith)
+count-put n e (sound es) = ap result (omega arith)
 
 pub count-more : (n : ℕ) (p : Parsed) (e : Entry) (q : Parsed) → p ≡ put e q → plus (n + 1) (counted q) ≡ plus n (counted p)
 count-more n p e q h = sym (ap (λ (x : Parsed). plus n (counted x)) h ∙ count-put n e q)
 
-pub sound-unsound : (p : Parsed) (a : Answer) → counted p ≡ uncounted → refused 7 ≡ ifSound p a
+pub sound-unsound : (p : Parsed) (a : Answer Extent) → counted p ≡ refused 7 → refused 7 ≡ ifSound p a
 unfolding counted ifSound
 sound-unsound unsound a e = refl
 sound-unsound (sound es) a e = let w : _≡_ {A = ℕ} 0 1 = cc in absurd (omega arith)
 
-pub sound-sound : (p : Parsed) (a : Answer) (n : ℕ) → counted p ≡ entries n → a ≡ ifSound p a
+pub sound-sound : (p : Parsed) (a : Answer Extent) (n : ℕ) → counted p ≡ result n → a ≡ ifSound p a
 unfolding counted ifSound
 sound-sound unsound a n e = let w : _≡_ {A = ℕ} 0 1 = cc in absurd (omega arith)
 sound-sound (sound es) a n e = refl
@@ -181,11 +181,11 @@ module _ {limit : ℕ} {s : List ℕ} {at b start len next : ℕ} (t : Stands li
       (λ y. let h : start ≡ at + 2 = simp y at (t .head) in simp y (omega (arith, t .ends)))
       (λ y. let h : start ≡ at + 1 = simp y at (t .head) in let z : len ≡ 0 = t .bare y in simp y (omega (arith, t .ends)))
 
-  pub nth-found : (p q : Parsed) (n : ℕ) → p ≡ put (entry b (take len (drop start s))) q → n ≡ 0 → ifSound q (found b start len) ≡ nthIn limit at p n
+  pub nth-found : (p q : Parsed) (n : ℕ) → p ≡ put (entry b (take len (drop start s))) q → n ≡ 0 → ifSound q (result (found b start len)) ≡ nthIn limit at p n
   unfolding put nthIn nthOf ifSound
   nth-found p unsound n e z = sym (ap (λ (x : Parsed). nthIn limit at x n) e)
   nth-found p (sound es) n e z =
-      ap (λ (x : ℕ). found b x len) (t .head) ∙ ap (found b (at + headOf limit b)) (sym data-length)
+      ap (λ (x : ℕ). result (found b x len)) (t .head) ∙ ap (λ (x : ℕ). result (found b (at + headOf limit b) x)) (sym data-length)
       ∙ sym (ap (λ (x : Parsed). nthIn limit at x n) e ∙ ap (nthOf limit at (entry b (take len (drop start s)) ∷ es)) z)
 
   pub nth-more : (p q : Parsed) (n : ℕ) → p ≡ put (entry b (take len (drop start s))) q → (n ≡ 0 → ⊥) → nthIn limit next q (n - 1) ≡ nthIn limit at p n

@@ -1,7 +1,8 @@
 -- Lists that tell readings of document 01 apart, computed.
 use mathlib.Core.Path.{_≡_, refl}
 use mathlib.Core.List.{[], _∷_}
-use Rattle.command.specs.Entries.{bytesOf, put, parse, found, refused, nthOf, nthIn}
+use Rattle.command.specs.Entries.{bytesOf, put, parse, found, nthOf, nthIn}
+use Rattle.answer.specs.Answer.{result, refused}
 use Rattle.command.specs.Commands.{nthCommand, inside, nthInside}
 use Rattle.command.specs.Walk.{commandAt, placeAfter, placeOf}
 
@@ -10,17 +11,17 @@ pub examples :
     (nthCommand [] 0 ≡ refused 15)
     × (nthInside (0x76 ∷ 0x00 ∷ []) 0 0 ≡ refused 15)
     -- a short command and a wrapper
-    × (nthCommand (0x80 ∷ 0x81 ∷ []) 1 ≡ found 0x81 2 0)
-    × (nthInside (0x80 ∷ 0x76 ∷ 0x02 ∷ 0x13 ∷ 0x00 ∷ []) 1 0 ≡ found 0x13 5 0)
+    × (nthCommand (0x80 ∷ 0x81 ∷ []) 1 ≡ result (found 0x81 2 0))
+    × (nthInside (0x80 ∷ 0x76 ∷ 0x02 ∷ 0x13 ∷ 0x00 ∷ []) 1 0 ≡ result (found 0x13 5 0))
     -- inside what is no wrapper there is none; only the wrapper that is walked is looked into
     × (nthInside (0x80 ∷ 0x76 ∷ 0x01 ∷ 0x13 ∷ []) 0 0 ≡ refused 15)
     × (nthInside (0x80 ∷ 0x76 ∷ 0x01 ∷ 0x13 ∷ []) 1 0 ≡ refused 7)
     × (nthInside (0x80 ∷ 0x76 ∷ 0x01 ∷ 0x13 ∷ []) 2 0 ≡ refused 15)
-    × (nthCommand (0x76 ∷ 0x01 ∷ 0x13 ∷ []) 0 ≡ found 0x76 2 1)
+    × (nthCommand (0x76 ∷ 0x01 ∷ 0x13 ∷ []) 0 ≡ result (found 0x76 2 1))
     -- every count of the list is checked, not only those up to the n-th
     × (nthCommand (0x80 ∷ 0x20 ∷ 0x05 ∷ []) 0 ≡ refused 7)
     -- inside a wrapper no byte is a wrapper
-    × (nthInside (0x76 ∷ 0x04 ∷ 0x1A ∷ 0x02 ∷ 0x05 ∷ 0x09 ∷ []) 0 0 ≡ found 0x1A 4 2)
+    × (nthInside (0x76 ∷ 0x04 ∷ 0x1A ∷ 0x02 ∷ 0x05 ∷ 0x09 ∷ []) 0 0 ≡ result (found 0x1A 4 2))
     -- a count that leaves its list
     × (nthCommand (0x76 ∷ 0x02 ∷ 0x13 ∷ 0x02 ∷ 0x01 ∷ 0x02 ∷ []) 0 ≡ refused 7)
     × (nthInside (0x76 ∷ 0x02 ∷ 0x13 ∷ 0x02 ∷ 0x80 ∷ 0x80 ∷ []) 0 0 ≡ refused 7)
@@ -30,14 +31,14 @@ examples = (refl, refl, refl, refl, refl, refl, refl, refl, refl, refl, refl, re
 -- the same of a command cursor
 pub cursor-examples :
     -- a short command, a wrapper, and then the end, where it stays
-    (commandAt (0x80 ∷ 0x76 ∷ 0x02 ∷ 0x13 ∷ 0x00 ∷ []) 0 ≡ found 0x80 1 0)
+    (commandAt (0x80 ∷ 0x76 ∷ 0x02 ∷ 0x13 ∷ 0x00 ∷ []) 0 ≡ result (found 0x80 1 0))
     × (placeAfter (0x80 ∷ 0x76 ∷ 0x02 ∷ 0x13 ∷ 0x00 ∷ []) 0 ≡ 1)
-    × (commandAt (0x80 ∷ 0x76 ∷ 0x02 ∷ 0x13 ∷ 0x00 ∷ []) 1 ≡ found 0x76 3 2)
+    × (commandAt (0x80 ∷ 0x76 ∷ 0x02 ∷ 0x13 ∷ 0x00 ∷ []) 1 ≡ result (found 0x76 3 2))
     × (placeOf (0x80 ∷ 0x76 ∷ 0x02 ∷ 0x13 ∷ 0x00 ∷ []) 2 0 ≡ 5)
     × (commandAt (0x80 ∷ 0x76 ∷ 0x02 ∷ 0x13 ∷ 0x00 ∷ []) 5 ≡ refused 15)
     × (placeOf (0x80 ∷ 0x76 ∷ 0x02 ∷ 0x13 ∷ 0x00 ∷ []) 4 0 ≡ 5)
     -- on the wrapper's data
-    × (commandAt (0x13 ∷ 0x00 ∷ []) 0 ≡ found 0x13 2 0)
+    × (commandAt (0x13 ∷ 0x00 ∷ []) 0 ≡ result (found 0x13 2 0))
     -- on an unsound list it answers 7 from the first step on, and stays
     × (commandAt (0x80 ∷ 0x20 ∷ 0x05 ∷ []) 0 ≡ refused 7)
     × (placeOf (0x80 ∷ 0x20 ∷ 0x05 ∷ []) 3 0 ≡ 0)

@@ -9,9 +9,10 @@ use lib.Dec.{ltb}
 use lib.ListN.{length, take, drop, length-append, length-drop}
 use lib.Seq.{length-take-le, take-at, drop-append-add}
 use borrow.Author.Tests.{ltb-false}
-use Rattle.packing.specs.Choice.{pick}
-use Rattle.packing.proofs.Cases.{by-bool}
-use Rattle.command.specs.Entries.{Entry, entry, commands, bytesOf, wireOf, Formed, AllFormed, Parsed, unsound, sound, parse, headOf, Answer, found, refused, nthOf, nthIn}
+use Rattle.lists.specs.Choice.{pick}
+use Rattle.lists.proofs.Cases.{by-bool}
+use Rattle.command.specs.Entries.{Entry, entry, commands, bytesOf, wireOf, Formed, AllFormed, Parsed, unsound, sound, parse, headOf, found, nthOf, nthIn, Extent}
+use Rattle.answer.specs.Answer.{Answer, result, refused}
 use Rattle.command.specs.Answers.{partOf}
 use Rattle.command.specs.Commands.{isWrapper, nthCommand, shifted, inside, nthInside}
 use Rattle.command.specs.Steps.{Within}
@@ -47,12 +48,12 @@ nth-earlier limit at (e ∷ es) fs (suc n) h = nth-earlier limit (at + length (b
 
 -- An entry's data stands after the bytes of those before it and its own byte and count.
 pub nth-at : (limit at : ℕ) (before : List Entry) (e : Entry) (rest : List Entry)
-    → nthOf limit at (before ++ (e ∷ rest)) (length before) ≡ found (e .byte) (at + length (wireOf limit before) + headOf limit (e .byte)) (length (e .body))
+    → nthOf limit at (before ++ (e ∷ rest)) (length before) ≡ result (found (e .byte) (at + length (wireOf limit before) + headOf limit (e .byte)) (length (e .body)))
 unfolding nthOf wireOf
-nth-at limit at [] e rest = ap (λ (n : ℕ). found (e .byte) (n + headOf limit (e .byte)) (length (e .body))) (sym (add-zero at))
+nth-at limit at [] e rest = ap (λ (n : ℕ). result (found (e .byte) (n + headOf limit (e .byte)) (length (e .body)))) (sym (add-zero at))
 nth-at limit at (d ∷ before) e rest =
     nth-at limit (at + length (bytesOf limit d)) before e rest
-    ∙ ap (λ (n : ℕ). found (e .byte) (n + headOf limit (e .byte)) (length (e .body)))
+    ∙ ap (λ (n : ℕ). result (found (e .byte) (n + headOf limit (e .byte)) (length (e .body))))
     (add-assoc at (length (bytesOf limit d)) (length (wireOf limit before)) ∙ ap (λ (n : ℕ). at + n) (sym (length-append (bytesOf limit d) (wireOf limit before))))
 
 body-at : (limit : ℕ) (p : List ℕ) (e : Entry) (r : List ℕ) → Formed limit e → take (length (e .body)) (drop (length p + headOf limit (e .byte)) (p ++ (bytesOf limit e ++ r))) ≡ e .body
@@ -86,16 +87,16 @@ data-at limit p s before e rest h =
 -- ---- what is found stands within the contents
 
 -- an answer stands within the entries' bytes
-nth-within : (limit at : ℕ) (es : List Entry) (n b start len : ℕ) → AllFormed limit es → nthOf limit at es n ≡ found b start len
+nth-within : (limit at : ℕ) (es : List Entry) (n b start len : ℕ) → AllFormed limit es → nthOf limit at es n ≡ result (found b start len)
     → (at < start) × (start + len ≤ at + length (wireOf limit es))
 unfolding nthOf wireOf bytesOf AllFormed
 nth-within limit at [] n b start len f h = let w : _≡_ {A = ℕ} 0 1 = cc in absurd (omega arith)
 nth-within limit at (e ∷ es) zero b start len f h =
     by-bool (ltb (e .byte) limit)
-    (λ y. let q : found (e .byte) (at + 2) (length (e .body)) ≡ found b start len = simp y at h in
+    (λ y. let q : result (found (e .byte) (at + 2) (length (e .body))) ≡ result (found b start len) = simp y at h in
     let i : at + 2 ≡ start = cc in
     let j : length (e .body) ≡ len = cc in simp y (omega (arith, length-append (e .body) (wireOf limit es))))
-    (λ y. let q : found (e .byte) (at + 1) (length (e .body)) ≡ found b start len = simp y at h in
+    (λ y. let q : result (found (e .byte) (at + 1) (length (e .body))) ≡ result (found b start len) = simp y at h in
     let i : at + 1 ≡ start = cc in
     let j : length (e .body) ≡ len = cc in
     let k : length (e .body) ≡ 0 = ap length (f .0 (ltb-false (e .byte) limit y)) in simp y (omega arith))
@@ -104,11 +105,11 @@ nth-within limit at (e ∷ es) (suc n) b start len f h =
     omega (arith, length-append (bytesOf limit e) (wireOf limit es))
 
 -- what is found stands within the contents
-pub found-within : (limit at : ℕ) (s : List ℕ) (n b start len : ℕ) → nthIn limit at (parse limit (drop at s) 0) n ≡ found b start len → start + len ≤ length s
+pub found-within : (limit at : ℕ) (s : List ℕ) (n b start len : ℕ) → nthIn limit at (parse limit (drop at s) 0) n ≡ result (found b start len) → start + len ≤ length s
 unfolding nthIn
 found-within limit at s n b start len h = case (parse limit (drop at s) 0) refl h
   where
-    case : (p : Parsed) → parse limit (drop at s) 0 ≡ p → nthIn limit at p n ≡ found b start len → start + len ≤ length s
+    case : (p : Parsed) → parse limit (drop at s) 0 ≡ p → nthIn limit at p n ≡ result (found b start len) → start + len ≤ length s
     case unsound e g = let w : _≡_ {A = ℕ} 0 1 = cc in absurd (omega arith)
     case (sound es) e g =
         let m = parse-means limit (drop at s) 0 es e in
@@ -119,23 +120,23 @@ pub within-command : (s : List ℕ) (n : ℕ) → Within s (nthCommand s n)
 unfolding nthCommand
 within-command s n = case (nthIn commands 0 (parse commands s 0) n) refl
   where
-    case : (a : Answer) → nthIn commands 0 (parse commands s 0) n ≡ a → Within s a
-    case (found b start len) e = found-within commands 0 s n b start len e
+    case : (a : Answer Extent) → nthIn commands 0 (parse commands s 0) n ≡ a → Within s a
+    case (result (found b start len)) e = found-within commands 0 s n b start len e
     case (refused k) e = tt
 
-within-shifted : (s : List ℕ) (start len : ℕ) → start + len ≤ length s → (a : Answer) → Within (take len (drop start s)) a → Within s (shifted start a)
-within-shifted s start len h (found b at l) w =
+within-shifted : (s : List ℕ) (start len : ℕ) → start + len ≤ length s → (a : Answer Extent) → Within (take len (drop start s)) a → Within s (shifted start a)
+within-shifted s start len h (result (found b at l)) w =
     omega (arith, w, length-take-le len (drop start s) (omega (arith, length-drop start s)))
 within-shifted s start len h (refused k) w = tt
 
-within-pick : (s : List ℕ) (t : Bool) (a b : Answer) → Within s a → Within s b → Within s (pick t a b)
+within-pick : (s : List ℕ) (t : Bool) (a b : Answer Extent) → Within s a → Within s b → Within s (pick t a b)
 within-pick s true a b v w = v
 within-pick s false a b v w = w
 
-within-inside : (s : List ℕ) (a : Answer) (n : ℕ) → Within s a → Within s (inside s a n)
+within-inside : (s : List ℕ) (a : Answer Extent) (n : ℕ) → Within s a → Within s (inside s a n)
 unfolding inside
 within-inside s (refused k) n w = tt
-within-inside s (found b start len) n w =
+within-inside s (result (found b start len)) n w =
     let part = take len (drop start s) in
     within-pick s (isWrapper b) (shifted start (nthCommand part n)) (refused 15) (within-shifted s start len w (nthCommand part n) (within-command part n)) tt
 

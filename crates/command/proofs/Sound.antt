@@ -8,7 +8,7 @@ use lib.Dec.{ltb}
 use lib.ListN.{length, take, drop, length-append, take-append-drop}
 use lib.Seq.{length-take-le, take-append-seam, drop-append-seam}
 use borrow.Author.Tests.{ltb-false, le-ltb}
-use Rattle.packing.proofs.Cases.{by-bool}
+use Rattle.lists.proofs.Cases.{by-bool}
 use Rattle.command.specs.Entries.{Entry, entry, bytesOf, wireOf, Formed, AllFormed, Parsed, unsound, sound, put, parse}
 use Rattle.command.proofs.EntryLaws.{skip-within}
 

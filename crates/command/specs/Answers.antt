@@ -2,31 +2,28 @@
 use Prim.Native.Nat.{ℕ}
 use mathlib.Core.List.{List, []}
 use lib.ListN.{length, take, drop}
-use Rattle.refusal.specs.Number.{numberOf}
-use Rattle.command.specs.Entries.{Answer, found, refused, Parsed, unsound, sound}
+use Rattle.answer.specs.Answer.{Answer, result, refused}
+use Rattle.answer.specs.Refusals.{numberOf}
+use Rattle.command.specs.Entries.{Parsed, unsound, sound, Extent, found}
 use Rattle.command.specs.declared.entries.Found.{Found}
 use Rattle.command.specs.declared.entries.Found.the-variants.{At, Refused}
 use Rattle.command.specs.declared.entries.Counted.{Counted}
 use Rattle.command.specs.declared.entries.Counted.the-variants.{Unsound, Entries}
 
-abbrev pub foundMeans : Found → Answer
-foundMeans (At b start len) = found b start len
+abbrev pub foundMeans : Found → Answer Extent
+foundMeans (At b start len) = result (found b start len)
 foundMeans (Refused why) = refused (numberOf why)
 
 -- The part of the contents that an answer names, none for a refusal.
-abbrev pub partOf : List ℕ → Answer → List ℕ
-partOf s (found b start len) = take len (drop start s)
+abbrev pub partOf : List ℕ → Answer Extent → List ℕ
+partOf s (result (found b start len)) = take len (drop start s)
 partOf s (refused n) = []
 
--- A number of entries, or that a count is unsound.
-pub data Count : Type 0 where
-  uncounted : Count
-  entries : (number : ℕ) → Count
+abbrev pub countedMeans : Counted → Answer ℕ
+countedMeans Unsound = refused 7
+countedMeans (Entries n) = result n
 
-abbrev pub countedMeans : Counted → Count
-countedMeans Unsound = uncounted
-countedMeans (Entries n) = entries n
-
-unfoldable pub counted : Parsed → Count
-counted unsound = uncounted
-counted (sound es) = entries (length es)
+-- The number of entries: 7 where a count is unsound.
+unfoldable pub counted : Parsed → Answer ℕ
+counted unsound = refused 7
+counted (sound es) = result (length es)

@@ -5,7 +5,8 @@ use mathlib.Core.Path.{_≡_}
 use mathlib.Core.List.{List, [], _∷_, _++_}
 use lib.Dec.{ltb}
 use lib.ListN.{length, take}
-use Rattle.packing.specs.Choice.{pick}
+use Rattle.lists.specs.Choice.{pick}
+use Rattle.answer.specs.Answer.{Answer, result, refused}
 
 pub record Entry : Type 0 where
   pub byte : ℕ
@@ -67,18 +68,17 @@ unfoldable mutual
 abbrev pub headOf : ℕ → ℕ → ℕ
 headOf limit b = pick (ltb b limit) 2 1
 
--- An entry's byte, where its data starts and how long it is; or a refusal's number.
-pub data Answer : Type 0 where
-  found : (byte start len : ℕ) → Answer
-  refused : (number : ℕ) → Answer
+-- An entry's byte, the index at which its data starts and how long that is.
+pub data Extent : Type 0 where
+  found : (byte start len : ℕ) → Extent
 
 -- The n-th of entries, the first of which stands at index `at`.
-unfoldable pub nthOf : (limit at : ℕ) → List Entry → ℕ → Answer
+unfoldable pub nthOf : (limit at : ℕ) → List Entry → ℕ → Answer Extent
 nthOf limit at [] n = refused 15
-nthOf limit at (e ∷ es) zero = found (e .byte) (at + headOf limit (e .byte)) (length (e .body))
+nthOf limit at (e ∷ es) zero = result (found (e .byte) (at + headOf limit (e .byte)) (length (e .body)))
 nthOf limit at (e ∷ es) (suc n) = nthOf limit (at + length (bytesOf limit e)) es n
 
 -- All counts first (7), then whether there is an n-th (15).
-unfoldable pub nthIn : (limit at : ℕ) → Parsed → ℕ → Answer
+unfoldable pub nthIn : (limit at : ℕ) → Parsed → ℕ → Answer Extent
 nthIn limit at unsound n = refused 7
 nthIn limit at (sound es) n = nthOf limit at es n

@@ -3,8 +3,9 @@ use Prim.Native.Nat.{ℕ, _+_, _-_, _≤_, _<_, _^_}
 use mathlib.Core.List.{List}
 use lib.Dec.{leb, ltb}
 use lib.ListN.{length, getD}
-use Rattle.packing.specs.Choice.{pick}
-use Rattle.command.specs.Entries.{Parsed, unsound, sound, Answer, found, refused}
+use Rattle.lists.specs.Choice.{pick}
+use Rattle.command.specs.Entries.{Parsed, unsound, sound, found, Extent}
+use Rattle.answer.specs.Answer.{Answer, result, refused}
 use Rattle.command.specs.declared.entries.Cursor.{Cursor}
 use Rattle.command.specs.declared.entries.Step.{Step}
 use Rattle.command.specs.declared.entries.Step.the-variants.{End, Broken, Entry}
@@ -24,16 +25,16 @@ stepAt limit s at =
     End
 
 -- An answer, where what follows is sound.
-unfoldable pub ifSound : Parsed → Answer → Answer
+unfoldable pub ifSound : Parsed → Answer Extent → Answer Extent
 ifSound unsound a = refused 7
 ifSound (sound es) a = a
 
 -- What an answer names stands within the contents.
-abbrev pub Within : List ℕ → Answer → Type 0
-Within s (found b start len) = start + len ≤ length s
+abbrev pub Within : List ℕ → Answer Extent → Type 0
+Within s (result (found b start len)) = start + len ≤ length s
 Within s (refused n) = Unit {0}
 
 -- A place further on by a number is still a usize.
-abbrev pub Fits : ℕ → Answer → Type 0
-Fits by (found b start len) = by + start < 2 ^ 64
+abbrev pub Fits : ℕ → Answer Extent → Type 0
+Fits by (result (found b start len)) = by + start < 2 ^ 64
 Fits by (refused n) = Unit {0}

@@ -2,15 +2,16 @@
 use Prim.Native.Nat.{ℕ, zero, suc, _+_}
 use mathlib.Core.List.{List}
 use lib.ListN.{drop}
-use Rattle.command.specs.Entries.{commands, parse, Answer, found, refused, nthIn}
+use Rattle.command.specs.Entries.{commands, parse, found, nthIn, Extent}
+use Rattle.answer.specs.Answer.{Answer, result, refused}
 
 -- The command at a place: the first of the bytes from there on, all of whose counts are checked first. At the end and past it there is none.
-unfoldable pub commandAt : List ℕ → (at : ℕ) → Answer
+unfoldable pub commandAt : List ℕ → (at : ℕ) → Answer Extent
 commandAt s at = nthIn commands at (parse commands (drop at s) 0) 0
 
 -- Where an answer at a place leads: past the command's data; nowhere after a refusal.
-abbrev pub past : ℕ → Answer → ℕ
-past at (found b start len) = start + len
+abbrev pub past : ℕ → Answer Extent → ℕ
+past at (result (found b start len)) = start + len
 past at (refused k) = at
 
 unfoldable pub placeAfter : List ℕ → (at : ℕ) → ℕ

@@ -1,5 +1,5 @@
 // "Byte, count, data", the one shape of long commands and of a reply's items: bytes below a limit are followed by a count.
-use refusal::Refusal;
+use answer::Refusal;
 ghost use mathlib.Core.Path.{_≡_};
 ghost use lib.ListN.{take, drop};
 ghost use Rattle.command.specs.Entries.{parse, nthIn, found};

@@ -4,12 +4,13 @@ pub mod cursor;
 pub mod entries;
 pub mod walk;
 
+use answer::Refusal;
 use entries::Cursor;
 use entries::Found;
-use refusal::Refusal;
 ghost use mathlib.Core.Path.{_≡_};
 ghost use Prim.Native.Nat.{_+_, _≤_};
 ghost use lib.ListN.{length};
+ghost use Rattle.answer.specs.Answer.{result};
 ghost use Rattle.command.specs.Entries.{found};
 ghost use Rattle.command.specs.Answers.{foundMeans, partOf};
 ghost use Rattle.command.specs.Commands.{isWrapper, nthCommand, shifted, inside, nthInside};
@@ -78,7 +79,7 @@ pub fn is_wrapper(byte: u8) -> bool
 // The n-th command inside a command of the top list. A list inside is walked as a top list is, so no byte of it is a wrapper.
 fn inner(contents: &[u8], byte: u8, start: usize, len: usize, n: usize) -> Found
     requires { ⌜ start + len ≤ length (now contents) ⌝ }
-    ensures { λ r. ⌜ foundMeans r ≡ inside (now (contents .entry)) (found byte start len) n ⌝ }
+    ensures { λ r. ⌜ foundMeans r ≡ inside (now (contents .entry)) (result (found byte start len)) n ⌝ }
 {
     if is_wrapper(byte) {
         let list = entries::part(contents, start, len);

@@ -7,7 +7,7 @@ use native.Mathlib.Omega.{arith}
 use lib.Bits.{bitXor, xor-self, xor-comm, xor-zero-l, xor-zero-r, xor-shr, xor-mod, xor-shifted, xor-add-and, and-le-l, and-le-r}
 use lib.ListN.{length, getD, take, drop, length-drop, drop-of-length-le}
 use lib.Seq.{take-suc, drop-cons, take-all, getD-drop}
-use Rattle.packing.proofs.Lists.{last-apart}
+use Rattle.lists.proofs.Lists.{last-apart}
 use Rattle.frame.specs.Checksum.{sumFrom, checksum}
 use Rattle.frame.specs.Verdict.{contentsIn, lastOf}
 

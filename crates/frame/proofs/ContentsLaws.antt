@@ -1,10 +1,11 @@
 -- Laws of a sound body's contents, copied out or brought to the front of the body itself.
 use borrow.Author.Tests.{leb-true}
 use lib.ListN.{length-drop, length, getD, take, drop, length-append, take-append-drop}
-use Rattle.frame.specs.Verdict.{judge, judgeBytes, frameIn, addressCount, lastOf, contentsIn, Verdict, accepted, refused, kindOf, bodyOf, isTerminated, verdict}
+use Rattle.frame.specs.Verdict.{judge, judgeBytes, frameIn, addressCount, lastOf, contentsIn, Verdict, kindOf, bodyOf, isTerminated, verdict}
+use Rattle.answer.specs.Answer.{result, refused}
 use Prim.Native.Nat.{_-_, ℕ, _+_, _≤_}
 use lib.Dec.{leb, eqb}
-use Rattle.packing.proofs.Cases.{by-bool}
+use Rattle.lists.proofs.Cases.{by-bool}
 use Rattle.frame.specs.Stuffing.{Unstuffed, badEscape, bytes, unstuff}
 use Rattle.frame.specs.declared.Kind.the-variants.{Standard, Extended}
 use Rattle.frame.proofs.StuffingLaws.{unstuff-shrinks, unstuff-same}
@@ -13,8 +14,8 @@ use mathlib.Core.Bool.{false}
 use mathlib.Core.List.{List, [], _∷_, _++_}
 use native.Mathlib.Omega.{arith}
 use lib.Seq.{take-at, length-take-le}
-use Rattle.packing.specs.Splice.{splice}
-use Rattle.packing.proofs.Lists.{back-in}
+use Rattle.lists.specs.Splice.{splice}
+use Rattle.lists.proofs.Lists.{back-in}
 use Rattle.frame.specs.Checksum.{checksum}
 use Rattle.frame.specs.Frame.{Frame, contentsOf, standard, extended}
 use Rattle.frame.specs.Answers.{leftIn, judgeAnswer, frameRead}
@@ -61,7 +62,7 @@ pub left-refused : (v : Verdict) (s : List ℕ) (n : ℕ) → v ≡ refused n �
 unfolding leftIn
 left-refused v s n q = ap (λ (w : Verdict). leftIn w s) (sym q)
 
-pub left-accepted : (v : Verdict) (s last : List ℕ) (f : Frame) → v ≡ accepted f → last ≡ contentsOf f ++ drop (length (contentsOf f)) s → last ≡ leftIn v s
+pub left-accepted : (v : Verdict) (s last : List ℕ) (f : Frame) → v ≡ result f → last ≡ contentsOf f ++ drop (length (contentsOf f)) s → last ≡ leftIn v s
 unfolding leftIn
 left-accepted v s last f q e = e ∙ ap (λ (w : Verdict). leftIn w s) (sym q)
 
@@ -69,14 +70,14 @@ left-accepted v s last f q e = e ∙ ap (λ (w : Verdict). leftIn w s) (sym q)
 pub left-whole : (v : Verdict) (s : List ℕ) → frameRead (judgeAnswer v) (leftIn v s) ≡ v
 unfolding judgeAnswer leftIn frameRead contentsOf
 left-whole (refused n) s = refl
-left-whole (accepted (standard c)) s = ap (λ (l : List ℕ). accepted (standard l)) (take-at c (drop (length c) s) (length c) refl)
-left-whole (accepted (extended to from c)) s = ap (λ (l : List ℕ). accepted (extended to from l)) (take-at c (drop (length c) s) (length c) refl)
+left-whole (result (standard c)) s = ap (λ (l : List ℕ). result (standard l)) (take-at c (drop (length c) s) (length c) refl)
+left-whole (result (extended to from c)) s = ap (λ (l : List ℕ). result (extended to from l)) (take-at c (drop (length c) s) (length c) refl)
 
 -- a part that was judged, in the whole
 pub left-part : (v : Verdict) (s last : List ℕ) (n : ℕ) → n ≤ length s → length last ≡ n → last ≡ leftIn v (take n s) → last ++ drop n s ≡ leftIn v s
 unfolding leftIn
 left-part (refused m) s last n h l e = ap (λ (x : List ℕ). x ++ drop n s) e ∙ take-append-drop n s
-left-part (accepted f) s last n h l e =
+left-part (result f) s last n h l e =
     back-in s last (contentsOf f) n h (omega (arith, ap length e, length-append (contentsOf f) (drop (length (contentsOf f)) (take n s)))) e
 
 -- ---- the length is kept
@@ -90,24 +91,24 @@ frame-shorter Standard u = take-shorter (length u - 1) u
 frame-shorter Extended u = omega (arith, take-shorter (length u - 3) (drop 2 u), length-drop 2 u)
 
 -- the contents of a body that is accepted are no longer than the body, which is within the limit
-judge-shrinks : (kind : Kind) (body : List ℕ) (f : Frame) → judge kind body ≡ accepted f → (length (contentsOf f) ≤ length body) × (length body ≤ 118)
+judge-shrinks : (kind : Kind) (body : List ℕ) (f : Frame) → judge kind body ≡ result f → (length (contentsOf f) ≤ length body) × (length body ≤ 118)
 unfolding judge judgeBytes bytesOf
 judge-shrinks kind body f e =
     by-bool (leb (length body + 2) 120)
     (λ l. (of-bytes (unstuff false body) (simp l at e) (unstuff-shrinks false body), omega (arith, leb-true (length body + 2) 120 l)))
-    (λ l. let q : refused 2 ≡ accepted f = simp l at e in
+    (λ l. let q : refused 2 ≡ result f = simp l at e in
     let z : _≡_ {A = ℕ} 0 1 = cc in absurd (omega arith))
   where
-    of-bytes : (r : Unstuffed) → judgeBytes kind r ≡ accepted f → length (bytesOf r) ≤ length body → length (contentsOf f) ≤ length body
+    of-bytes : (r : Unstuffed) → judgeBytes kind r ≡ result f → length (bytesOf r) ≤ length body → length (contentsOf f) ≤ length body
     of-bytes badEscape e h = let z : _≡_ {A = ℕ} 0 1 = cc in absurd (omega arith)
     of-bytes (bytes u) e h =
         by-bool (leb (addressCount kind + 1) (length u))
         (λ y. by-bool (eqb (lastOf u) (checksum (contentsIn (addressCount kind) u)))
-        (λ s. let q : accepted (frameIn kind u) ≡ accepted f = simp (y, s) at e in
+        (λ s. let q : result (frameIn kind u) ≡ result f = simp (y, s) at e in
         let g : frameIn kind u ≡ f = cc in omega (arith, frame-shorter kind u, ap (λ (x : Frame). length (contentsOf x)) g))
-        (λ s. let q : refused 5 ≡ accepted f = simp (y, s) at e in
+        (λ s. let q : refused 5 ≡ result f = simp (y, s) at e in
         let z : _≡_ {A = ℕ} 0 1 = cc in absurd (omega arith)))
-        (λ y. let q : refused 4 ≡ accepted f = simp y at e in
+        (λ y. let q : refused 4 ≡ result f = simp y at e in
         let z : _≡_ {A = ℕ} 0 1 = cc in absurd (omega arith))
 
 -- bytes that were judged in place are as many as they were
@@ -117,14 +118,14 @@ left-length kind n s = of-verdict (judge kind (take n s)) refl
   where
     of-verdict : (v : Verdict) → judge kind (take n s) ≡ v → length (leftIn v s) ≡ length s
     of-verdict (refused m) e = refl
-    of-verdict (accepted f) e =
+    of-verdict (result f) e =
         omega (arith, length-append (contentsOf f) (drop (length (contentsOf f)) s), length-drop (length (contentsOf f)) s, judge-shrinks kind (take n s) f e .0, take-shorter n s)
 
 -- the contents of a frame that is accepted are at most the bytes that may stand between flags
-pub accepted-short : (w : List ℕ) (f : Frame) → verdict w ≡ accepted f → length (contentsOf f) ≤ 118
+pub accepted-short : (w : List ℕ) (f : Frame) → verdict w ≡ result f → length (contentsOf f) ≤ 118
 unfolding verdict
 accepted-short w f e =
     by-bool (isTerminated w)
     (λ y. let j = judge-shrinks (kindOf (getD w 0 0)) (bodyOf w) f (simp y at e) in omega (arith, j .0, j .1))
-    (λ y. let q : refused 6 ≡ accepted f = simp y at e in
+    (λ y. let q : refused 6 ≡ result f = simp y at e in
     let z : _≡_ {A = ℕ} 0 1 = cc in absurd (omega arith))

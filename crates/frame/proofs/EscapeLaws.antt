@@ -11,10 +11,10 @@ use lib.Dec.{leb, eqb}
 use lib.ListN.{length, getD, take, drop, drop-of-length-le}
 use lib.Seq.{drop-cons}
 use borrow.Author.Tests.{leb-true, leb-false, eqb-true, eqb-false, ne-eqb}
-use Rattle.packing.specs.Choice.{pick, within, noneOf, countOf}
-use Rattle.packing.proofs.Cases.{by-bool}
-use Rattle.packing.proofs.Lists.{drop-two, last-apart}
-use Rattle.packing.proofs.Tests.{within-yes, within-true, mark-all, count-last, count-none}
+use Rattle.lists.specs.Choice.{pick, within, noneOf, countOf}
+use Rattle.lists.proofs.Cases.{by-bool}
+use Rattle.lists.proofs.Lists.{drop-two, last-apart}
+use Rattle.lists.proofs.Tests.{within-yes, within-true, mark-all, count-last, count-none}
 use Rattle.frame.specs.Stuffing.{Unstuffed, badEscape, bytes, prepend, unstuff}
 use Rattle.frame.specs.Checksum.{sumFrom, checksum}
 use Rattle.frame.specs.Steps.{isSound, goodPair, lowerByte, lowered, scanFrom, bytesOf}

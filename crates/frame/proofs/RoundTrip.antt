@@ -2,18 +2,19 @@
 use lib.ListN.{take, drop, length, getD, length-append}
 use mathlib.Core.Path.{refl, _≡_, sym, ap, _∙_}
 use lib.Dec.{leb}
-use Rattle.packing.proofs.Cases.{by-bool}
-use Rattle.packing.specs.Draft.{draft, noDraft, wrote, draftAnswer, draftOut}
-use Rattle.packing.proofs.Drafts.{written-first}
+use Rattle.lists.proofs.Cases.{by-bool}
+use Rattle.answer.specs.Answer.{result, refused}
+use Rattle.answer.specs.Draft.{draftAnswer, draftOut}
+use Rattle.answer.proofs.Drafts.{written-first}
 use borrow.Author.Tests.{leb-true, le-leb, eq-eqb}
-use Rattle.frame.specs.Verdict.{Verdict, refused, accepted, addressCount, contentsIn, lastOf, frameIn, judgeBytes, verdict}
+use Rattle.frame.specs.Verdict.{Verdict, addressCount, contentsIn, lastOf, frameIn, judgeBytes, verdict}
 use Rattle.frame.specs.Answers.{frameDraft, readAnswer, readOut, frameRead}
 use Prim.Native.Nat.{ℕ, _+_, _-_, _≤_}
 use mathlib.Core.Bool.{false}
 use mathlib.Core.List.{List, [], _∷_, _++_}
 use native.Mathlib.Omega.{arith}
 use lib.Seq.{take-at, getD-at}
-use Rattle.packing.proofs.Lists.{drop-two}
+use Rattle.lists.proofs.Lists.{drop-two}
 use Rattle.frame.specs.Stuffing.{stuff, bytes}
 use Rattle.frame.specs.Checksum.{checksum}
 use Rattle.frame.specs.Frame.{Frame, standard, extended, contentsOf, startOf, addressesOf, payload, wireOf}
@@ -36,7 +37,7 @@ unfolding startOf
 start-of (standard c) = refl
 start-of (extended to from c) = refl
 
-judge-payload : (f : Frame) → judgeBytes (kindOfFrame f) (bytes (payload f)) ≡ accepted f
+judge-payload : (f : Frame) → judgeBytes (kindOfFrame f) (bytes (payload f)) ≡ result f
 unfolding judgeBytes payload addressesOf contentsOf frameIn
 judge-payload (standard c) =
     let u = c ++ (checksum c ∷ []) in
@@ -52,7 +53,7 @@ judge-payload (extended to from c) =
     simp (le-leb 3 (length u) (omega arith), q, p, eq-eqb (checksum c) (checksum c) refl)
 
 -- What is written is read back: a frame of at most 120 bytes on the wire, of either kind, is accepted as itself.
-pub reads-back : (f : Frame) → length (wireOf f) ≤ 120 → verdict (wireOf f) ≡ accepted f
+pub reads-back : (f : Frame) → length (wireOf f) ≤ 120 → verdict (wireOf f) ≡ result f
 unfolding wireOf
 reads-back f l =
     let b = stuff (payload f) in
@@ -73,7 +74,7 @@ payload-in Extended u h r = (
 )
 
 -- What is accepted, written again from what was read, gives the same bytes.
-pub writes-back : (w : List ℕ) (f : Frame) → verdict w ≡ accepted f → (wireOf f ≡ w) × (length w ≤ 120)
+pub writes-back : (w : List ℕ) (f : Frame) → verdict w ≡ result f → (wireOf f ≡ w) × (length w ≤ 120)
 unfolding wireOf
 writes-back w f e =
     let s = accepted-exactly w f .0 e in
@@ -91,40 +92,40 @@ writes-back w f e =
 -- ---- the same of the answers and the lent slices
 
 -- what reading with room leaves tells the frame, whole
-read-whole : (f : Frame) (out : List ℕ) → length (contentsOf f) ≤ length out → frameRead (readAnswer (accepted f) (length out)) (readOut (accepted f) out) ≡ accepted f
-unfolding readAnswer readOut frameRead contentsOf
+read-whole : (f : Frame) (out : List ℕ) → length (contentsOf f) ≤ length out → frameRead (readAnswer (result f) (length out)) (readOut (result f) out) ≡ result f
+unfolding readAnswer readOut draftOut frameRead contentsOf
 read-whole (standard c) out h =
-    simp (le-leb (length c) (length out) h) (ap (λ (l : List ℕ). accepted (standard l)) (take-at c (drop (length c) out) (length c) refl))
+    simp (le-leb (length c) (length out) h) (ap (λ (l : List ℕ). result (standard l)) (take-at c (drop (length c) out) (length c) refl))
 read-whole (extended to from c) out h =
-    simp (le-leb (length c) (length out) h) (ap (λ (l : List ℕ). accepted (extended to from l)) (take-at c (drop (length c) out) (length c) refl))
+    simp (le-leb (length c) (length out) h) (ap (λ (l : List ℕ). result (extended to from l)) (take-at c (drop (length c) out) (length c) refl))
 
 -- A frame that was written, read from the bytes that were written into any output with room, is told as that frame.
-pub written-reads-back : (f : Frame) (out into : List ℕ) (n : ℕ) → draftAnswer (frameDraft f) (length out) ≡ wrote n → length (contentsOf f) ≤ length into
-    → frameRead (readAnswer (verdict (take n (draftOut (frameDraft f) out))) (length into)) (readOut (verdict (take n (draftOut (frameDraft f) out))) into) ≡ accepted f
+pub written-reads-back : (f : Frame) (out into : List ℕ) (n : ℕ) → draftAnswer (frameDraft f) (length out) ≡ result n → length (contentsOf f) ≤ length into
+    → frameRead (readAnswer (verdict (take n (draftOut (frameDraft f) out))) (length into)) (readOut (verdict (take n (draftOut (frameDraft f) out))) into) ≡ result f
 unfolding frameDraft
 written-reads-back f out into n e room =
     let k = written-first (frameDraft f) out n e in
     by-bool (leb (length (wireOf f)) 120)
-    (λ y. let q : draft (wireOf f) ≡ draft (k .0) = simp y at (k .1) in
+    (λ y. let q : result (wireOf f) ≡ result (k .0) = simp y at (k .1) in
     let w : wireOf f ≡ k .0 = cc in
     ap (λ (s : List ℕ). frameRead (readAnswer (verdict s) (length into)) (readOut (verdict s) into)) (k .3 ∙ sym w)
     ∙ ap (λ (v : Verdict). frameRead (readAnswer v (length into)) (readOut v into)) (reads-back f (leb-true _ _ y))
     ∙ read-whole f into room)
-    (λ y. let q : noDraft 2 ≡ draft (k .0) = simp y at (k .1) in
+    (λ y. let q : refused 2 ≡ result (k .0) = simp y at (k .1) in
     let x : _≡_ {A = ℕ} 0 1 = cc in absurd (omega arith))
 
-told-accepted : (v : Verdict) (out : List ℕ) (f : Frame) → frameRead (readAnswer v (length out)) (readOut v out) ≡ accepted f → v ≡ accepted f
-unfolding readAnswer readOut frameRead
+told-accepted : (v : Verdict) (out : List ℕ) (f : Frame) → frameRead (readAnswer v (length out)) (readOut v out) ≡ result f → v ≡ result f
+unfolding readAnswer readOut draftOut frameRead
 told-accepted (refused n) out f e = e
-told-accepted (accepted g) out f e =
+told-accepted (result g) out f e =
     by-bool (leb (length (contentsOf g)) (length out))
     (λ y. sym (read-whole g out (leb-true _ _ y)) ∙ e)
-    (λ n. let q : refused 1 ≡ accepted f = simp n at e in
+    (λ n. let q : refused 1 ≡ result f = simp n at e in
     let x : _≡_ {A = ℕ} 0 1 = cc in absurd (omega arith))
 
 -- A slice that was read as a frame, written again from what was told into any output with room, gives the slice's bytes.
-pub read-writes-back : (w out into : List ℕ) (f : Frame) → frameRead (readAnswer (verdict w) (length out)) (readOut (verdict w) out) ≡ accepted f → length w ≤ length into
-    → (draftAnswer (frameDraft f) (length into) ≡ wrote (length w)) × (draftOut (frameDraft f) into ≡ w ++ drop (length w) into)
+pub read-writes-back : (w out into : List ℕ) (f : Frame) → frameRead (readAnswer (verdict w) (length out)) (readOut (verdict w) out) ≡ result f → length w ≤ length into
+    → (draftAnswer (frameDraft f) (length into) ≡ result (length w)) × (draftOut (frameDraft f) into ≡ w ++ drop (length w) into)
 unfolding frameDraft draftAnswer draftOut
 read-writes-back w out into f e room =
     let b = writes-back w f (told-accepted (verdict w) out f e) in

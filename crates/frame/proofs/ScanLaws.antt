@@ -10,8 +10,8 @@ use lib.Dec.{leb, ltb, eqb}
 use lib.ListN.{length, getD, take, drop, set, length-drop, length-set, drop-of-length-le}
 use lib.Seq.{drop-cons, length-take-le}
 use borrow.Author.Tests.{leb-true, leb-false, ltb-true, ltb-false, eqb-true, eqb-false, lt-leb, le-leb, lt-ltb, le-ltb, eq-eqb, ne-eqb}
-use Rattle.packing.proofs.Cases.{by-bool}
-use Rattle.packing.proofs.Lists.{drop-two, fill, get-behind}
+use Rattle.lists.proofs.Cases.{by-bool}
+use Rattle.lists.proofs.Lists.{drop-two, fill, get-behind}
 use Rattle.frame.specs.Stuffing.{Unstuffed, badEscape, bytes, prepend, unstuff}
 use Rattle.frame.specs.Steps.{nextAt, bytesOf}
 use Rattle.frame.specs.declared.candidate.Next.{Next}

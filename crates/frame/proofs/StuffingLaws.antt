@@ -10,11 +10,11 @@ use lib.Dec.{leb, eqb}
 use lib.ListN.{length, getD, take, drop, length-append, take-append-drop}
 use lib.Seq.{take-suc, take-all}
 use borrow.Author.Tests.{leb-true, leb-false, eqb-true, eqb-false, lt-leb, le-leb, ne-eqb}
-use Rattle.packing.specs.Choice.{pick, within, noneOf, countOf}
-use Rattle.packing.specs.Splice.{splice}
-use Rattle.packing.proofs.Cases.{by-bool}
-use Rattle.packing.proofs.Tests.{within-yes, within-true, none-append}
-use Rattle.packing.proofs.Splices.{splice-nil, splice-splice, length-splice}
+use Rattle.lists.specs.Choice.{pick, within, noneOf, countOf}
+use Rattle.lists.specs.Splice.{splice}
+use Rattle.lists.proofs.Cases.{by-bool}
+use Rattle.lists.proofs.Tests.{within-yes, within-true, none-append}
+use Rattle.lists.proofs.Splices.{splice-nil, splice-splice, length-splice}
 use Rattle.frame.specs.Stuffing.{isFlag, isStuffed, stuffByte, stuff, Unstuffed, badEscape, bytes, prepend, unstuff, flagless}
 use Rattle.frame.specs.Steps.{bytesOf}
 

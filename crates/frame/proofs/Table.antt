@@ -1,6 +1,6 @@
 -- Which verdict is given exactly when: document 01's table of refusals, and demand 2's "accepted exactly when".
 use Rattle.frame.specs.Frame.{contentsOf, Frame}
-use Rattle.frame.specs.Answers.{ReadAnswer, readAnswer}
+use Rattle.frame.specs.Answers.{readAnswer, FrameOutline}
 use Rattle.frame.specs.Conditions.{ReadJudged, refusedBy, noRoom, fits, FlagFree, Terminated, WithinLimit, EscapesSound, Unstuffs, none, plain, escape, fewest, Sound, Judged, truncated, long, badEscape as badEscapes, short, badSum, sound}
 use Prim.Native.Nat.{ℕ, zero, suc, _+_, _≤_, _<_}
 use mathlib.Core.Path.{_≡_, refl, sym, ap, _∙_, subst}
@@ -11,12 +11,13 @@ use native.Mathlib.Omega.{arith}
 use lib.Dec.{leb, eqb}
 use lib.ListN.{length, getD}
 use borrow.Author.Tests.{leb-true, leb-false, eqb-true, eqb-false, lt-leb, le-leb, ne-eqb}
-use Rattle.packing.specs.Choice.{pick}
-use Rattle.packing.proofs.Cases.{by-bool}
-use Rattle.packing.proofs.Tests.{none-at, at-none}
+use Rattle.lists.specs.Choice.{pick}
+use Rattle.lists.proofs.Cases.{by-bool}
+use Rattle.lists.proofs.Tests.{none-at, at-none}
 use Rattle.frame.specs.Stuffing.{isFlag, Unstuffed, badEscape, bytes, prepend, unstuff, flagless}
 use Rattle.frame.specs.Checksum.{checksum}
-use Rattle.frame.specs.Verdict.{Verdict, accepted, refused, kindOf, addressCount, contentsIn, lastOf, frameIn, judge, bodyOf, isTerminated, verdict}
+use Rattle.frame.specs.Verdict.{Verdict, kindOf, addressCount, contentsIn, lastOf, frameIn, judge, bodyOf, isTerminated, verdict}
+use Rattle.answer.specs.Answer.{result, refused, Answer}
 use Rattle.frame.specs.declared.Kind.{Kind}
 use Rattle.frame.specs.declared.Kind.the-variants.{Standard, Extended}
 use Rattle.frame.proofs.StuffingLaws.{prepend-inv}
@@ -135,7 +136,7 @@ table-verdict w v (sound f s) =
     let t = s .candidate in
     of-body w t
     ∙ judge-sound (t .kind) (t .body) (omega (arith, long-as w t, s .limit)) (s .unstuffed) (unstuffs-bytes (s .unstuffs)) (omega (arith, s .enough, fewest-is (t .kind))) (s .sum)
-    ∙ ap accepted (sym (s .frame))
+    ∙ ap result (sym (s .frame))
 
 -- every slice has a line of the table
 some-line : (w : List ℕ) → (v : Verdict) × Judged w v
@@ -159,7 +160,7 @@ some-line w =
         by-bool (leb (fewest (t .kind)) (length u))
         (λ k. by-bool (eqb (lastOf u) (checksum (contentsIn (addressCount (t .kind)) u)))
         (λ q. (
-          accepted (frameIn (t .kind) u),
+          result (frameIn (t .kind) u),
           sound (frameIn (t .kind) u)
               (record { candidate = t; limit = l; escapes = g; unstuffed = u; unstuffs = x; enough = leb-true _ _ k; sum = eqb-true _ _ q; frame = refl }),
         ))
@@ -174,10 +175,10 @@ verdict-by-table w v = (
 )
 
 -- Accepted exactly when every condition holds, and then as that frame.
-pub accepted-exactly : (w : List ℕ) (f : Frame) → (verdict w ≡ accepted f → Sound w f) × (Sound w f → verdict w ≡ accepted f)
-accepted-exactly w f = ((λ e. found (accepted f) (verdict-by-table w (accepted f) .0 e) f refl), (λ s. table-verdict w (accepted f) (sound f s)))
+pub accepted-exactly : (w : List ℕ) (f : Frame) → (verdict w ≡ result f → Sound w f) × (Sound w f → verdict w ≡ result f)
+accepted-exactly w f = ((λ e. found (result f) (verdict-by-table w (result f) .0 e) f refl), (λ s. table-verdict w (result f) (sound f s)))
   where
-    found : (v : Verdict) → Judged w v → (f : Frame) → v ≡ accepted f → Sound w f
+    found : (v : Verdict) → Judged w v → (f : Frame) → v ≡ result f → Sound w f
     found v (truncated n) f e = let z : _≡_ {A = ℕ} 0 1 = cc in absurd (omega arith)
     found v (long t n) f e = let z : _≡_ {A = ℕ} 0 1 = cc in absurd (omega arith)
     found v (badEscapes t l n) f e = let z : _≡_ {A = ℕ} 0 1 = cc in absurd (omega arith)
@@ -190,21 +191,21 @@ accepted-exactly w f = ((λ e. found (accepted f) (verdict-by-table w (accepted 
 told-by : (w : List ℕ) (room : ℕ) (v : Verdict) → Judged w v → ReadJudged w room (readAnswer v room)
 unfolding readAnswer
 told-by w room (refused n) j = refusedBy j
-told-by w room (accepted f) j =
-    let s = accepted-exactly w f .0 (table-verdict w (accepted f) j) in
+told-by w room (result f) j =
+    let s = accepted-exactly w f .0 (table-verdict w (result f) j) in
     by-bool (leb (length (contentsOf f)) room)
-    (λ y. subst (λ (a : ReadAnswer). ReadJudged w room a) (simp y) (fits s (leb-true _ _ y)))
-    (λ n. subst (λ (a : ReadAnswer). ReadJudged w room a) (simp n) (noRoom s (leb-false _ _ n)))
+    (λ y. subst (λ (a : Answer FrameOutline). ReadJudged w room a) (simp y) (fits s (leb-true _ _ y)))
+    (λ n. subst (λ (a : Answer FrameOutline). ReadJudged w room a) (simp n) (noRoom s (leb-false _ _ n)))
 
-by-told : (w : List ℕ) (room : ℕ) (a : ReadAnswer) → ReadJudged w room a → readAnswer (verdict w) room ≡ a
+by-told : (w : List ℕ) (room : ℕ) (a : Answer FrameOutline) → ReadJudged w room a → readAnswer (verdict w) room ≡ a
 unfolding readAnswer
 by-told w room a (refusedBy {n = n} j) = ap (λ (v : Verdict). readAnswer v room) (table-verdict w (refused n) j)
 by-told w room a (noRoom {f = f} s h) = ap (λ (v : Verdict). readAnswer v room) (accepted-exactly w f .1 s) ∙ simp (lt-leb (length (contentsOf f)) room h)
 by-told w room a (fits {f = f} s h) = ap (λ (v : Verdict). readAnswer v room) (accepted-exactly w f .1 s) ∙ simp (le-leb (length (contentsOf f)) room h)
 
 -- Every answer to reading a slice is given exactly when the table gives it, 1 included.
-pub read-by-table : (w : List ℕ) (room : ℕ) (a : ReadAnswer) → (readAnswer (verdict w) room ≡ a → ReadJudged w room a) × (ReadJudged w room a → readAnswer (verdict w) room ≡ a)
+pub read-by-table : (w : List ℕ) (room : ℕ) (a : Answer FrameOutline) → (readAnswer (verdict w) room ≡ a → ReadJudged w room a) × (ReadJudged w room a → readAnswer (verdict w) room ≡ a)
 read-by-table w room a = (
-  (λ e. subst (λ (x : ReadAnswer). ReadJudged w room x) e (told-by w room (verdict w) (verdict-by-table w (verdict w) .0 refl))),
+  (λ e. subst (λ (x : Answer FrameOutline). ReadJudged w room x) e (told-by w room (verdict w) (verdict-by-table w (verdict w) .0 refl))),
   by-told w room a,
 )

@@ -9,16 +9,18 @@ use lib.Dec.{leb, eqb}
 use lib.ListN.{length, getD, drop, length-append, length-drop}
 use lib.Seq.{take-at, getD-at, take-suc, take-all, getD-drop, drop-cons}
 use borrow.Author.Tests.{leb-true, eqb-true, eqb-false, lt-leb, le-leb, eq-eqb, ne-eqb}
-use Rattle.packing.specs.Choice.{within, noneOf}
-use Rattle.packing.proofs.Cases.{by-bool, both-true}
-use Rattle.packing.proofs.Lists.{drop-two}
-use Rattle.packing.proofs.Tests.{within-yes, within-true, none-drop, none-stronger}
+use Rattle.lists.specs.Choice.{within, noneOf}
+use Rattle.lists.proofs.Cases.{by-bool, both-true}
+use Rattle.lists.proofs.Lists.{drop-two}
+use Rattle.lists.proofs.Tests.{within-yes, within-true, none-drop, none-stronger}
 use Rattle.frame.specs.Stuffing.{isFlag, isStuffed, Unstuffed, badEscape, bytes, prepend, unstuff, flagless}
 use Rattle.frame.specs.Checksum.{sumFrom, checksum}
 use Rattle.frame.specs.Frame.{Frame, contentsOf}
-use Rattle.frame.specs.Verdict.{Verdict, accepted, refused, kindOf, addressCount, contentsIn, lastOf, frameIn, judgeBytes, judge, bodyOf, isTerminated, verdict}
+use Rattle.frame.specs.Verdict.{Verdict, kindOf, addressCount, contentsIn, lastOf, frameIn, judgeBytes, judge, bodyOf, isTerminated, verdict}
+use Rattle.answer.specs.Answer.{result, refused}
+use Rattle.answer.specs.Draft.{draftOut}
 use Rattle.frame.specs.Conditions.{startFlag}
-use Rattle.frame.specs.Answers.{notRead, headerOf, judgeAnswer, readAnswer, readOut}
+use Rattle.frame.specs.Answers.{outlineOf, judgeAnswer, readAnswer, readOut}
 use Rattle.frame.specs.Steps.{isBounded, frameOf, kindIn, headed, readAs, scanFrom, bytesOf, SoundAt, Unescaped, UnescapedAfter, Examines, judgeWhole, ExaminesWhole}
 use Rattle.frame.specs.declared.Kind.{Kind}
 use Rattle.frame.specs.declared.Kind.the-variants.{Standard, Extended}
@@ -145,7 +147,7 @@ module _ (kind : Kind) (body : List ℕ) (limit : length body ≤ 118) where
     unfolding judgeBytes
     judge-sum h n = judge-bytes ∙ ap (judgeBytes kind) e ∙ simp (le-leb (addressCount kind + 1) (length u) h, ne-eqb (lastOf u) (checksum (contentsIn (addressCount kind) u)) n)
 
-    pub judge-sound : addressCount kind + 1 ≤ length u → lastOf u ≡ checksum (contentsIn (addressCount kind) u) → judge kind body ≡ accepted (frameIn kind u)
+    pub judge-sound : addressCount kind + 1 ≤ length u → lastOf u ≡ checksum (contentsIn (addressCount kind) u) → judge kind body ≡ result (frameIn kind u)
     unfolding judgeBytes
     judge-sound h q = judge-bytes ∙ ap (judgeBytes kind) e ∙ simp (le-leb (addressCount kind + 1) (length u) h, eq-eqb (lastOf u) (checksum (contentsIn (addressCount kind) u)) q)
 
@@ -233,7 +235,7 @@ module _ (h : Header) (body : List ℕ) (next : ℕ) (limit : length body ≤ 11
           sym (under-drop h rest) ∙ contents-last skip (under h rest) long ∙ ap (λ (b : ℕ). c ++ (b ∷ [])) right in
           record {
             contents = c;
-            judged = judge-sound (kindIn h) body limit (under h rest) all (omega (arith, long)) right ∙ ap accepted (under-frame h rest (omega (arith, scanned .1)));
+            judged = judge-sound (kindIn h) body limit (under h rest) all (omega (arith, long)) right ∙ ap result (under-frame h rest (omega (arith, scanned .1)));
             counted = omega (arith, ap length parts, length-append c (checksum c ∷ []), scanned .1);
             follows = scanned .0 ∙ ap bytes parts;
             inside = inside;
@@ -300,7 +302,7 @@ module _ (header : Header) (body : List ℕ) (start sum : ℕ) (p : UnescapedAft
 
 -- ---- the answers of a reader and of a judge
 
-pub header-as : (h : Header) (c : List ℕ) (len : ℕ) → length c ≡ len → readAs h len ≡ headerOf (frameOf h c)
+pub header-as : (h : Header) (c : List ℕ) (len : ℕ) → length c ≡ len → readAs h len ≡ result (outlineOf (frameOf h c))
 header-as Plain c len e = ap (readAs Plain) (sym e)
 header-as (Addressed to from) c len e = ap (readAs (Addressed to from)) (sym e)
 
@@ -309,29 +311,29 @@ unfolding contentsOf
 contents-of Plain c = refl
 contents-of (Addressed to from) c = refl
 
-pub judge-refused : (v : Verdict) (n : ℕ) → v ≡ refused n → notRead n ≡ judgeAnswer v
+pub judge-refused : (v : Verdict) (n : ℕ) → v ≡ refused n → refused n ≡ judgeAnswer v
 unfolding judgeAnswer
 judge-refused v n e = ap judgeAnswer (sym e)
 
-pub judge-accepted : (v : Verdict) (f : Frame) → v ≡ accepted f → headerOf f ≡ judgeAnswer v
+pub judge-accepted : (v : Verdict) (f : Frame) → v ≡ result f → result (outlineOf f) ≡ judgeAnswer v
 unfolding judgeAnswer
 judge-accepted v f e = ap judgeAnswer (sym e)
 
-pub answer-refused : (v : Verdict) (n : ℕ) (out : List ℕ) → v ≡ refused n → (notRead n ≡ readAnswer v (length out)) × (out ≡ readOut v out)
-unfolding readAnswer readOut
+pub answer-refused : (v : Verdict) (n : ℕ) (out : List ℕ) → v ≡ refused n → (refused n ≡ readAnswer v (length out)) × (out ≡ readOut v out)
+unfolding readAnswer readOut draftOut
 answer-refused v n out e = (ap (λ (x : Verdict). readAnswer x (length out)) (sym e), ap (λ (x : Verdict). readOut x out) (sym e))
 
-pub answer-no-room : (v : Verdict) (f : Frame) (out : List ℕ) → v ≡ accepted f → length out < length (contentsOf f)
-    → (notRead 1 ≡ readAnswer v (length out)) × (out ≡ readOut v out)
-unfolding readAnswer readOut
+pub answer-no-room : (v : Verdict) (f : Frame) (out : List ℕ) → v ≡ result f → length out < length (contentsOf f)
+    → (refused 1 ≡ readAnswer v (length out)) × (out ≡ readOut v out)
+unfolding readAnswer readOut draftOut
 answer-no-room v f out e h = (
   (simp (lt-leb (length (contentsOf f)) (length out) h)) ∙ ap (λ (x : Verdict). readAnswer x (length out)) (sym e),
   (simp (lt-leb (length (contentsOf f)) (length out) h)) ∙ ap (λ (x : Verdict). readOut x out) (sym e),
 )
 
-pub answer-done : (v : Verdict) (f : Frame) (out : List ℕ) → v ≡ accepted f → length (contentsOf f) ≤ length out
-    → (headerOf f ≡ readAnswer v (length out)) × (contentsOf f ++ drop (length (contentsOf f)) out ≡ readOut v out)
-unfolding readAnswer readOut
+pub answer-done : (v : Verdict) (f : Frame) (out : List ℕ) → v ≡ result f → length (contentsOf f) ≤ length out
+    → (result (outlineOf f) ≡ readAnswer v (length out)) × (contentsOf f ++ drop (length (contentsOf f)) out ≡ readOut v out)
+unfolding readAnswer readOut draftOut
 answer-done v f out e h = (
   (simp (le-leb (length (contentsOf f)) (length out) h)) ∙ ap (λ (x : Verdict). readAnswer x (length out)) (sym e),
   (simp (le-leb (length (contentsOf f)) (length out) h)) ∙ ap (λ (x : Verdict). readOut x out) (sym e),

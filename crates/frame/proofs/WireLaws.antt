@@ -5,13 +5,13 @@ use mathlib.Core.List.{List, [], _∷_, _++_, append-assoc, append-nil}
 use native.Mathlib.Omega.{arith}
 use lib.ListN.{length, set, length-append}
 use borrow.Author.Tests.{lt-leb, le-leb}
-use Rattle.packing.specs.Splice.{splice}
-use Rattle.packing.proofs.Splices.{splice-next, set-splice}
+use Rattle.lists.specs.Splice.{splice}
+use Rattle.lists.proofs.Splices.{splice-next, set-splice}
 use Rattle.frame.specs.Stuffing.{stuffByte, stuff}
 use Rattle.frame.specs.Checksum.{checksum}
 use Rattle.frame.specs.Frame.{Frame, contentsOf, startOf, addressesOf, payload, wireOf}
 use Rattle.frame.specs.Answers.{frameDraft}
-use Rattle.packing.specs.Draft.{draft, noDraft}
+use Rattle.answer.specs.Answer.{result, refused}
 use Rattle.frame.specs.Steps.{frameOf, headerWire}
 use Rattle.frame.specs.declared.Header.{Header}
 use Rattle.frame.specs.declared.Header.the-variants.{Plain, Addressed}
@@ -52,11 +52,11 @@ header-between (Addressed to from) = omega (arith, length-append (stuffByte to) 
 
 -- ---- the draft of a frame
 
-pub draft-long : (f : Frame) → 120 < length (wireOf f) → frameDraft f ≡ noDraft 2
+pub draft-long : (f : Frame) → 120 < length (wireOf f) → frameDraft f ≡ refused 2
 unfolding frameDraft
 draft-long f h = simp (lt-leb (length (wireOf f)) 120 h)
 
-pub draft-fits : (f : Frame) → length (wireOf f) ≤ 120 → frameDraft f ≡ draft (wireOf f)
+pub draft-fits : (f : Frame) → length (wireOf f) ≤ 120 → frameDraft f ≡ result (wireOf f)
 unfolding frameDraft
 draft-fits f h = simp (le-leb (length (wireOf f)) 120 h)
 

@@ -7,8 +7,9 @@ use mathlib.Core.List.{List, [], _∷_, _++_}
 use lib.ListN.{length, getD}
 use Rattle.frame.specs.Checksum.{checksum}
 use Rattle.frame.specs.Frame.{Frame, contentsOf}
-use Rattle.frame.specs.Verdict.{Verdict, accepted, refused, contentsIn, lastOf, addressCount, frameIn}
-use Rattle.frame.specs.Answers.{ReadAnswer, notRead, headerOf}
+use Rattle.frame.specs.Verdict.{Verdict, contentsIn, lastOf, addressCount, frameIn}
+use Rattle.answer.specs.Answer.{result, refused, Answer}
+use Rattle.frame.specs.Answers.{outlineOf, FrameOutline}
 use Rattle.frame.specs.declared.Kind.{Kind}
 use Rattle.frame.specs.declared.Kind.the-variants.{Standard, Extended}
 
@@ -73,10 +74,10 @@ pub data Judged (w : List ℕ) : Verdict → Type 0 where
   short : (t : Terminated w) (u : List ℕ) → WithinLimit w → EscapesSound (t .body) → Unstuffs (t .body) u → (LongEnough (t .kind) u → ⊥) → Judged w (refused 4)
   badSum : (t : Terminated w) (u : List ℕ) → WithinLimit w → EscapesSound (t .body) → Unstuffs (t .body) u → LongEnough (t .kind) u
       → (ChecksumRight (t .kind) u → ⊥) → Judged w (refused 5)
-  sound : (f : Frame) → Sound w f → Judged w (accepted f)
+  sound : (f : Frame) → Sound w f → Judged w (result f)
 
 -- The same with the output's room, which is asked for last.
-pub data ReadJudged (w : List ℕ) (room : ℕ) : ReadAnswer → Type 0 where
-  refusedBy : {n : ℕ} → Judged w (refused n) → ReadJudged w room (notRead n)
-  noRoom : {f : Frame} → Sound w f → room < length (contentsOf f) → ReadJudged w room (notRead 1)
-  fits : {f : Frame} → Sound w f → length (contentsOf f) ≤ room → ReadJudged w room (headerOf f)
+pub data ReadJudged (w : List ℕ) (room : ℕ) : Answer FrameOutline → Type 0 where
+  refusedBy : {n : ℕ} → Judged w (refused n) → ReadJudged w room (refused n)
+  noRoom : {f : Frame} → Sound w f → room < length (contentsOf f) → ReadJudged w room (refused 1)
+  fits : {f : Frame} → Sound w f → length (contentsOf f) ≤ room → ReadJudged w room (result (outlineOf f))

@@ -5,13 +5,14 @@ use mathlib.Core.Bool.{Bool, true, false}
 use mathlib.Core.List.{List, [], _∷_, _++_}
 use lib.Dec.{leb, ltb, eqb}
 use lib.ListN.{length, getD, drop}
-use Rattle.packing.specs.Choice.{pick, within, noneOf}
-use Rattle.refusal.specs.Number.{numberOf}
+use Rattle.lists.specs.Choice.{pick, within, noneOf}
+use Rattle.answer.specs.Refusals.{numberOf}
 use Rattle.frame.specs.Stuffing.{isStuffed, stuffByte, unstuff, Unstuffed, badEscape, bytes, prepend, flagless}
 use Rattle.frame.specs.Checksum.{sumFrom, checksum}
 use Rattle.frame.specs.Frame.{Frame, standard, extended}
-use Rattle.frame.specs.Verdict.{Verdict, judge, accepted, refused, addressCount, lastOf}
-use Rattle.frame.specs.Answers.{ReadAnswer, readStandard, readExtended}
+use Rattle.frame.specs.Verdict.{Verdict, judge, addressCount, lastOf}
+use Rattle.answer.specs.Answer.{result, refused, Answer}
+use Rattle.frame.specs.Answers.{standardOutline, extendedOutline, FrameOutline}
 use Rattle.frame.specs.declared.Kind.{Kind}
 use Rattle.frame.specs.declared.Kind.the-variants.{Standard, Extended}
 use Rattle.frame.specs.declared.Header.{Header}
@@ -49,9 +50,9 @@ headerWire (Addressed to from) = 0xF0 ∷ (stuffByte to ++ stuffByte from)
 -- ---- reading
 
 -- What is answered of a header and a number of contents bytes.
-abbrev pub readAs : Header → ℕ → ReadAnswer
-readAs Plain len = readStandard len
-readAs (Addressed to from) len = readExtended to from len
+abbrev pub readAs : Header → ℕ → Answer FrameOutline
+readAs Plain len = result (standardOutline len)
+readAs (Addressed to from) len = result (extendedOutline to from len)
 
 -- Whether a list begins with a start flag and ends with the stop flag.
 unfoldable pub isBounded : List ℕ → Bool
@@ -102,7 +103,7 @@ AddressesIn kind body (Found header next) = (next ≤ length body) × (kindIn he
 -- A sound body: its frame, and where its stuffed contents stand.
 pub record SoundAt (kind : Kind) (body : List ℕ) (header : Header) (start len : ℕ) : Type 0 where
   pub contents : List ℕ
-  pub judged : judge kind body ≡ accepted (frameOf header contents)
+  pub judged : judge kind body ≡ result (frameOf header contents)
   pub counted : length contents ≡ len
   pub follows : unstuff false (drop start body) ≡ bytes (contents ++ (checksum contents ∷ []))
   pub inside : start ≤ length body

@@ -3,7 +3,7 @@ use Prim.Native.Nat.{ℕ, _+_, _-_}
 use mathlib.Core.Bool.{Bool, true, false}
 use mathlib.Core.List.{List, [], _∷_, _++_}
 use lib.Dec.{leb, eqb}
-use Rattle.packing.specs.Choice.{pick, within, noneOf}
+use Rattle.lists.specs.Choice.{pick, within, noneOf}
 
 -- A flag: F0 and F1 start a frame, F2 stops one.
 abbrev pub isFlag : ℕ → Bool

@@ -4,17 +4,17 @@ use mathlib.Core.Bool.{Bool, false}
 use mathlib.Core.List.{List}
 use lib.Dec.{leb, eqb}
 use lib.ListN.{length, getD, take, drop}
-use Rattle.packing.specs.Choice.{pick, within}
+use Rattle.lists.specs.Choice.{pick, within}
+use Rattle.answer.specs.Answer.{Answer, result, refused}
 use Rattle.frame.specs.Stuffing.{unstuff, Unstuffed, badEscape, bytes, flagless}
 use Rattle.frame.specs.Checksum.{checksum}
 use Rattle.frame.specs.Frame.{Frame, standard, extended}
 use Rattle.frame.specs.declared.Kind.{Kind}
 use Rattle.frame.specs.declared.Kind.the-variants.{Standard, Extended}
 
--- A frame, or the number of the refusal.
-pub data Verdict : Type 0 where
-  accepted : Frame → Verdict
-  refused : ℕ → Verdict
+-- A frame, or a refusal.
+abbrev pub Verdict : Type 0
+Verdict = Answer Frame
 
 -- The kind of frame that a start flag opens.
 abbrev pub kindOf : ℕ → Kind
@@ -43,7 +43,7 @@ unfoldable pub judgeBytes : Kind → Unstuffed → Verdict
 judgeBytes kind badEscape = refused 3
 judgeBytes kind (bytes u) =
     pick (leb (addressCount kind + 1) (length u))
-    (pick (eqb (lastOf u) (checksum (contentsIn (addressCount kind) u))) (accepted (frameIn kind u)) (refused 5))
+    (pick (eqb (lastOf u) (checksum (contentsIn (addressCount kind) u))) (result (frameIn kind u)) (refused 5))
     (refused 4)
 
 -- The verdict on what stands between a start flag of a kind and the stop flag: refusals 2, 3, 4 and 5.

@@ -3,8 +3,8 @@ ghost use mathlib.Core.Path.{_≡_};
 ghost use mathlib.Core.List.{_++_};
 ghost use Prim.Native.Nat.{_+_, _≤_};
 ghost use lib.ListN.{length, take, drop};
-ghost use Rattle.packing.specs.Choice.{within, noneOf, countOf};
-ghost use Rattle.packing.specs.Splice.{splice};
+ghost use Rattle.lists.specs.Choice.{within, noneOf, countOf};
+ghost use Rattle.lists.specs.Splice.{splice};
 ghost use Rattle.frame.specs.Checksum.{checksum};
 
 // What one pass over bytes finds: whether none lies between two values, and their exclusive or.
@@ -22,7 +22,7 @@ pub(crate) fn look(s: &[u8], low: u8, high: u8) -> Looked
     let mut sum: u8 = 0;
     let mut i: usize = 0;
     while i < s.len() {
-        seen = seen | packing::mark(s[i], low, high);
+        seen = seen | lists::mark(s[i], low, high);
         sum = sum ^ s[i];
         i += 1;
     }
@@ -40,7 +40,7 @@ pub(crate) fn count_within(s: &[u8], low: u8, high: u8) -> u8
     let mut count: u8 = 0;
     let mut i: usize = 0;
     while i < s.len() {
-        count = count + packing::mark(s[i], low, high);
+        count = count + lists::mark(s[i], low, high);
         i += 1;
     }
     count

@@ -2,13 +2,13 @@
 use crate::Header;
 use crate::Kind;
 use crate::bytes::Looked;
-use refusal::Refusal;
+use answer::Refusal;
 ghost use mathlib.Core.Path.{_≡_};
 ghost use mathlib.Core.Bool.{true, false};
 ghost use mathlib.Core.List.{_++_};
 ghost use Prim.Native.Nat.{_-_, _≤_};
 ghost use lib.ListN.{length, getD, take, drop};
-ghost use Rattle.packing.specs.Choice.{pick, within, countOf};
+ghost use Rattle.lists.specs.Choice.{pick, within, countOf};
 ghost use Rattle.frame.specs.Stuffing.{unstuff, prepend};
 ghost use Rattle.frame.specs.Checksum.{checksum};
 ghost use Rattle.frame.specs.Steps.{isBounded, nextAt, scanFrom, isSound, goodPair, lowerByte, lowered, bytesOf, kindIn, AddressesIn, Unescaped, Examines, ExaminesWhole};
@@ -148,7 +148,7 @@ fn escapes_sound(s: &[u8]) -> bool
 fn unsound(b: u8, after: u8) -> u8
     ensures { λ r. ⌜ r ≡ pick (goodPair b after) 0 1 ⌝ }
 {
-    packing::mark(b, ESCAPE, ESCAPE) & packing::mark(after, ESCAPED_LIMIT + 1, 0xFF)
+    lists::mark(b, ESCAPE, ESCAPE) & lists::mark(after, ESCAPED_LIMIT + 1, 0xFF)
 }
 
 // How many bytes are escapes, and the exclusive or of all with an escape taken as F0.
@@ -161,7 +161,7 @@ fn tally_escapes(s: &[u8]) -> Tally
     let mut sum: u8 = 0;
     let mut i: usize = 0;
     while i < s.len() {
-        escapes = escapes + packing::mark(s[i], ESCAPE, ESCAPE);
+        escapes = escapes + lists::mark(s[i], ESCAPE, ESCAPE);
         sum = sum ^ lower(s[i]);
         i += 1;
     }
@@ -249,7 +249,7 @@ pub(crate) fn look_plain(body: &[u8]) -> Looked
 pub(crate) fn examine_flagged(kind: Kind, body: &[u8]) -> Examined
     ensures { λ r. ⌜ ExaminesWhole kind (now (body .entry)) r ⌝ }
 {
-    if packing::none_within(body, 0xF0, 0xF2) {
+    if lists::none_within(body, 0xF0, 0xF2) {
         return examine(kind, body);
     }
     Examined::Unsound(Refusal::Truncated)

@@ -4,18 +4,19 @@ mod bytes;
 mod candidate;
 mod stuffing;
 
+use answer::Refusal;
+use answer::Written;
 use candidate::Examined;
-use refusal::Refusal;
 ghost use mathlib.Core.Path.{_≡_};
 ghost use mathlib.Core.List.{_++_};
 ghost use mathlib.Core.Bool.{false};
 ghost use Prim.Native.Nat.{_+_, _≤_};
 ghost use lib.ListN.{length, take, drop};
-ghost use Rattle.packing.specs.Draft.{draftAnswer, draftOut};
+ghost use Rattle.answer.specs.Draft.{draftAnswer, draftOut, writtenMeans};
 ghost use Rattle.frame.specs.Stuffing.{unstuff};
 ghost use Rattle.frame.specs.Frame.{standard, extended};
 ghost use Rattle.frame.specs.Verdict.{kindOf, judge, verdict};
-ghost use Rattle.frame.specs.Answers.{writtenMeans, frameDraft, readMeans, judgeAnswer, readAnswer, readOut, leftIn};
+ghost use Rattle.frame.specs.Answers.{frameDraft, readMeans, judgeAnswer, readAnswer, readOut, leftIn};
 ghost use Rattle.frame.specs.Steps.{frameOf, kindIn, readAs, bytesOf, Unescaped, UnescapedAfter};
 
 const STANDARD_START: u8 = 0xF1;
@@ -40,12 +41,6 @@ pub enum Kind {
 enum Header {
     Plain,
     Addressed { to: u8, from: u8 },
-}
-
-// The answer to writing: the length on the wire, or why nothing was written.
-pub enum Written {
-    Length(usize),
-    Refused(Refusal),
 }
 
 // The answer to reading: the kind of frame, its addresses and the number of its contents bytes, or why it was refused.
@@ -100,29 +95,14 @@ pub fn read_frame(wire: &[u8], out: &mut [u8]) -> Read
     }
 }
 
-// The verdict on what stands between a start flag of this kind and the stop flag. Refusals 2, 3, 4 and 5.
-// Whoever calls it has found the flags: a byte of the body that is one is taken as it stands.
-pub fn judge_body(kind: Kind, body: &[u8]) -> Read
-    ensures { λ r. ⌜ readMeans r ≡ judgeAnswer (judge kind (now (body .entry))) ⌝ }
-{
-    let found = candidate::examine(kind, body);
-    match found {
-        Examined::Unsound(why) => Read::Refused(why),
-        Examined::Sound {
-            header,
-            start: _,
-            len,
-        } => read_as(header, len),
-    }
-}
-
-// The same of the first `len` bytes of a slice, or of all where there are fewer. The contents of an accepted frame
-// are brought to the front; a refusal changes nothing.
+// The verdict on the first `len` bytes of a slice, or on all where there are fewer, as what stands between a start flag of this kind and
+// the stop flag: refusals 2, 3, 4 and 5. Whoever calls it has found the flags: a byte that is one is taken as it stands.
+// The contents of an accepted frame are brought to the front; a refusal changes nothing.
 pub fn judge_in_place(kind: Kind, s: &mut [u8], len: usize) -> Read
     ensures { λ r. ⌜ readMeans r ≡ judgeAnswer (judge kind (take len (now (s .entry)))) ⌝ }
     ensures { λ r. ⌜ now (s .exit) ≡ leftIn (judge kind (take len (now (s .entry)))) (now (s .entry)) ⌝ }
 {
-    let n = packing::lesser(len, s.len());
+    let n = lists::lesser(len, s.len());
     judge_whole(kind, &mut s[..n])
 }
 

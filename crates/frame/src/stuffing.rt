@@ -4,8 +4,8 @@ ghost use mathlib.Core.Path.{_≡_};
 ghost use mathlib.Core.List.{[], _∷_, _++_};
 ghost use Prim.Native.Nat.{_+_, _≤_};
 ghost use lib.ListN.{length};
-ghost use Rattle.packing.specs.Choice.{noneOf};
-ghost use Rattle.packing.specs.Splice.{splice};
+ghost use Rattle.lists.specs.Choice.{noneOf};
+ghost use Rattle.lists.specs.Splice.{splice};
 ghost use Rattle.frame.specs.Stuffing.{isStuffed, stuff, stuffByte};
 ghost use Rattle.frame.specs.Steps.{headerWire};
 

@@ -9,9 +9,10 @@ use lib.Dec.{ltb, eqb}
 use lib.ListN.{length, getD, set, List·getD-eq-default, getD-replicate, length-set}
 use lib.Seq.{getD-set-same, getD-set-other, set-out}
 use borrow.Author.Tests.{ltb-true, ltb-false, eqb-true, eqb-false, eq-eqb, ne-eqb}
-use Rattle.packing.specs.Choice.{pick}
-use Rattle.packing.proofs.Cases.{by-bool}
-use Rattle.lease.specs.Lease.{Call, hold, release, stop, addressOf, Answer, accepted, refused, inRange, answerOf, ifAccepted, heldAfter, tableAfter}
+use Rattle.lists.specs.Choice.{pick}
+use Rattle.lists.proofs.Cases.{by-bool}
+use Rattle.lease.specs.Lease.{Call, hold, release, stop, addressOf, inRange, answerOf, ifAccepted, heldAfter, tableAfter}
+use Rattle.answer.specs.Answer.{result, refused, Answer}
 use Rattle.lease.specs.History.{newTable, tableOn, both, isToken, takes, frees, holderFrom, holder, releasedIn, HeldBy}
 use Rattle.lease.proofs.LeaseLaws.{range-means}
 
@@ -50,21 +51,21 @@ length-after c ts = length-set ts (addressOf c) (heldAfter c (getD ts (addressOf
 
 -- the same, by the calls alone
 hold-bools : (r z f : Bool) (t h : ℕ)
-    → ifAccepted (pick r (pick z (refused 14) (pick f (accepted []) (refused 10))) (refused 9)) t h ≡ pick (both r (both (pick z false true) f)) t h
+    → ifAccepted (pick r (pick z (refused 14) (pick f (result []) (refused 10))) (refused 9)) t h ≡ pick (both r (both (pick z false true) f)) t h
 hold-bools true true f t h = refl
 hold-bools true false true t h = refl
 hold-bools true false false t h = refl
 hold-bools false z f t h = refl
 
 release-bools : (r z f : Bool) (h : ℕ)
-    → ifAccepted (pick r (pick (pick z false f) (accepted []) (refused 11)) (refused 9)) 0 h ≡ pick (both r (both (pick z false true) f)) 0 h
+    → ifAccepted (pick r (pick (pick z false f) (result []) (refused 11)) (refused 9)) 0 h ≡ pick (both r (both (pick z false true) f)) 0 h
 release-bools true true f h = refl
 release-bools true false true h = refl
 release-bools true false false h = refl
 release-bools false z f h = refl
 
-same-answer : (r : Answer) (h : ℕ) → ifAccepted r h h ≡ h
-same-answer (accepted w) h = refl
+same-answer : (r : Answer (List ℕ)) (h : ℕ) → ifAccepted r h h ≡ h
+same-answer (result w) h = refl
 same-answer (refused n) h = refl
 
 holder-step : (a h : ℕ) (c : Call) (cs : List Call) → holderFrom a h (c ∷ cs) ≡ holderFrom a (pick (eqb (addressOf c) a) (heldAfter c h) h) cs

@@ -5,13 +5,14 @@ use mathlib.Core.List.{List, [], _∷_}
 use lib.Dec.{eqb}
 use lib.ListN.{length, getD}
 use borrow.Author.Tests.{eqb-true}
-use Rattle.packing.proofs.Cases.{by-bool}
-use Rattle.lease.specs.Lease.{Call, addressOf, Answer, answerOf, heldAfter, tableAfter}
+use Rattle.lists.proofs.Cases.{by-bool}
+use Rattle.lease.specs.Lease.{Call, addressOf, answerOf, heldAfter, tableAfter}
 use Rattle.lease.specs.History.{newTable, answersAt, callsAt}
 use Rattle.lease.proofs.HistoryLaws.{token-after, length-after, new-length}
+use Rattle.answer.specs.Answer.{Answer}
 
 -- one address by itself: calls at it, from a token
-unfoldable alone : ℕ → List Call → List Answer
+unfoldable alone : ℕ → List Call → List (Answer (List ℕ))
 alone h [] = []
 alone h (c ∷ cs) = answerOf c h ∷ alone (heldAfter c h) cs
 
@@ -22,7 +23,7 @@ answers-alone a ts (c ∷ cs) l =
     let ih = answers-alone a (tableAfter c ts) cs (length-after c ts ∙ l) ∙ ap (λ (h : ℕ). alone h (callsAt a cs)) (token-after c ts a l) in
     by-bool (eqb (addressOf c) a)
     (λ y. let e : addressOf c ≡ a = eqb-true (addressOf c) a y in
-    simp y (ap₂ (λ (r : Answer) (rs : List Answer). r ∷ rs) (ap (λ (b : ℕ). answerOf c (getD ts b 0)) e) (simp y at ih)))
+    simp y (ap₂ (λ (r : Answer (List ℕ)) (rs : List (Answer (List ℕ))). r ∷ rs) (ap (λ (b : ℕ). answerOf c (getD ts b 0)) e) (simp y at ih)))
     (λ n. simp n (simp n at ih))
 
 -- two lists of calls that agree on one address's calls, with the lengths of outputs, give that address equal answers and equal bytes written

@@ -9,17 +9,18 @@ use lib.Dec.{leb, ltb}
 use lib.ListN.{length, getD, set, List·getD-eq-default}
 use lib.Seq.{set-getD, getD-set-same}
 use borrow.Author.Tests.{ltb-true, ltb-false, eq-eqb, ne-eqb}
-use Rattle.packing.specs.Draft.{WriteAnswer, notWritten, draftAnswer, draftOut}
-use Rattle.packing.specs.Number.{number, put, Bytes}
-use Rattle.packing.proofs.Cases.{by-bool}
-use Rattle.packing.proofs.Tests.{within-true}
-use Rattle.packing.proofs.Numbers.{numbers-at, length-numbers, put-number, put-out}
+use Rattle.answer.specs.Draft.{draftAnswer, draftOut}
+use Rattle.answer.specs.Answer.{refused, result, Answer}
+use Rattle.numbers.specs.Number.{number, put, Bytes}
+use Rattle.lists.proofs.Cases.{by-bool}
+use Rattle.lists.proofs.Tests.{within-true}
+use Rattle.numbers.proofs.Numbers.{numbers-at, length-numbers, put-number, put-out}
 use Rattle.frame.specs.Stuffing.{isStuffed, stuff, stuffByte}
 use Rattle.frame.specs.Checksum.{sumFrom}
 use Rattle.frame.specs.Frame.{wireOf, payload, startOf, addressesOf, contentsOf, extended}
 use Rattle.frame.specs.Answers.{frameDraft}
 use Rattle.frame.proofs.WireLaws.{draft-fits}
-use Rattle.lease.specs.Lease.{Call, hold, release, stop, addressOf, tokenOf, Answer, accepted, refused, inRange, owns, stopFrame, answerOf, leaves, ifAccepted, heldAfter, answerTo, tableAfter, tableOf, lentAnswer, lentAfter}
+use Rattle.lease.specs.Lease.{Call, hold, release, stop, addressOf, tokenOf, inRange, owns, stopFrame, answerOf, leaves, ifAccepted, heldAfter, answerTo, tableAfter, tableOf, lentAnswer, lentAfter}
 use Rattle.lease.specs.Answers.{told, outAfter}
 use Rattle.lease.specs.Contracts.{TableCall, Real, LentCall, Settles, settled, settledLent}
 
@@ -29,28 +30,28 @@ pub range-means : (a : ℕ) → inRange a ≡ true → (1 ≤ a) × (a ≤ 252)
 range-means a h = within-true 1 252 a h
 
 -- an accepted call has an address in range
-pub accepted-range : (c : Call) (h : ℕ) (w : List ℕ) → answerOf c h ≡ accepted w → inRange (addressOf c) ≡ true
+pub accepted-range : (c : Call) (h : ℕ) (w : List ℕ) → answerOf c h ≡ result w → inRange (addressOf c) ≡ true
 unfolding answerOf
 accepted-range c h w e = by-bool (inRange (addressOf c)) (λ y. y) (λ n. absurd (outside c n e))
   where
-    outside : (c : Call) → inRange (addressOf c) ≡ false → answerOf c h ≡ accepted w → ⊥
-    outside (hold a t) n e = let q : refused 9 ≡ accepted w = simp n at e in let z : _≡_ {A = ℕ} 0 1 = cc in omega arith
-    outside (release a t) n e = let q : refused 9 ≡ accepted w = simp n at e in let z : _≡_ {A = ℕ} 0 1 = cc in omega arith
-    outside (stop a t room) n e = let q : refused 9 ≡ accepted w = simp n at e in let z : _≡_ {A = ℕ} 0 1 = cc in omega arith
+    outside : (c : Call) → inRange (addressOf c) ≡ false → answerOf c h ≡ result w → ⊥
+    outside (hold a t) n e = let q : refused 9 ≡ result w = simp n at e in let z : _≡_ {A = ℕ} 0 1 = cc in omega arith
+    outside (release a t) n e = let q : refused 9 ≡ result w = simp n at e in let z : _≡_ {A = ℕ} 0 1 = cc in omega arith
+    outside (stop a t room) n e = let q : refused 9 ≡ result w = simp n at e in let z : _≡_ {A = ℕ} 0 1 = cc in omega arith
 
-pub settles : (c : Call) (h : ℕ) (x : Answer) → x ≡ answerOf c h → Settles (addressOf c) x
-settles c h (accepted w) e = range-means (addressOf c) (accepted-range c h w (sym e))
+pub settles : (c : Call) (h : ℕ) (x : Answer (List ℕ)) → x ≡ answerOf c h → Settles (addressOf c) x
+settles c h (result w) e = range-means (addressOf c) (accepted-range c h w (sym e))
 settles c h (refused n) e = tt
 
 -- ---- the token afterwards
 
-pub after-accepted : (c : Call) (h : ℕ) (w : List ℕ) → answerOf c h ≡ accepted w → heldAfter c h ≡ leaves c h
+pub after-accepted : (c : Call) (h : ℕ) (w : List ℕ) → answerOf c h ≡ result w → heldAfter c h ≡ leaves c h
 unfolding heldAfter
-after-accepted c h w e = ap (λ (r : Answer). ifAccepted r (leaves c h) h) e
+after-accepted c h w e = ap (λ (r : Answer (List ℕ)). ifAccepted r (leaves c h) h) e
 
 pub after-refused : (c : Call) (h n : ℕ) → answerOf c h ≡ refused n → heldAfter c h ≡ h
 unfolding heldAfter
-after-refused c h n e = ap (λ (r : Answer). ifAccepted r (leaves c h) h) e
+after-refused c h n e = ap (λ (r : Answer (List ℕ)). ifAccepted r (leaves c h) h) e
 
 -- ---- a call on a table
 
@@ -58,11 +59,11 @@ pub keeps-table : (c : Call) (ts : List ℕ) → heldAfter c (getD ts (addressOf
 keeps-table c ts e = ap (set ts (addressOf c)) e ∙ set-getD ts (addressOf c) 0
 
 -- what was judged and stored is the call
-settled-table : (c : Call) (ts : List ℕ) (h : ℕ) (x : Answer) → h ≡ getD ts (addressOf c) 0 → x ≡ answerOf c h → settled x (addressOf c) (leaves c h) ts ≡ tableAfter c ts
-settled-table c ts h (accepted w) held e = ap (set ts (addressOf c)) (sym (after-accepted c h w (sym e)) ∙ ap (heldAfter c) held)
+settled-table : (c : Call) (ts : List ℕ) (h : ℕ) (x : Answer (List ℕ)) → h ≡ getD ts (addressOf c) 0 → x ≡ answerOf c h → settled x (addressOf c) (leaves c h) ts ≡ tableAfter c ts
+settled-table c ts h (result w) held e = ap (set ts (addressOf c)) (sym (after-accepted c h w (sym e)) ∙ ap (heldAfter c) held)
 settled-table c ts h (refused n) held e = sym (keeps-table c ts (ap (heldAfter c) (sym held) ∙ after-refused c h n (sym e) ∙ held))
 
-pub table-call : (c : Call) (ts : List ℕ) (h : ℕ) (x a : Answer) (after : List ℕ) → h ≡ getD ts (addressOf c) 0 → x ≡ answerOf c h
+pub table-call : (c : Call) (ts : List ℕ) (h : ℕ) (x a : Answer (List ℕ)) (after : List ℕ) → h ≡ getD ts (addressOf c) 0 → x ≡ answerOf c h
     → (a ≡ x) × (after ≡ settled x (addressOf c) (leaves c h) ts) → TableCall c ts a after
 table-call c ts h x a after held e s =
     record { answered = s .0 ∙ e ∙ ap (answerOf c) held; left = s .1 ∙ settled-table c ts h x held e }
@@ -97,17 +98,17 @@ module _ (c : Call) (s : List ℕ) (size : length s ≡ 2048) where
       (λ k. ap (λ (n : ℕ). put 8 (8 * addressOf c) n s) (token-lent s (addressOf c) (ltb-true (addressOf c) 256 k)) ∙ put-number 8 (8 * addressOf c) s b)
       (λ k. put-out 8 (8 * addressOf c) (getD (tableOf s) (addressOf c) 0) s (omega (arith, ltb-false (addressOf c) 256 k)))
 
-  settled-lent : Bytes s → (h : ℕ) (x : Answer) → h ≡ getD (tableOf s) (addressOf c) 0 → x ≡ answerOf c h
+  settled-lent : Bytes s → (h : ℕ) (x : Answer (List ℕ)) → h ≡ getD (tableOf s) (addressOf c) 0 → x ≡ answerOf c h
       → settledLent x (addressOf c) (leaves c h) s ≡ lentAfter c s
-  settled-lent b h (accepted w) held e =
+  settled-lent b h (result w) held e =
       let r = range-means (addressOf c) (accepted-range c h w (sym e)) in
       ap (λ (n : ℕ). put 8 (8 * addressOf c) n s)
       (sym (getD-set-same (tableOf s) (addressOf c) (leaves c h) 0 (omega (arith, length-numbers 8 256 0 s)))
-      ∙ ap (λ (ts : List ℕ). getD ts (addressOf c) 0) (settled-table c (tableOf s) h (accepted w) held e))
+      ∙ ap (λ (ts : List ℕ). getD ts (addressOf c) 0) (settled-table c (tableOf s) h (result w) held e))
       ∙ sym lent-bytes
   settled-lent b h (refused n) held e = sym (keeps-lent b (ap (heldAfter c) (sym held) ∙ after-refused c h n (sym e) ∙ held))
 
-  pub lent-call : Real (tokenOf c) s → (h : ℕ) (x a : Answer) (after : List ℕ) → h ≡ getD (tableOf s) (addressOf c) 0 → x ≡ answerOf c h
+  pub lent-call : Real (tokenOf c) s → (h : ℕ) (x a : Answer (List ℕ)) (after : List ℕ) → h ≡ getD (tableOf s) (addressOf c) 0 → x ≡ answerOf c h
       → (a ≡ x) × (after ≡ settledLent x (addressOf c) (leaves c h) s) → LentCall c s a after
   lent-call real h x a after held e k =
       record { answered = k .0 ∙ e ∙ ap (answerOf c) held ∙ sym lent-answer; left = k .1 ∙ settled-lent (real .bytes) h x held e; real = real }
@@ -119,20 +120,20 @@ unfolding stopFrame wireOf payload startOf addressesOf contentsOf stuff stuffByt
 stop-short a = by-bool (isStuffed a) (λ y. simp y (omega arith)) (λ n. simp n (omega arith))
 
 -- an answer and an output are those of a stop, where its answer is x
-abbrev pub Stops : Answer → List ℕ → WriteAnswer → List ℕ → Type 0
+abbrev pub Stops : Answer (List ℕ) → List ℕ → Answer ℕ → List ℕ → Type 0
 Stops x out a last = (a ≡ told x) × (last ≡ outAfter x out)
 
 module _ (a t h : ℕ) (out : List ℕ) where
-  pub stop-outside : inRange a ≡ false → Stops (answerOf (stop a t (length out)) h) out (notWritten 9) out
+  pub stop-outside : inRange a ≡ false → Stops (answerOf (stop a t (length out)) h) out (refused 9) out
   unfolding answerOf
   stop-outside n = (simp n, simp n)
 
-  pub stop-not-holder : inRange a ≡ true → owns t h ≡ false → Stops (answerOf (stop a t (length out)) h) out (notWritten 11) out
+  pub stop-not-holder : inRange a ≡ true → owns t h ≡ false → Stops (answerOf (stop a t (length out)) h) out (refused 11) out
   unfolding answerOf
   stop-not-holder y n = (simp (y, n), simp (y, n))
 
   -- what the frame writer did is what a stop does
-  pub stop-writes : inRange a ≡ true → owns t h ≡ true → (x : WriteAnswer) (last : List ℕ)
+  pub stop-writes : inRange a ≡ true → owns t h ≡ true → (x : Answer ℕ) (last : List ℕ)
       → x ≡ draftAnswer (frameDraft (extended a 0x00 (0x76 ∷ 0x04 ∷ 0x13 ∷ 0x02 ∷ 0x01 ∷ 0x02 ∷ []))) (length out)
       → last ≡ draftOut (frameDraft (extended a 0x00 (0x76 ∷ 0x04 ∷ 0x13 ∷ 0x02 ∷ 0x01 ∷ 0x02 ∷ []))) out
       → Stops (answerOf (stop a t (length out)) h) out x last
@@ -145,5 +146,5 @@ module _ (a t h : ℕ) (out : List ℕ) where
       (λ n. (e ∙ simp (d, n, range, owner), o ∙ simp (d, n, range, owner)))
 
 -- a stop does what its answer says, whatever that answer is called
-pub stop-by : (x y : Answer) (out : List ℕ) (a : WriteAnswer) (last : List ℕ) → x ≡ y → Stops x out a last → Stops y out a last
-stop-by x y out a last e d = (d .0 ∙ ap told e, d .1 ∙ ap (λ (r : Answer). outAfter r out) e)
+pub stop-by : (x y : Answer (List ℕ)) (out : List ℕ) (a : Answer ℕ) (last : List ℕ) → x ≡ y → Stops x out a last → Stops y out a last
+stop-by x y out a last e d = (d .0 ∙ ap told e, d .1 ∙ ap (λ (r : Answer (List ℕ)). outAfter r out) e)

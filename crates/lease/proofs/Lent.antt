@@ -11,11 +11,12 @@ use lib.Dec.{ltb, eqb}
 use lib.ListN.{length, getD, set, replicate}
 use lib.Seq.{getD-set-same, set-out, take-all}
 use borrow.Author.Tests.{ltb-true, ltb-false, eqb-true, eqb-false}
-use Rattle.packing.specs.Choice.{pick}
-use Rattle.packing.specs.Number.{number, numbers, put, pack, Bytes}
-use Rattle.packing.proofs.Cases.{by-bool}
-use Rattle.packing.proofs.Numbers.{length-numbers, numbers-put, number-bound, put-out, length-put, put-bytes, pack-numbers, put-before, put-after}
-use Rattle.lease.specs.Lease.{Call, hold, release, stop, addressOf, tokenOf, Answer, accepted, refused, answerOf, leaves, ifAccepted, heldAfter, answerTo, tableAfter, tableOf, lentAnswer, lentAfter}
+use Rattle.lists.specs.Choice.{pick}
+use Rattle.numbers.specs.Number.{number, numbers, put, pack, Bytes}
+use Rattle.lists.proofs.Cases.{by-bool}
+use Rattle.numbers.proofs.Numbers.{length-numbers, numbers-put, number-bound, put-out, length-put, put-bytes, pack-numbers, put-before, put-after}
+use Rattle.lease.specs.Lease.{Call, hold, release, stop, addressOf, tokenOf, answerOf, leaves, ifAccepted, heldAfter, answerTo, tableAfter, tableOf, lentAnswer, lentAfter}
+use Rattle.answer.specs.Answer.{result, refused, Answer}
 use Rattle.lease.specs.History.{newTable, newBytes, tableOn, answersOn, answersAt, lentOn, lentAnswersOn, lentAnswersAt, Tokens, callsAt, holder}
 use Rattle.lease.proofs.LeaseLaws.{after-refused, token-lent, lent-answer, lent-bytes, lent-size, keeps-table, keeps-lent}
 use Rattle.lease.proofs.Isolation.{isolation}
@@ -31,8 +32,8 @@ after-bound c h b k = by (answerOf c h) (left c b)
     left (release a t) b = omega arith
     left (stop a t room) b = k
 
-    by : (r : Answer) → leaves c h < 2 ^ 64 → ifAccepted r (leaves c h) h < 2 ^ 64
-    by (accepted w) l = l
+    by : (r : Answer (List ℕ)) → leaves c h < 2 ^ 64 → ifAccepted r (leaves c h) h < 2 ^ 64
+    by (result w) l = l
     by (refused n) l = k
 
 module _ (c : Call) (s : List ℕ) (size : length s ≡ 2048) (bytes : Bytes s) where
@@ -93,7 +94,7 @@ pub lent-answers : (s : List ℕ) (cs : List Call) → length s ≡ 2048 → Byt
 unfolding lentAnswersOn answersOn Tokens
 lent-answers s [] size b ts = refl
 lent-answers s (c ∷ cs) size b ts =
-    ap₂ (λ (r : Answer) (rs : List Answer). r ∷ rs) (lent-answer c s size)
+    ap₂ (λ (r : Answer (List ℕ)) (rs : List (Answer (List ℕ))). r ∷ rs) (lent-answer c s size)
     (lent-answers (lentAfter c s) cs (length-lent c s size b) (bytes-lent c s size b) (ts .1)
     ∙ ap (λ (us : List ℕ). answersOn us cs) (table-lent c s size b (ts .0)))
 
@@ -104,7 +105,7 @@ lent-answers-at a s (c ∷ cs) size b ts =
     let rest : lentAnswersAt a (lentAfter c s) cs ≡ answersAt a (tableAfter c (tableOf s)) cs =
     lent-answers-at a (lentAfter c s) cs (length-lent c s size b) (bytes-lent c s size b) (ts .1)
     ∙ ap (λ (us : List ℕ). answersAt a us cs) (table-lent c s size b (ts .0)) in
-    ap₂ (λ (r : Answer) (rs : List Answer). pick (eqb (addressOf c) a) (r ∷ rs) rs) (lent-answer c s size) rest
+    ap₂ (λ (r : Answer (List ℕ)) (rs : List (Answer (List ℕ))). pick (eqb (addressOf c) a) (r ∷ rs) rs) (lent-answer c s size) rest
 
 pub lent-bytes-on : (s : List ℕ) (cs : List Call) → length s ≡ 2048 → Bytes s → Tokens cs → lentOn s cs ≡ pack 8 (tableOn (tableOf s) cs)
 unfolding lentOn tableOn Tokens
@@ -138,8 +139,8 @@ new-bytes i = omega (arith, zeros 2048 i)
 
 -- ---- what changes nothing
 
-same-answer : (r : Answer) (h : ℕ) → ifAccepted r h h ≡ h
-same-answer (accepted w) h = refl
+same-answer : (r : Answer (List ℕ)) (h : ℕ) → ifAccepted r h h ≡ h
+same-answer (result w) h = refl
 same-answer (refused n) h = refl
 
 stop-held : (a t room h : ℕ) → heldAfter (stop a t room) h ≡ h
@@ -172,7 +173,7 @@ wrong-size s [] n = (refl, refl)
 wrong-size s (c ∷ cs) n =
     let q = lent-size c s n in
     let ih = wrong-size s cs n in (
-      ap₂ (λ (r : Answer) (us : List ℕ). r ∷ lentAnswersOn us cs) (sym (q .0)) (sym (q .1)) ∙ ap (λ (rs : List Answer). refused 18 ∷ rs) (ih .0),
+      ap₂ (λ (r : Answer (List ℕ)) (us : List ℕ). r ∷ lentAnswersOn us cs) (sym (q .0)) (sym (q .1)) ∙ ap (λ (rs : List (Answer (List ℕ))). refused 18 ∷ rs) (ih .0),
       ap (λ (us : List ℕ). lentOn us cs) (sym (q .1)) ∙ ih .1,
     )
 
@@ -198,8 +199,8 @@ lent-history a cs ts =
 
 -- A stop writes exactly for the holder.
 pub lent-stop-exactly : (cs : List Call) (a t room : ℕ) (w : List ℕ) → Tokens cs
-    → (lentAnswer (stop a t room) (lentOn newBytes cs) ≡ accepted w → Sends a t room (holder a cs) w)
-    × (Sends a t room (holder a cs) w → lentAnswer (stop a t room) (lentOn newBytes cs) ≡ accepted w)
+    → (lentAnswer (stop a t room) (lentOn newBytes cs) ≡ result w → Sends a t room (holder a cs) w)
+    × (Sends a t room (holder a cs) w → lentAnswer (stop a t room) (lentOn newBytes cs) ≡ result w)
 lent-stop-exactly cs a t room w ts =
     let e = lent-as-table (stop a t room) cs ts in
     let k = stop-exactly cs a t room w in

@@ -7,9 +7,10 @@ use native.Mathlib.Omega.{arith}
 use lib.Dec.{leb, eqb}
 use lib.ListN.{length, getD}
 use borrow.Author.Tests.{leb-true, eqb-true, eqb-false, le-leb, eq-eqb, ne-eqb}
-use Rattle.packing.specs.Choice.{pick}
-use Rattle.packing.proofs.Cases.{by-bool}
-use Rattle.lease.specs.Lease.{Call, hold, release, stop, accepted, refused, inRange, owns, stopFrame, answerOf, answerTo}
+use Rattle.lists.specs.Choice.{pick}
+use Rattle.lists.proofs.Cases.{by-bool}
+use Rattle.lease.specs.Lease.{Call, hold, release, stop, inRange, owns, stopFrame, answerOf, answerTo}
+use Rattle.answer.specs.Answer.{result, refused}
 use Rattle.lease.specs.History.{newTable, tableOn, takes, frees, holderFrom, holder}
 use Rattle.lease.proofs.HistoryLaws.{history, holder-append, held-exactly}
 
@@ -31,28 +32,28 @@ pub record Sends (a t room held : ℕ) (w : List ℕ) : Type 0 where
   pub token : t ≡ 0 → ⊥
   pub holder-is : held ≡ t
 
-sends : (a t room h : ℕ) (w : List ℕ) → answerOf (stop a t room) h ≡ accepted w → Sends a t room h w
+sends : (a t room h : ℕ) (w : List ℕ) → answerOf (stop a t room) h ≡ result w → Sends a t room h w
 unfolding answerOf
 sends a t room h w e =
     by-bool (inRange a)
     (λ y. by-bool (owns t h)
     (λ o. by-bool (leb (length (stopFrame a)) room)
-    (λ l. let q : accepted (stopFrame a) ≡ accepted w = simp (y, o, l) at e in
+    (λ l. let q : result (stopFrame a) ≡ result w = simp (y, o, l) at e in
     let m = owner-means t h o in
     record { frame = cc; room-is = leb-true (length (stopFrame a)) room l; token = m .0; holder-is = m .1 })
-    (λ l. let q : refused 1 ≡ accepted w = simp (y, o, l) at e in let z : _≡_ {A = ℕ} 0 1 = cc in absurd (omega arith)))
-    (λ o. let q : refused 11 ≡ accepted w = simp (y, o) at e in let z : _≡_ {A = ℕ} 0 1 = cc in absurd (omega arith)))
-    (λ y. let q : refused 9 ≡ accepted w = simp y at e in let z : _≡_ {A = ℕ} 0 1 = cc in absurd (omega arith))
+    (λ l. let q : refused 1 ≡ result w = simp (y, o, l) at e in let z : _≡_ {A = ℕ} 0 1 = cc in absurd (omega arith)))
+    (λ o. let q : refused 11 ≡ result w = simp (y, o) at e in let z : _≡_ {A = ℕ} 0 1 = cc in absurd (omega arith)))
+    (λ y. let q : refused 9 ≡ result w = simp y at e in let z : _≡_ {A = ℕ} 0 1 = cc in absurd (omega arith))
 
-sent : (a t room h : ℕ) (w : List ℕ) → inRange a ≡ true → Sends a t room h w → answerOf (stop a t room) h ≡ accepted w
+sent : (a t room h : ℕ) (w : List ℕ) → inRange a ≡ true → Sends a t room h w → answerOf (stop a t room) h ≡ result w
 unfolding answerOf
 sent a t room h w y s =
-    (simp (y, means-owner t h (s .token) (s .holder-is), le-leb (length (stopFrame a)) room (s .room-is))) ∙ ap accepted (sym (s .frame))
+    (simp (y, means-owner t h (s .token) (s .holder-is), le-leb (length (stopFrame a)) room (s .room-is))) ∙ ap result (sym (s .frame))
 
 -- after any calls on a new table a stop writes w exactly when w is the address's stop frame, there is room, and the token is the holder's
 pub stop-exactly : (cs : List Call) (a t room : ℕ) (w : List ℕ)
-    → (answerTo (stop a t room) (tableOn newTable cs) ≡ accepted w → Sends a t room (holder a cs) w)
-    × (Sends a t room (holder a cs) w → answerTo (stop a t room) (tableOn newTable cs) ≡ accepted w)
+    → (answerTo (stop a t room) (tableOn newTable cs) ≡ result w → Sends a t room (holder a cs) w)
+    × (Sends a t room (holder a cs) w → answerTo (stop a t room) (tableOn newTable cs) ≡ result w)
 stop-exactly cs a t room w = (
   (λ e. sends a t room (holder a cs) w (sym (ap (answerOf (stop a t room)) (history a cs)) ∙ e)),
   (λ s. let f = held-exactly a t cs (s .token) .0 (s .holder-is) in
@@ -117,11 +118,11 @@ holders-again a t u cs n m e =
 
 -- The holder t releases and any token u then holds: both calls are accepted, and after them a stop is written exactly for u.
 pub record HeldAgain (a t u : ℕ) (cs : List Call) : Type 0 where
-  pub releases : answerTo (release a t) (tableOn newTable cs) ≡ accepted []
-  pub holds : answerTo (hold a u) (tableOn newTable (cs ++ (release a t ∷ []))) ≡ accepted []
+  pub releases : answerTo (release a t) (tableOn newTable cs) ≡ result []
+  pub holds : answerTo (hold a u) (tableOn newTable (cs ++ (release a t ∷ []))) ≡ result []
   pub stops : (v room : ℕ) (w : List ℕ)
-      → (answerTo (stop a v room) (tableOn newTable (cs ++ (release a t ∷ hold a u ∷ []))) ≡ accepted w → Sends a v room u w)
-      × (Sends a v room u w → answerTo (stop a v room) (tableOn newTable (cs ++ (release a t ∷ hold a u ∷ []))) ≡ accepted w)
+      → (answerTo (stop a v room) (tableOn newTable (cs ++ (release a t ∷ hold a u ∷ []))) ≡ result w → Sends a v room u w)
+      × (Sends a v room u w → answerTo (stop a v room) (tableOn newTable (cs ++ (release a t ∷ hold a u ∷ []))) ≡ result w)
 
 pub held-again : (a t u : ℕ) (cs : List Call) → (t ≡ 0 → ⊥) → (u ≡ 0 → ⊥) → holder a cs ≡ t → HeldAgain a t u cs
 unfolding answerOf
@@ -131,5 +132,5 @@ held-again a t u cs n m e =
     record {
       releases = ap (answerOf (release a t)) (history a cs ∙ e) ∙ simp (k .0, means-owner t t n refl);
       holds = ap (answerOf (hold a u)) (history a (cs ++ (release a t ∷ [])) ∙ k .1) ∙ simp (k .0, ne-eqb u 0 m);
-      stops = λ v room w. subst (λ (h : ℕ). (answerTo (stop a v room) (tableOn newTable all) ≡ accepted w → Sends a v room h w) × (Sends a v room h w → answerTo (stop a v room) (tableOn newTable all) ≡ accepted w)) (k .2) (stop-exactly all a v room w);
+      stops = λ v room w. subst (λ (h : ℕ). (answerTo (stop a v room) (tableOn newTable all) ≡ result w → Sends a v room h w) × (Sends a v room h w → answerTo (stop a v room) (tableOn newTable all) ≡ result w)) (k .2) (stop-exactly all a v room w);
     }

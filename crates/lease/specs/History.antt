@@ -5,8 +5,9 @@ use mathlib.Core.Path.{_≡_}
 use mathlib.Core.List.{List, [], _∷_, _++_}
 use lib.Dec.{leb, eqb}
 use lib.ListN.{replicate}
-use Rattle.packing.specs.Choice.{pick}
-use Rattle.lease.specs.Lease.{Call, hold, release, stop, addressOf, tokenOf, Answer, inRange, answerTo, tableAfter, lentAnswer, lentAfter}
+use Rattle.lists.specs.Choice.{pick}
+use Rattle.lease.specs.Lease.{Call, hold, release, stop, addressOf, tokenOf, inRange, answerTo, tableAfter, lentAnswer, lentAfter}
+use Rattle.answer.specs.Answer.{Answer}
 
 -- ---- runs: the first call first
 
@@ -19,12 +20,12 @@ tableOn ts [] = ts
 tableOn ts (c ∷ cs) = tableOn (tableAfter c ts) cs
 
 -- The answers to all calls.
-unfoldable pub answersOn : List ℕ → List Call → List Answer
+unfoldable pub answersOn : List ℕ → List Call → List (Answer (List ℕ))
 answersOn ts [] = []
 answersOn ts (c ∷ cs) = answerTo c ts ∷ answersOn (tableAfter c ts) cs
 
 -- The answers to the calls at one address.
-unfoldable pub answersAt : ℕ → List ℕ → List Call → List Answer
+unfoldable pub answersAt : ℕ → List ℕ → List Call → List (Answer (List ℕ))
 answersAt a ts [] = []
 answersAt a ts (c ∷ cs) = pick (eqb (addressOf c) a) (answerTo c ts ∷ answersAt a (tableAfter c ts) cs) (answersAt a (tableAfter c ts) cs)
 
@@ -33,11 +34,11 @@ unfoldable pub lentOn : List ℕ → List Call → List ℕ
 lentOn s [] = s
 lentOn s (c ∷ cs) = lentOn (lentAfter c s) cs
 
-unfoldable pub lentAnswersOn : List ℕ → List Call → List Answer
+unfoldable pub lentAnswersOn : List ℕ → List Call → List (Answer (List ℕ))
 lentAnswersOn s [] = []
 lentAnswersOn s (c ∷ cs) = lentAnswer c s ∷ lentAnswersOn (lentAfter c s) cs
 
-unfoldable pub lentAnswersAt : ℕ → List ℕ → List Call → List Answer
+unfoldable pub lentAnswersAt : ℕ → List ℕ → List Call → List (Answer (List ℕ))
 lentAnswersAt a s [] = []
 lentAnswersAt a s (c ∷ cs) = pick (eqb (addressOf c) a) (lentAnswer c s ∷ lentAnswersAt a (lentAfter c s) cs) (lentAnswersAt a (lentAfter c s) cs)
 

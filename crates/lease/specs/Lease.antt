@@ -4,9 +4,10 @@ use mathlib.Core.Bool.{Bool, true, false}
 use mathlib.Core.List.{List, [], _∷_, _++_}
 use lib.Dec.{leb, eqb}
 use lib.ListN.{length, getD, set, drop}
-use Rattle.packing.specs.Choice.{pick, within}
+use Rattle.lists.specs.Choice.{pick, within}
+use Rattle.answer.specs.Answer.{Answer, result, refused}
 use Rattle.frame.specs.Frame.{wireOf, extended}
-use Rattle.packing.specs.Number.{numbers, put}
+use Rattle.numbers.specs.Number.{numbers, put}
 
 -- A call, with the length of the output that a stop is lent.
 pub data Call : Type 0 where
@@ -24,11 +25,6 @@ tokenOf (hold a t) = t
 tokenOf (release a t) = t
 tokenOf (stop a t room) = t
 
--- Accepted, with the bytes that are written (none but by a stop), or refused with document 01's number.
-pub data Answer : Type 0 where
-  accepted : (written : List ℕ) → Answer
-  refused : (number : ℕ) → Answer
-
 -- The addresses of machines and consoles.
 abbrev pub inRange : ℕ → Bool
 inRange a = within 0x01 0xFC a
@@ -41,13 +37,14 @@ owns t held = pick (eqb t 0) false (eqb t held)
 unfoldable pub stopFrame : ℕ → List ℕ
 stopFrame a = wireOf (extended a 0x00 (0x76 ∷ 0x04 ∷ 0x13 ∷ 0x02 ∷ 0x01 ∷ 0x02 ∷ []))
 
--- The answer, where `held` is the token at the call's address, 0 for free. Hold 9, 14, 10; release 9, 11; stop 9, 11, 1.
-unfoldable pub answerOf : Call → (held : ℕ) → Answer
-answerOf (hold a t) held = pick (inRange a) (pick (eqb t 0) (refused 14) (pick (eqb held 0) (accepted []) (refused 10))) (refused 9)
-answerOf (release a t) held = pick (inRange a) (pick (owns t held) (accepted []) (refused 11)) (refused 9)
+-- The answer, where `held` is the token at the call's address, 0 for free: the bytes that are written, which only a stop has, or a refusal.
+-- Hold 9, 14, 10; release 9, 11; stop 9, 11, 1.
+unfoldable pub answerOf : Call → (held : ℕ) → Answer (List ℕ)
+answerOf (hold a t) held = pick (inRange a) (pick (eqb t 0) (refused 14) (pick (eqb held 0) (result []) (refused 10))) (refused 9)
+answerOf (release a t) held = pick (inRange a) (pick (owns t held) (result []) (refused 11)) (refused 9)
 answerOf (stop a t room) held =
     pick (inRange a)
-    (pick (owns t held) (pick (leb (length (stopFrame a)) room) (accepted (stopFrame a)) (refused 1)) (refused 11))
+    (pick (owns t held) (pick (leb (length (stopFrame a)) room) (result (stopFrame a)) (refused 1)) (refused 11))
     (refused 9)
 
 -- What an accepted call leaves at its address.
@@ -56,8 +53,8 @@ leaves (hold a t) held = t
 leaves (release a t) held = 0
 leaves (stop a t room) held = held
 
-abbrev pub ifAccepted : Answer → (new old : ℕ) → ℕ
-ifAccepted (accepted w) new old = new
+abbrev pub ifAccepted : Answer (List ℕ) → (new old : ℕ) → ℕ
+ifAccepted (result w) new old = new
 ifAccepted (refused n) new old = old
 
 -- The token at the call's address afterwards.
@@ -66,7 +63,7 @@ heldAfter c held = ifAccepted (answerOf c held) (leaves c held) held
 
 -- ---- a table: a list of 256 tokens
 
-abbrev pub answerTo : Call → List ℕ → Answer
+abbrev pub answerTo : Call → List ℕ → Answer (List ℕ)
 answerTo c tokens = answerOf c (getD tokens (addressOf c) 0)
 
 -- The table afterwards: only the call's address may have changed.
@@ -79,7 +76,7 @@ abbrev pub tableOf : List ℕ → List ℕ
 tableOf bytes = numbers 8 256 0 bytes
 
 -- 18 before everything else, then as the table that the bytes are.
-unfoldable pub lentAnswer : Call → List ℕ → Answer
+unfoldable pub lentAnswer : Call → List ℕ → Answer (List ℕ)
 lentAnswer c bytes = pick (eqb (length bytes) 2048) (answerTo c (tableOf bytes)) (refused 18)
 
 -- The address's own eight bytes are those of its token in the table afterwards.

@@ -2,12 +2,12 @@
 // Document 01, "Stop desk".
 mod tokens;
 
-use frame::Written;
-use refusal::Refusal;
+use answer::Refusal;
+use answer::Written;
 ghost use mathlib.Core.Path.{_≡_};
 ghost use lib.ListN.{length, replicate};
 ghost use Prim.Native.Nat.{_≤_};
-ghost use Rattle.frame.specs.Answers.{writtenMeans};
+ghost use Rattle.answer.specs.Draft.{writtenMeans};
 ghost use Rattle.lease.specs.Lease.{hold, release, stop, answerOf, inRange, owns};
 ghost use Rattle.lease.specs.Answers.{outcomeMeans, told, outAfter};
 ghost use Rattle.lease.specs.Contracts.{TableCall, TableStop, LentCall, LentStop, Settles, settled, settledLent};

@@ -2,7 +2,7 @@
 ghost use mathlib.Core.Path.{_≡_};
 ghost use Prim.Native.Nat.{_+_, _≤_};
 ghost use lib.ListN.{getD, length};
-ghost use Rattle.packing.specs.Number.{put};
+ghost use Rattle.numbers.specs.Number.{put};
 ghost use Rattle.lease.specs.Lease.{tableOf};
 
 // The bytes of a token.
@@ -27,7 +27,7 @@ pub(crate) fn token_in(bytes: &[u8], address: u32) -> u64
         return 0;
     }
     let at = address as usize;
-    packing::number_at(bytes, WIDTH * at, WIDTH)
+    numbers::number_at(bytes, WIDTH * at, WIDTH)
 }
 
 // Writes a token into the bytes of an address.

@@ -9,10 +9,11 @@ use lib.Dec.{eqb}
 use lib.ListN.{take, drop}
 use contract.Lifetimes.{Lfts}
 use denote.Ref.{RefT}
-use Rattle.packing.specs.Choice.{pick}
+use Rattle.lists.specs.Choice.{pick}
 use Rattle.framing.specs.Reference.{Call, byte, finish, Reference, run, starts}
-use Rattle.frame.specs.Verdict.{refused, judge}
-use Rattle.frame.specs.Answers.{readStandard, readExtended, notRead, judgeAnswer, frameRead}
+use Rattle.answer.specs.Answer.{result, refused}
+use Rattle.frame.specs.Verdict.{judge}
+use Rattle.frame.specs.Answers.{standardOutline, extendedOutline, judgeAnswer, frameRead}
 use Rattle.frame.specs.declared.Kind.the-variants.{Standard, Extended}
 use Rattle.frame.proofs.ContentsLaws.{left-whole}
 use Rattle.line.specs.Outcome.{Outcome, nothing, judged, Summary, silent, tells, toldMeans, summaryOf, outcomeOf, contentsBeside}
@@ -62,9 +63,9 @@ call-whole r finish = truncated-whole (r .mode) (r .bytes)
 beside-whole : (h : Summary) (bytes : List ℕ) → outcomeOf h (contentsBeside h bytes) ≡ outcomeOf h bytes
 unfolding frameRead
 beside-whole silent bytes = refl
-beside-whole (tells (readStandard len)) bytes = refl
-beside-whole (tells (readExtended to from len)) bytes = refl
-beside-whole (tells (notRead n)) bytes = refl
+beside-whole (tells (result (standardOutline len))) bytes = refl
+beside-whole (tells (result (extendedOutline to from len))) bytes = refl
+beside-whole (tells (refused n)) bytes = refl
 
 -- The outcome that an answer by value holds.
 abbrev pub outcomeIn : Stepped → Outcome

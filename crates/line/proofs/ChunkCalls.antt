@@ -7,7 +7,7 @@ use lib.ListN.{length, drop}
 use Prim.Native.Nat.{ℕ}
 use contract.Lifetimes.{Lfts}
 use denote.Ref.{RefT}
-use Rattle.packing.specs.Choice.{pick}
+use Rattle.lists.specs.Choice.{pick}
 use Rattle.framing.specs.Reference.{Reference}
 use Rattle.framing.specs.Demand3.{feed}
 use Rattle.line.specs.Outcome.{Outcome, Summary, toldMeans, summaryOf, outcomeOf}

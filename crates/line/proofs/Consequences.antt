@@ -5,7 +5,8 @@ use native.Mathlib.Omega.{arith}
 use Prim.Native.Nat.{ℕ, _+_}
 use Rattle.framing.specs.Reference.{Call, byte, finish, Role, starts, stops, plain, Candidate, none, opened, byteAnswer, answerTo, after, run}
 use Rattle.framing.proofs.Restart.{as-new}
-use Rattle.frame.specs.Verdict.{Verdict, refused, verdict}
+use Rattle.frame.specs.Verdict.{Verdict, verdict}
+use Rattle.answer.specs.Answer.{refused}
 use Rattle.frame.specs.Conditions.{Judged, truncated, long, badEscape, short, badSum, sound}
 use Rattle.frame.proofs.Table.{verdict-by-table}
 use Rattle.line.specs.Outcome.{Outcome, nothing, judged}

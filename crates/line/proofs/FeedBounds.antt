@@ -8,10 +8,11 @@ use lib.Seq.{take-all}
 use lib.Dec.{eqb, ltb}
 use Prim.Native.Nat.{ℕ, _≤_, _<_}
 use borrow.Author.Tests.{ltb-true, ltb-false}
-use Rattle.packing.specs.Choice.{pick}
-use Rattle.packing.proofs.Cases.{by-bool}
+use Rattle.lists.specs.Choice.{pick}
+use Rattle.lists.proofs.Cases.{by-bool}
 use Rattle.frame.specs.Frame.{Frame, standard, extended, contentsOf}
-use Rattle.frame.specs.Verdict.{Verdict, refused, accepted, judge}
+use Rattle.frame.specs.Verdict.{Verdict, judge}
+use Rattle.answer.specs.Answer.{refused, result}
 use Rattle.frame.specs.Answers.{judgeAnswer, leftIn}
 use Rattle.frame.specs.declared.Kind.{Kind}
 use Rattle.frame.specs.declared.Kind.the-variants.{Standard, Extended}
@@ -28,21 +29,21 @@ use Rattle.line.specs.declared.Mode.the-variants.{Outside, InStandard, I
 -- ---- contents
 
 -- The contents of a body that is accepted are at most the bytes that may stand between flags.
-judged-short : (kind : Kind) (body : List ℕ) (f : Frame) → judge kind body ≡ accepted f → length (contentsOf f) ≤ 118
+judged-short : (kind : Kind) (body : List ℕ) (f : Frame) → judge kind body ≡ result f → length (contentsOf f) ≤ 118
 unfolding leftIn
 judged-short kind body f e =
     by-bool (ltb 118 (length body))
-    (λ y. let q : refused 2 ≡ accepted f = sym (judge-long kind body (ltb-true 118 (length body) y)) ∙ e in
+    (λ y. let q : refused 2 ≡ result f = sym (judge-long kind body (ltb-true 118 (length body) y)) ∙ e in
     let z : _≡_ {A = ℕ} 0 1 = cc in absurd (omega arith))
-    (λ y. let k : length (leftIn (accepted f) body) ≡ length body =
+    (λ y. let k : length (leftIn (result f) body) ≡ length body =
     ap (λ (v : Verdict). length (leftIn v body)) (sym (ap (judge kind) (take-all (length body) body (omega arith)) ∙ e)) ∙ left-length kind (length body) body in
     omega (arith, k, ltb-false 118 (length body) y, length-append (contentsOf f) (drop (length (contentsOf f)) body)))
 
-verdict-within : (v : Verdict) → ((f : Frame) → v ≡ accepted f → length (contentsOf f) ≤ 118) → Within 118 (tells (judgeAnswer v))
+verdict-within : (v : Verdict) → ((f : Frame) → v ≡ result f → length (contentsOf f) ≤ 118) → Within 118 (tells (judgeAnswer v))
 unfolding judgeAnswer contentsOf
 verdict-within (refused n) h = tt
-verdict-within (accepted (standard c)) h = h (standard c) refl
-verdict-within (accepted (extended to from c)) h = h (extended to from c) refl
+verdict-within (result (standard c)) h = h (standard c) refl
+verdict-within (result (extended to from c)) h = h (extended to from c) refl
 
 -- Truncation tells of no contents.
 pub truncated-within : (m : Mode) → Within 118 (summaryOf (truncatedIn m))

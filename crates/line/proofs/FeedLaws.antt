@@ -7,7 +7,7 @@ use native.Mathlib.Omega.{arith}
 use lib.ListN.{length, drop, getD, drop-of-length-le}
 use lib.Seq.{drop-cons}
 use Prim.Native.Nat.{ℕ, _+_, _≤_, _<_}
-use Rattle.packing.specs.Choice.{pick}
+use Rattle.lists.specs.Choice.{pick}
 use Rattle.line.specs.Outcome.{nothing, toldMeans, summaryOf}
 use Rattle.line.specs.Reader.{Turn, reader, stepOf, Moves}
 use Rattle.line.specs.Feed.{says, isAnswer, Feeding, feeding, plus, feedOf, Feeds}

@@ -10,9 +10,9 @@ use native.Mathlib.Numerals.{add-one}
 use native.Mathlib.Omega.{arith}
 use Prim.Native.Nat.{ℕ, _+_, _≤_, _<_}
 use borrow.Author.Tests.{ltb-true, ltb-false, eqb-true, eqb-false}
-use Rattle.packing.specs.Choice.{pick, noneOf}
-use Rattle.packing.proofs.Cases.{by-bool}
-use Rattle.packing.proofs.Tests.{within-true, none-append}
+use Rattle.lists.specs.Choice.{pick, noneOf}
+use Rattle.lists.proofs.Cases.{by-bool}
+use Rattle.lists.proofs.Tests.{within-true, none-append}
 use Rattle.framing.specs.Reference.{Call, byte, finish, Role, starts, stops, plain, Candidate, none, opened, byteAnswer, byteAfter, endAnswer, answerTo, after, run}
 use Rattle.framing.specs.Demand3.{Follows}
 use Rattle.framing.proofs.Restart.{follows}

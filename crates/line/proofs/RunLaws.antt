@@ -9,10 +9,10 @@ use lib.Seq.{getD-take, getD-drop, length-take-le, take-all}
 use lib.Dec.{leb}
 use Prim.Native.Nat.{ℕ, zero, suc, _+_, _-_, _≤_, _<_}
 use borrow.Author.Tests.{lt-ltb, ne-eqb, leb-true, leb-false}
-use Rattle.packing.specs.Choice.{pick, noneOf, countBefore}
-use Rattle.packing.proofs.Cases.{by-bool}
-use Rattle.packing.proofs.Tests.{none-at}
-use Rattle.packing.proofs.Before.{before-fits, before-clear}
+use Rattle.lists.specs.Choice.{pick, noneOf, countBefore}
+use Rattle.lists.proofs.Cases.{by-bool}
+use Rattle.lists.proofs.Tests.{none-at}
+use Rattle.lists.proofs.Before.{before-fits, before-clear}
 use Rattle.frame.specs.Stuffing.{isFlag}
 use Rattle.line.specs.Outcome.{nothing}
 use Rattle.line.specs.Reader.{Turn, turn, reader, withByte, grownIn, stepOf}

@@ -2,7 +2,7 @@
 use mathlib.Core.List.{List, [], _∷_, _++_}
 use lib.ListN.{drop}
 use Prim.Native.Nat.{ℕ}
-use Rattle.packing.specs.Choice.{pick}
+use Rattle.lists.specs.Choice.{pick}
 use Rattle.line.specs.Outcome.{Outcome}
 use Rattle.line.specs.Reader.{stepOf}
 use Rattle.line.specs.Feed.{isAnswer, feedOf}

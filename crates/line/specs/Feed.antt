@@ -3,7 +3,7 @@ use mathlib.Core.Path.{_≡_}
 use mathlib.Core.Bool.{Bool, true, false}
 use mathlib.Core.List.{List, [], _∷_}
 use Prim.Native.Nat.{ℕ, _+_}
-use Rattle.packing.specs.Choice.{pick}
+use Rattle.lists.specs.Choice.{pick}
 use Rattle.line.specs.Outcome.{Outcome, nothing, Summary, silent, tells, toldMeans, summaryOf}
 use Rattle.line.specs.Reader.{reader, stepOf}
 use Rattle.line.specs.declared.LineReader.{LineReader}

@@ -2,9 +2,10 @@
 use mathlib.Core.List.{List}
 use lib.ListN.{replicate}
 use Prim.Native.Nat.{ℕ}
-use Rattle.refusal.specs.Number.{numberOf}
+use Rattle.answer.specs.Refusals.{numberOf}
 use Rattle.frame.specs.Verdict.{Verdict}
-use Rattle.frame.specs.Answers.{ReadAnswer, readStandard, readExtended, notRead, judgeAnswer, frameRead}
+use Rattle.frame.specs.Answers.{standardOutline, extendedOutline, judgeAnswer, frameRead, FrameOutline}
+use Rattle.answer.specs.Answer.{Answer, result, refused}
 use Rattle.line.specs.declared.Told.{Told}
 use Rattle.line.specs.declared.Told.the-variants.{Nothing, Refused, Standard, Extended}
 
@@ -16,13 +17,13 @@ pub data Outcome : Type 0 where
 -- An outcome without the contents: what the enum `Told` holds.
 pub data Summary : Type 0 where
   silent : Summary
-  tells : ReadAnswer → Summary
+  tells : Answer FrameOutline → Summary
 
 abbrev pub toldMeans : Told → Summary
 toldMeans Nothing = silent
-toldMeans (Refused why) = tells (notRead (numberOf why))
-toldMeans (Standard len) = tells (readStandard len)
-toldMeans (Extended to from len) = tells (readExtended to from len)
+toldMeans (Refused why) = tells (refused (numberOf why))
+toldMeans (Standard len) = tells (result (standardOutline len))
+toldMeans (Extended to from len) = tells (result (extendedOutline to from len))
 
 abbrev pub summaryOf : Outcome → Summary
 summaryOf nothing = silent
@@ -40,6 +41,6 @@ zeros = replicate 118 0
 -- no contents stand beside anything else.
 abbrev pub contentsBeside : Summary → List ℕ → List ℕ
 contentsBeside silent bytes = zeros
-contentsBeside (tells (readStandard len)) bytes = bytes
-contentsBeside (tells (readExtended to from len)) bytes = bytes
-contentsBeside (tells (notRead n)) bytes = zeros
+contentsBeside (tells (result (standardOutline len))) bytes = bytes
+contentsBeside (tells (result (extendedOutline to from len))) bytes = bytes
+contentsBeside (tells (refused n)) bytes = zeros

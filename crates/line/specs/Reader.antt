@@ -4,8 +4,9 @@ use mathlib.Core.List.{List}
 use lib.ListN.{take, set}
 use lib.Dec.{eqb, ltb}
 use Prim.Native.Nat.{ℕ, _+_}
-use Rattle.packing.specs.Choice.{pick}
-use Rattle.frame.specs.Verdict.{refused, judge}
+use Rattle.lists.specs.Choice.{pick}
+use Rattle.answer.specs.Answer.{refused}
+use Rattle.frame.specs.Verdict.{judge}
 use Rattle.frame.specs.Answers.{leftIn}
 use Rattle.frame.specs.declared.Kind.the-variants.{Standard, Extended}
 use Rattle.line.specs.Outcome.{Outcome, nothing, judged, toldMeans, summaryOf, contentsBeside, zeros}

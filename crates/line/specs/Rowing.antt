@@ -2,9 +2,10 @@
 use mathlib.Core.List.{List}
 use lib.Dec.{eqb}
 use Prim.Native.Nat.{ℕ}
-use Rattle.packing.specs.Choice.{pick}
+use Rattle.lists.specs.Choice.{pick}
 use Rattle.framing.specs.Reference.{Call, byte, finish, Role, starts, stops, plain, Protocol, run}
-use Rattle.frame.specs.Verdict.{refused, verdict}
+use Rattle.answer.specs.Answer.{refused}
+use Rattle.frame.specs.Verdict.{verdict}
 use Rattle.line.specs.Outcome.{Outcome, nothing, judged}
 use Rattle.line.specs.Reader.{Turn, newReader, stepOf, finishOf}
 use Rattle.line.specs.declared.LineReader.{LineReader}

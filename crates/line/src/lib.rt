@@ -2,9 +2,9 @@
 // call where it ends. Document 01, "The line".
 mod runs;
 
+use answer::Refusal;
 use frame::Kind;
 use frame::Read;
-use refusal::Refusal;
 ghost use mathlib.Core.Path.{_≡_};
 ghost use mathlib.Core.List.{List};
 ghost use Prim.Native.Nat.{ℕ};

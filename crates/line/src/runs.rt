@@ -4,7 +4,7 @@ ghost use mathlib.Core.Path.{_≡_};
 ghost use mathlib.Core.Bool.{true, false};
 ghost use Prim.Native.Nat.{_+_, _-_, _≤_};
 ghost use lib.ListN.{length, take, drop};
-ghost use Rattle.packing.specs.Choice.{noneOf};
+ghost use Rattle.lists.specs.Choice.{noneOf};
 ghost use Rattle.frame.specs.Stuffing.{isFlag};
 ghost use Rattle.line.specs.Reader.{reader};
 ghost use Rattle.line.specs.Runs.{isHeld, Reaches, Kept};
@@ -57,7 +57,7 @@ fn skip(input: &[u8], from: usize) -> usize
     requires { ⌜ from ≤ length (now input) ⌝ }
     ensures { λ at. ⌜ ((r : LineReader) → isHeld (r .mode) ≡ false → Reaches (now (input .entry)) from r at r) ⌝ }
 {
-    from + packing::count_before(&input[from..], crate::EXTENDED_START, crate::STOP)
+    from + lists::count_before(&input[from..], crate::EXTENDED_START, crate::STOP)
 }
 
 // How many bytes more may be held.
@@ -75,7 +75,7 @@ fn keep(bytes: &mut [u8; 118], len: usize, input: &[u8], from: usize) -> Run
     requires { ⌜ from ≤ length (now input) ⌝ }
     ensures { λ run. ⌜ ((mode : Mode) → isHeld mode ≡ true → Reaches (now (input .entry)) from (reader (now (bytes .entry)) len mode) (run .at) (reader (now (bytes .exit)) (run .len) mode)) ⌝ }
 {
-    let most = packing::lesser(room_after(len), input.len() - from);
+    let most = lists::lesser(room_after(len), input.len() - from);
     let end = from + most;
     let run = keep_blocks(bytes, len, input, from, end);
     keep_each(bytes, run.len, input, run.at, end)
@@ -90,7 +90,7 @@ fn keep_blocks(bytes: &mut [u8; 118], len: usize, input: &[u8], from: usize, end
     let mut n = len;
     let mut i = from;
     while BLOCK <= end - i {
-        if !packing::none_within(&input[i..i + BLOCK], crate::EXTENDED_START, crate::STOP) {
+        if !lists::none_within(&input[i..i + BLOCK], crate::EXTENDED_START, crate::STOP) {
             return Run { at: i, len: n };
         }
         keep_block(bytes, n, input, i);

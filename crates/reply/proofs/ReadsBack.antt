@@ -1,5 +1,5 @@
 -- What is written reads back.
-use Rattle.packing.proofs.Drafts.{written-first}
+use Rattle.answer.proofs.Drafts.{written-first}
 use Prim.Native.Nat.{ℕ, _+_, _-_, _/_, _%_, _<_}
 use mathlib.Core.Path.{_≡_, refl, sym, ap, _∙_}
 use mathlib.Core.Bool.{Bool}
@@ -7,63 +7,64 @@ use mathlib.Core.List.{List, [], _∷_, _++_, append-assoc, append-nil}
 use native.Mathlib.Omega.{arith}
 use lib.Dec.{leb}
 use lib.ListN.{length, take}
-use Rattle.packing.specs.Draft.{Draft, draft, noDraft, wrote, draftAnswer, draftOut}
-use Rattle.packing.proofs.Cases.{by-bool}
+use Rattle.answer.specs.Draft.{Draft, draftAnswer, draftOut}
+use Rattle.answer.specs.Answer.{result, refused, Answer}
+use Rattle.lists.proofs.Cases.{by-bool}
 use Rattle.command.specs.Entries.{Entry, entry, items, bytesOf, Formed, Parsed, unsound, sound, parse, found, nthOf}
 use Rattle.command.specs.Answers.{partOf}
 use Rattle.command.proofs.Places.{parse-last, nth-earlier, data-at}
-use Rattle.reply.specs.Status.{StatusAnswer, status, noStatus, soundStatus, statusIn}
-use Rattle.reply.specs.Replies.{Reply, reply, noReply, headIn, afterStatus, replyIn, itemOf, nthItem, statusDraft, withItem, afterReply, itemDraft}
+use Rattle.reply.specs.Status.{status, soundStatus, statusIn, StatusParts}
+use Rattle.reply.specs.Replies.{reply, headIn, afterStatus, replyIn, itemOf, nthItem, statusDraft, withItem, afterReply, itemDraft, Reply}
 
 -- a reply's bytes are a status byte and sound items
-pub reply-means : (w : List ℕ) (t : Bool) (p s : ℕ) (es : List Entry) → replyIn w ≡ reply t p s es
-    → (b : ℕ) × (v : List ℕ) × (w ≡ b ∷ v) × (statusIn b ≡ status t p s) × (parse items v 0 ≡ sound es)
+pub reply-means : (w : List ℕ) (t : Bool) (p s : ℕ) (es : List Entry) → replyIn w ≡ result (reply t p s es)
+    → (b : ℕ) × (v : List ℕ) × (w ≡ b ∷ v) × (statusIn b ≡ result (status t p s)) × (parse items v 0 ≡ sound es)
 unfolding replyIn headIn afterStatus
 reply-means [] t p s es h = let z : _≡_ {A = ℕ} 0 1 = cc in absurd (omega arith)
 reply-means (b ∷ v) t p s es h = case (statusIn b) (parse items v 0) refl refl h
   where
-    case : (a : StatusAnswer) (q : Parsed) → statusIn b ≡ a → parse items v 0 ≡ q → afterStatus a q ≡ reply t p s es
-        → (c : ℕ) × (u : List ℕ) × (b ∷ v ≡ c ∷ u) × (statusIn c ≡ status t p s) × (parse items u 0 ≡ sound es)
-    case (noStatus k) q e f g = let z : _≡_ {A = ℕ} 0 1 = cc in absurd (omega arith)
-    case (status t′ p′ s′) unsound e f g = let z : _≡_ {A = ℕ} 0 1 = cc in absurd (omega arith)
-    case (status t′ p′ s′) (sound fs) e f g =
-        let i : status t′ p′ s′ ≡ status t p s = cc in
+    case : (a : Answer StatusParts) (q : Parsed) → statusIn b ≡ a → parse items v 0 ≡ q → afterStatus a q ≡ result (reply t p s es)
+        → (c : ℕ) × (u : List ℕ) × (b ∷ v ≡ c ∷ u) × (statusIn c ≡ result (status t p s)) × (parse items u 0 ≡ sound es)
+    case (refused k) q e f g = let z : _≡_ {A = ℕ} 0 1 = cc in absurd (omega arith)
+    case (result (status t′ p′ s′)) unsound e f g = let z : _≡_ {A = ℕ} 0 1 = cc in absurd (omega arith)
+    case (result (status t′ p′ s′)) (sound fs) e f g =
+        let i : result (status t′ p′ s′) ≡ result (status t p s) = cc in
         let j : sound fs ≡ sound es = cc in (b, v, refl, e ∙ i, f ∙ j)
 
-reply-of : (b : ℕ) (v : List ℕ) (t : Bool) (p s : ℕ) (es : List Entry) → statusIn b ≡ status t p s → parse items v 0 ≡ sound es → replyIn (b ∷ v) ≡ reply t p s es
+reply-of : (b : ℕ) (v : List ℕ) (t : Bool) (p s : ℕ) (es : List Entry) → statusIn b ≡ result (status t p s) → parse items v 0 ≡ sound es → replyIn (b ∷ v) ≡ result (reply t p s es)
 unfolding replyIn headIn afterStatus
-reply-of b v t p s es e f = ap (λ (a : StatusAnswer). afterStatus a (parse items v 0)) e ∙ ap (afterStatus (status t p s)) f
+reply-of b v t p s es e f = ap (λ (a : Answer StatusParts). afterStatus a (parse items v 0)) e ∙ ap (afterStatus (result (status t p s))) f
 
 -- A status alone reads back as that status and no items.
-pub status-reads-back : (b : ℕ) (w : List ℕ) → statusDraft b ≡ draft w → (t : Bool) × (p : ℕ) × (s : ℕ) × (statusIn b ≡ status t p s) × (replyIn w ≡ reply t p s [])
+pub status-reads-back : (b : ℕ) (w : List ℕ) → statusDraft b ≡ result w → (t : Bool) × (p : ℕ) × (s : ℕ) × (statusIn b ≡ result (status t p s)) × (replyIn w ≡ result (reply t p s []))
 unfolding statusDraft statusIn parse
 status-reads-back b w h =
     by-bool (soundStatus b)
-    (λ y. let q : draft (b ∷ []) ≡ draft w = simp y at h in
+    (λ y. let q : result (b ∷ []) ≡ result w = simp y at h in
     let i : b ∷ [] ≡ w = cc in
-    let e : statusIn b ≡ status (leb 128 b) (b / 16 % 4) (b % 16) = simp y in
+    let e : statusIn b ≡ result (status (leb 128 b) (b / 16 % 4) (b % 16)) = simp y in
     (leb 128 b, b / 16 % 4, b % 16, e, ap replyIn (sym i) ∙ reply-of b [] (leb 128 b) (b / 16 % 4) (b % 16) [] e refl))
-    (λ y. let q : noDraft 8 ≡ draft w = simp y at h in let z : _≡_ {A = ℕ} 0 1 = cc in absurd (omega arith))
+    (λ y. let q : refused 8 ≡ result w = simp y at h in let z : _≡_ {A = ℕ} 0 1 = cc in absurd (omega arith))
 
-with-item-means : (s : List ℕ) (b : ℕ) (d w : List ℕ) → withItem s b d ≡ draft w → w ≡ s ++ bytesOf items (entry b d)
+with-item-means : (s : List ℕ) (b : ℕ) (d w : List ℕ) → withItem s b d ≡ result w → w ≡ s ++ bytesOf items (entry b d)
 unfolding withItem
 with-item-means s b d w h =
     by-bool (leb (length d) 255)
     (λ x. by-bool (leb (length (s ++ bytesOf items (entry b d))) 117)
-    (λ y. let q : draft (s ++ bytesOf items (entry b d)) ≡ draft w = simp (x, y) at h in let i : w ≡ s ++ bytesOf items (entry b d) = cc in i)
-    (λ y. let q : noDraft 2 ≡ draft w = simp (x, y) at h in let z : _≡_ {A = ℕ} 0 1 = cc in absurd (omega arith)))
-    (λ x. let q : noDraft 7 ≡ draft w = simp x at h in let z : _≡_ {A = ℕ} 0 1 = cc in absurd (omega arith))
+    (λ y. let q : result (s ++ bytesOf items (entry b d)) ≡ result w = simp (x, y) at h in let i : w ≡ s ++ bytesOf items (entry b d) = cc in i)
+    (λ y. let q : refused 2 ≡ result w = simp (x, y) at h in let z : _≡_ {A = ℕ} 0 1 = cc in absurd (omega arith)))
+    (λ x. let q : refused 7 ≡ result w = simp x at h in let z : _≡_ {A = ℕ} 0 1 = cc in absurd (omega arith))
 
 -- What is written reads back as the same status, the items so far, and the new one last.
-pub item-reads-back : (s : List ℕ) (b : ℕ) (d w : List ℕ) → b < 256 → itemDraft s b d ≡ draft w
-    → (t : Bool) × (p : ℕ) × (x : ℕ) × (es : List Entry) × (replyIn s ≡ reply t p x es) × (replyIn w ≡ reply t p x (es ++ (entry b d ∷ [])))
+pub item-reads-back : (s : List ℕ) (b : ℕ) (d w : List ℕ) → b < 256 → itemDraft s b d ≡ result w
+    → (t : Bool) × (p : ℕ) × (x : ℕ) × (es : List Entry) × (replyIn s ≡ result (reply t p x es)) × (replyIn w ≡ result (reply t p x (es ++ (entry b d ∷ []))))
 unfolding itemDraft afterReply
 item-reads-back s b d w g h = case (replyIn s) refl h
   where
-    case : (r : Reply) → replyIn s ≡ r → afterReply r (withItem s b d) ≡ draft w
-        → (t : Bool) × (p : ℕ) × (x : ℕ) × (es : List Entry) × (replyIn s ≡ reply t p x es) × (replyIn w ≡ reply t p x (es ++ (entry b d ∷ [])))
-    case (noReply k) e f = let z : _≡_ {A = ℕ} 0 1 = cc in absurd (omega arith)
-    case (reply t p x es) e f =
+    case : (r : Answer Reply) → replyIn s ≡ r → afterReply r (withItem s b d) ≡ result w
+        → (t : Bool) × (p : ℕ) × (x : ℕ) × (es : List Entry) × (replyIn s ≡ result (reply t p x es)) × (replyIn w ≡ result (reply t p x (es ++ (entry b d ∷ []))))
+    case (refused k) e f = let z : _≡_ {A = ℕ} 0 1 = cc in absurd (omega arith)
+    case (result (reply t p x es)) e f =
         let m = reply-means s t p x es e in
         let c = m .0 in
         let v = m .1 in
@@ -72,27 +73,27 @@ item-reads-back s b d w g h = case (replyIn s) refl h
         (t, p, x, es, e, ap replyIn (with-item-means s b d w f ∙ ap (λ (l : List ℕ). l ++ bytesOf items (entry b d)) (m .2)) ∙ reply-of c (v ++ bytesOf items (entry b d)) t p x (es ++ (entry b d ∷ [])) (m .3) last)
 
 -- Every earlier item is found as it was.
-pub earlier-items : (s w : List ℕ) (t : Bool) (p x : ℕ) (es : List Entry) (e : Entry) (n : ℕ) → replyIn s ≡ reply t p x es → replyIn w ≡ reply t p x (es ++ (e ∷ [])) → n < length es
+pub earlier-items : (s w : List ℕ) (t : Bool) (p x : ℕ) (es : List Entry) (e : Entry) (n : ℕ) → replyIn s ≡ result (reply t p x es) → replyIn w ≡ result (reply t p x (es ++ (e ∷ []))) → n < length es
     → nthItem w n ≡ nthItem s n
 unfolding itemOf
 earlier-items s w t p x es e n h k l =
-    ap (λ (r : Reply). itemOf r n) k ∙ nth-earlier items 1 es (e ∷ []) n l ∙ sym (ap (λ (r : Reply). itemOf r n) h)
+    ap (λ (r : Answer Reply). itemOf r n) k ∙ nth-earlier items 1 es (e ∷ []) n l ∙ sym (ap (λ (r : Answer Reply). itemOf r n) h)
 
 -- The n-th item's data, as `nth_item_data` hands it back, is the data of the n-th item.
-pub item-data-is : (w : List ℕ) (t : Bool) (p x : ℕ) (before : List Entry) (e : Entry) (rest : List Entry) → replyIn w ≡ reply t p x (before ++ (e ∷ rest))
+pub item-data-is : (w : List ℕ) (t : Bool) (p x : ℕ) (before : List Entry) (e : Entry) (rest : List Entry) → replyIn w ≡ result (reply t p x (before ++ (e ∷ rest)))
     → partOf w (nthItem w (length before)) ≡ e .body
 unfolding itemOf
 item-data-is w t p x before e rest h =
     let m = reply-means w t p x (before ++ (e ∷ rest)) h in
-    ap (λ (r : Reply). partOf w (itemOf r (length before))) h
+    ap (λ (r : Answer Reply). partOf w (itemOf r (length before))) h
     ∙ ap (λ (l : List ℕ). partOf l (nthOf items 1 (before ++ (e ∷ rest)) (length before))) (m .2)
     ∙ data-at items (m .0 ∷ []) (m .1) before e rest (m .4)
 
 -- ---- a list of items, written one by one
 
 abbrev pub withNext : Draft → Entry → Draft
-withNext (noDraft k) e = noDraft k
-withNext (draft w) e = itemDraft w (e .byte) (e .body)
+withNext (refused k) e = refused k
+withNext (result w) e = itemDraft w (e .byte) (e .body)
 
 unfoldable pub writeAll : Draft → List Entry → Draft
 writeAll d [] = d
@@ -102,42 +103,42 @@ unfoldable pub Bytes : List Entry → Type 0
 Bytes [] = Unit {0}
 Bytes (e ∷ es) = (e .byte < 256) × Bytes es
 
-refused-stays : (k : ℕ) (es : List Entry) → writeAll (noDraft k) es ≡ noDraft k
+refused-stays : (k : ℕ) (es : List Entry) → writeAll (refused k) es ≡ refused k
 unfolding writeAll
 refused-stays k [] = refl
 refused-stays k (e ∷ es) = refused-stays k es
 
 -- Items written one by one read back as the items so far and then those, in order.
-pub all-read-back : (u w : List ℕ) (t : Bool) (p x : ℕ) (fs es : List Entry) → Bytes es → replyIn u ≡ reply t p x fs → writeAll (draft u) es ≡ draft w
-    → replyIn w ≡ reply t p x (fs ++ es)
+pub all-read-back : (u w : List ℕ) (t : Bool) (p x : ℕ) (fs es : List Entry) → Bytes es → replyIn u ≡ result (reply t p x fs) → writeAll (result u) es ≡ result w
+    → replyIn w ≡ result (reply t p x (fs ++ es))
 unfolding writeAll Bytes
 all-read-back u w t p x fs [] g h k =
-    let i : u ≡ w = cc in ap replyIn (sym i) ∙ h ∙ ap (reply t p x) (sym (append-nil fs))
+    let i : u ≡ w = cc in ap replyIn (sym i) ∙ h ∙ ap (λ (gs : List Entry). result (reply t p x gs)) (sym (append-nil fs))
 all-read-back u w t p x fs (e ∷ es) g h k = case (itemDraft u (e .byte) (e .body)) refl k (λ v q r. all-read-back v w t p x (fs ++ (e ∷ [])) es (g .1) q r)
   where
-    case : (d : Draft) → itemDraft u (e .byte) (e .body) ≡ d → writeAll d es ≡ draft w
-        → ((v : List ℕ) → replyIn v ≡ reply t p x (fs ++ (e ∷ [])) → writeAll (draft v) es ≡ draft w → replyIn w ≡ reply t p x ((fs ++ (e ∷ [])) ++ es))
-        → replyIn w ≡ reply t p x (fs ++ (e ∷ es))
-    case (noDraft m) q r f = let i : noDraft m ≡ draft w = sym (refused-stays m es) ∙ r in let z : _≡_ {A = ℕ} 0 1 = cc in absurd (omega arith)
-    case (draft v) q r f =
+    case : (d : Draft) → itemDraft u (e .byte) (e .body) ≡ d → writeAll d es ≡ result w
+        → ((v : List ℕ) → replyIn v ≡ result (reply t p x (fs ++ (e ∷ []))) → writeAll (result v) es ≡ result w → replyIn w ≡ result (reply t p x ((fs ++ (e ∷ [])) ++ es)))
+        → replyIn w ≡ result (reply t p x (fs ++ (e ∷ es)))
+    case (refused m) q r f = let i : refused m ≡ result w = sym (refused-stays m es) ∙ r in let z : _≡_ {A = ℕ} 0 1 = cc in absurd (omega arith)
+    case (result v) q r f =
         let b = item-reads-back u (e .byte) (e .body) v (g .0) q in
-        let i : reply t p x fs ≡ reply (b .0) (b .1) (b .2) (b .3) = sym h ∙ b .4 in
-        let j : reply (b .0) (b .1) (b .2) (b .3 ++ (e ∷ [])) ≡ reply t p x (fs ++ (e ∷ [])) = cc in
-        f v (b .5 ∙ j) r ∙ ap (reply t p x) (append-assoc fs (e ∷ []) es)
+        let i : result (reply t p x fs) ≡ result (reply (b .0) (b .1) (b .2) (b .3)) = sym h ∙ b .4 in
+        let j : result (reply (b .0) (b .1) (b .2) (b .3 ++ (e ∷ []))) ≡ result (reply t p x (fs ++ (e ∷ []))) = cc in
+        f v (b .5 ∙ j) r ∙ ap (λ (gs : List Entry). result (reply t p x gs)) (append-assoc fs (e ∷ []) es)
 
 -- ---- the same of the answers and the lent output
 
 -- What a call of `write_item` left in an output with room, read from there, has the items so far and the new one last.
-pub written-item-reads-back : (s : List ℕ) (b : ℕ) (d out : List ℕ) (n : ℕ) → b < 256 → draftAnswer (itemDraft s b d) (length out) ≡ wrote n
-    → (t : Bool) × (p : ℕ) × (x : ℕ) × (es : List Entry) × (replyIn s ≡ reply t p x es) × (replyIn (take n (draftOut (itemDraft s b d) out)) ≡ reply t p x (es ++ (entry b d ∷ [])))
+pub written-item-reads-back : (s : List ℕ) (b : ℕ) (d out : List ℕ) (n : ℕ) → b < 256 → draftAnswer (itemDraft s b d) (length out) ≡ result n
+    → (t : Bool) × (p : ℕ) × (x : ℕ) × (es : List Entry) × (replyIn s ≡ result (reply t p x es)) × (replyIn (take n (draftOut (itemDraft s b d) out)) ≡ result (reply t p x (es ++ (entry b d ∷ []))))
 written-item-reads-back s b d out n h e =
     let k = written-first (itemDraft s b d) out n e in
     let r = item-reads-back s b d (k .0) h (k .1) in
     (r .0, r .1, r .2, r .3, r .4, ap replyIn (k .3) ∙ r .5)
 
 -- The same of `write_status`.
-pub written-status-reads-back : (b : ℕ) (out : List ℕ) (n : ℕ) → draftAnswer (statusDraft b) (length out) ≡ wrote n
-    → (t : Bool) × (p : ℕ) × (s : ℕ) × (statusIn b ≡ status t p s) × (replyIn (take n (draftOut (statusDraft b) out)) ≡ reply t p s [])
+pub written-status-reads-back : (b : ℕ) (out : List ℕ) (n : ℕ) → draftAnswer (statusDraft b) (length out) ≡ result n
+    → (t : Bool) × (p : ℕ) × (s : ℕ) × (statusIn b ≡ result (status t p s)) × (replyIn (take n (draftOut (statusDraft b) out)) ≡ result (reply t p s []))
 written-status-reads-back b out n e =
     let k = written-first (statusDraft b) out n e in
     let r = status-reads-back b (k .0) (k .1) in

@@ -7,24 +7,24 @@ use native.Mathlib.Omega.{arith}
 use lib.Dec.{leb}
 use lib.ListN.{length, getD, drop, set, length-append, length-set}
 use borrow.Author.Tests.{le-leb, lt-leb, lt-ltb}
-use Rattle.packing.specs.Draft.{draft, noDraft}
-use Rattle.packing.specs.Splice.{splice}
-use Rattle.packing.proofs.Cases.{by-bool}
-use Rattle.packing.proofs.Splices.{length-splice, splice-next, set-splice}
-use Rattle.command.specs.Entries.{entry, items, bytesOf, Parsed, unsound, sound, parse, Answer, refused, nthIn}
-use Rattle.command.specs.Answers.{uncounted, entries, counted}
-use Rattle.reply.specs.Status.{StatusAnswer, status, noStatus, soundStatus, statusIn, statusMeans}
-use Rattle.reply.specs.Replies.{Reply, reply, noReply, headIn, afterStatus, replyIn, answered, notAnswered, replyAnswer, itemOf, nthItem, statusDraft, withItem, afterReply, itemDraft}
+use Rattle.answer.specs.Answer.{result, refused, Answer}
+use Rattle.lists.specs.Splice.{splice}
+use Rattle.lists.proofs.Cases.{by-bool}
+use Rattle.lists.proofs.Splices.{length-splice, splice-next, set-splice}
+use Rattle.command.specs.Entries.{entry, items, bytesOf, Parsed, unsound, sound, parse, nthIn, Extent}
+use Rattle.command.specs.Answers.{counted}
+use Rattle.reply.specs.Status.{status, soundStatus, statusIn, statusMeans, StatusParts}
+use Rattle.reply.specs.Replies.{reply, headIn, afterStatus, replyIn, replyOutline, replyAnswer, itemOf, nthItem, statusDraft, withItem, afterReply, itemDraft, Reply}
 use Rattle.reply.specs.declared.status.StatusRead.{StatusRead}
 
 -- ---- the status at the head
 
-pub head-short : (s : List ℕ) → length s ≡ 0 → noStatus 4 ≡ headIn s
+pub head-short : (s : List ℕ) → length s ≡ 0 → refused 4 ≡ headIn s
 unfolding headIn
 head-short [] h = refl
 head-short (b ∷ s) h = absurd (omega arith)
 
-pub head-is : (s : List ℕ) → (length s ≡ 0 → ⊥) → {a : StatusAnswer} → a ≡ statusIn (getD s 0 0) → a ≡ headIn s
+pub head-is : (s : List ℕ) → (length s ≡ 0 → ⊥) → {a : Answer StatusParts} → a ≡ statusIn (getD s 0 0) → a ≡ headIn s
 unfolding headIn
 head-is [] h e = absurd (h refl)
 head-is (b ∷ s) h e = e
@@ -32,54 +32,54 @@ head-is (b ∷ s) h e = e
 -- contents as a reply, where a call's result x is found to be y
 pub headed : (s : List ℕ) {x : StatusRead} (y : StatusRead) → statusMeans x ≡ headIn s → x ≡ y → replyIn s ≡ afterStatus (statusMeans y) (parse items (drop 1 s) 0)
 unfolding replyIn
-headed s y d e = ap (λ (a : StatusAnswer). afterStatus a (parse items (drop 1 s) 0)) (sym d ∙ ap statusMeans e)
+headed s y d e = ap (λ (a : Answer StatusParts). afterStatus a (parse items (drop 1 s) 0)) (sym d ∙ ap statusMeans e)
 
 -- ---- reading
 
-pub read-refused : (s : List ℕ) (k : ℕ) → replyIn s ≡ afterStatus (noStatus k) (parse items (drop 1 s) 0) → notAnswered k ≡ replyAnswer (replyIn s)
+pub read-refused : (s : List ℕ) (k : ℕ) → replyIn s ≡ afterStatus (refused k) (parse items (drop 1 s) 0) → refused k ≡ replyAnswer (replyIn s)
 unfolding afterStatus replyAnswer
 read-refused s k h = sym (ap replyAnswer h)
 
-pub items-unsound : (t : Bool) (p s : ℕ) (q : Parsed) → counted q ≡ uncounted → notAnswered 7 ≡ replyAnswer (afterStatus (status t p s) q)
+pub items-unsound : (t : Bool) (p s : ℕ) (q : Parsed) → counted q ≡ refused 7 → refused 7 ≡ replyAnswer (afterStatus (result (status t p s)) q)
 unfolding afterStatus replyAnswer counted
 items-unsound t p s unsound e = refl
 items-unsound t p s (sound es) e = let z : _≡_ {A = ℕ} 0 1 = cc in absurd (omega arith)
 
-pub items-counted : (t : Bool) (p s : ℕ) (q : Parsed) (n : ℕ) → counted q ≡ entries n → answered t p s n ≡ replyAnswer (afterStatus (status t p s) q)
+pub items-counted : (t : Bool) (p s : ℕ) (q : Parsed) (n : ℕ) → counted q ≡ result n → result (replyOutline t p s n) ≡ replyAnswer (afterStatus (result (status t p s)) q)
 unfolding afterStatus replyAnswer counted
 items-counted t p s unsound n e = let z : _≡_ {A = ℕ} 0 1 = cc in absurd (omega arith)
-items-counted t p s (sound es) n e = let m : n ≡ length es = cc in ap (answered t p s) m
+items-counted t p s (sound es) n e = let m : n ≡ length es = cc in ap (λ (k : ℕ). result (replyOutline t p s k)) m
 
-pub item-refused : (s : List ℕ) (n k : ℕ) → replyIn s ≡ afterStatus (noStatus k) (parse items (drop 1 s) 0) → refused k ≡ nthItem s n
+pub item-refused : (s : List ℕ) (n k : ℕ) → replyIn s ≡ afterStatus (refused k) (parse items (drop 1 s) 0) → refused k ≡ nthItem s n
 unfolding afterStatus itemOf
-item-refused s n k h = sym (ap (λ (r : Reply). itemOf r n) h)
+item-refused s n k h = sym (ap (λ (r : Answer Reply). itemOf r n) h)
 
-pub item-is : (s : List ℕ) (n : ℕ) (t : Bool) (p x : ℕ) → replyIn s ≡ afterStatus (status t p x) (parse items (drop 1 s) 0)
-    → {a : Answer} → a ≡ nthIn items 1 (parse items (drop 1 s) 0) n → a ≡ nthItem s n
+pub item-is : (s : List ℕ) (n : ℕ) (t : Bool) (p x : ℕ) → replyIn s ≡ afterStatus (result (status t p x)) (parse items (drop 1 s) 0)
+    → {a : Answer Extent} → a ≡ nthIn items 1 (parse items (drop 1 s) 0) n → a ≡ nthItem s n
 unfolding afterStatus itemOf nthIn
-item-is s n t p x h e = e ∙ of-parsed (parse items (drop 1 s) 0) ∙ sym (ap (λ (r : Reply). itemOf r n) h)
+item-is s n t p x h e = e ∙ of-parsed (parse items (drop 1 s) 0) ∙ sym (ap (λ (r : Answer Reply). itemOf r n) h)
   where
-    of-parsed : (q : Parsed) → nthIn items 1 q n ≡ itemOf (afterStatus (status t p x) q) n
+    of-parsed : (q : Parsed) → nthIn items 1 q n ≡ itemOf (afterStatus (result (status t p x)) q) n
     of-parsed unsound = refl
     of-parsed (sound es) = refl
 
 -- ---- the draft of a status byte
 
-pub status-refused : (b k : ℕ) → noStatus k ≡ statusIn b → statusDraft b ≡ noDraft k
+pub status-refused : (b k : ℕ) → refused k ≡ statusIn b → statusDraft b ≡ refused k
 unfolding statusIn statusDraft
 status-refused b k e =
     by-bool (soundStatus b)
-    (λ y. let q : noStatus k ≡ status (leb 128 b) (b / 16 % 4) (b % 16) = simp y at e in
+    (λ y. let q : refused k ≡ result (status (leb 128 b) (b / 16 % 4) (b % 16)) = simp y at e in
     let z : _≡_ {A = ℕ} 0 1 = cc in absurd (omega arith))
-    (λ y. let q : noStatus k ≡ noStatus 8 = simp y at e in
-    let m : k ≡ 8 = cc in (simp y) ∙ ap noDraft (sym m))
+    (λ y. let q : refused k ≡ refused 8 = simp y at e in
+    let m : k ≡ 8 = cc in (simp y) ∙ ap refused (sym m))
 
-pub status-sound : (b : ℕ) (t : Bool) (p s : ℕ) → status t p s ≡ statusIn b → statusDraft b ≡ draft (b ∷ [])
+pub status-sound : (b : ℕ) (t : Bool) (p s : ℕ) → result (status t p s) ≡ statusIn b → statusDraft b ≡ result (b ∷ [])
 unfolding statusIn statusDraft
 status-sound b t p s e =
     by-bool (soundStatus b)
     (λ y. simp y)
-    (λ y. let q : status t p s ≡ noStatus 8 = simp y at e in
+    (λ y. let q : result (status t p s) ≡ refused 8 = simp y at e in
     let z : _≡_ {A = ℕ} 0 1 = cc in absurd (omega arith))
 
 -- ---- the draft of an item
@@ -98,15 +98,15 @@ module _ (s : List ℕ) (b : ℕ) (d : List ℕ) (byte : b < 256) where
   is-whole : s ++ bytesOf items (entry b d) ≡ whole
   is-whole = ap (λ (l : List ℕ). s ++ l) (item-bytes b d byte)
 
-  pub item-count : 255 < length d → withItem s b d ≡ noDraft 7
+  pub item-count : 255 < length d → withItem s b d ≡ refused 7
   unfolding withItem
   item-count h = simp (lt-leb (length d) 255 h)
 
-  pub item-long : length d ≤ 255 → 117 < length s + 2 + length d → withItem s b d ≡ noDraft 2
+  pub item-long : length d ≤ 255 → 117 < length s + 2 + length d → withItem s b d ≡ refused 2
   unfolding withItem
   item-long h k = simp (le-leb (length d) 255 h, is-whole, lt-leb (length whole) 117 (omega (arith, whole-length)))
 
-  pub item-fits : length d ≤ 255 → length s + 2 + length d ≤ 117 → withItem s b d ≡ draft whole
+  pub item-fits : length d ≤ 255 → length s + 2 + length d ≤ 117 → withItem s b d ≡ result whole
   unfolding withItem
   item-fits h k = simp (le-leb (length d) 255 h, is-whole, le-leb (length whole) 117 (omega (arith, whole-length)))
 
@@ -130,18 +130,18 @@ put-written s d out o₁ o₄ b room e f =
 
 -- ---- after the contents so far are read
 
-pub prior-refused : (s : List ℕ) (b : ℕ) (d : List ℕ) (k : ℕ) → notAnswered k ≡ replyAnswer (replyIn s) → itemDraft s b d ≡ noDraft k
+pub prior-refused : (s : List ℕ) (b : ℕ) (d : List ℕ) (k : ℕ) → refused k ≡ replyAnswer (replyIn s) → itemDraft s b d ≡ refused k
 unfolding replyAnswer itemDraft afterReply
 prior-refused s b d k e = of-reply (replyIn s) e
   where
-    of-reply : (r : Reply) → notAnswered k ≡ replyAnswer r → afterReply r (withItem s b d) ≡ noDraft k
-    of-reply (reply t p x es) e = let z : _≡_ {A = ℕ} 0 1 = cc in absurd (omega arith)
-    of-reply (noReply m) e = let i : k ≡ m = cc in ap noDraft (sym i)
+    of-reply : (r : Answer Reply) → refused k ≡ replyAnswer r → afterReply r (withItem s b d) ≡ refused k
+    of-reply (result (reply t p x es)) e = let z : _≡_ {A = ℕ} 0 1 = cc in absurd (omega arith)
+    of-reply (refused m) e = let i : k ≡ m = cc in ap refused (sym i)
 
-pub prior-sound : (s : List ℕ) (b : ℕ) (d : List ℕ) (t : Bool) (p x n : ℕ) → answered t p x n ≡ replyAnswer (replyIn s) → withItem s b d ≡ itemDraft s b d
+pub prior-sound : (s : List ℕ) (b : ℕ) (d : List ℕ) (t : Bool) (p x n : ℕ) → result (replyOutline t p x n) ≡ replyAnswer (replyIn s) → withItem s b d ≡ itemDraft s b d
 unfolding replyAnswer itemDraft afterReply
 prior-sound s b d t p x n e = of-reply (replyIn s) e
   where
-    of-reply : (r : Reply) → answered t p x n ≡ replyAnswer r → withItem s b d ≡ afterReply r (withItem s b d)
-    of-reply (reply t′ p′ x′ es) e = refl
-    of-reply (noReply m) e = let z : _≡_ {A = ℕ} 0 1 = cc in absurd (omega arith)
+    of-reply : (r : Answer Reply) → result (replyOutline t p x n) ≡ replyAnswer r → withItem s b d ≡ afterReply r (withItem s b d)
+    of-reply (result (reply t′ p′ x′ es)) e = refl
+    of-reply (refused m) e = let z : _≡_ {A = ℕ} 0 1 = cc in absurd (omega arith)

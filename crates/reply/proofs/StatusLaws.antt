@@ -6,26 +6,27 @@ use native.Mathlib.Omega.{arith}
 use native.Mathlib.Nat.{div-add-mod, div-div-eq-div-mul, div-eq-of-lt, div-eq-of-lt-le, mod-mod, mod-lt, mod-eq-of-lt, add-mul-mod-self-left, add-mul-div-left, mul-mod-right}
 use lib.Dec.{leb, eqb}
 use borrow.Author.Tests.{leb-true, leb-false, le-leb, lt-leb, ne-eqb, eqb-false}
-use Rattle.packing.specs.Choice.{pick}
-use Rattle.packing.proofs.Cases.{by-bool}
-use Rattle.command.specs.Entries.{sound, refused}
-use Rattle.reply.specs.Status.{status, noStatus, soundStatus, statusIn, statusByte}
+use Rattle.lists.specs.Choice.{pick}
+use Rattle.lists.proofs.Cases.{by-bool}
+use Rattle.command.specs.Entries.{sound}
+use Rattle.answer.specs.Answer.{result, refused}
+use Rattle.reply.specs.Status.{status, soundStatus, statusIn, statusByte}
 
-sound-means : (b : ℕ) (t : Bool) (p s : ℕ) → statusIn b ≡ status t p s
+sound-means : (b : ℕ) (t : Bool) (p s : ℕ) → statusIn b ≡ result (status t p s)
     → (leb 128 b ≡ t) × (b / 16 % 4 ≡ p) × (b % 16 ≡ s) × (b / 64 % 2 ≡ 1 → ⊥) × (b % 16 ≡ 4 → ⊥) × (b % 16 ≤ 9)
 unfolding statusIn soundStatus
 sound-means b t p s e =
     by-bool (eqb (b / 64 % 2) 1)
-    (λ x. let q : noStatus 8 ≡ status t p s = simp x at e in let w : _≡_ {A = ℕ} 0 1 = cc in absurd (omega arith))
+    (λ x. let q : refused 8 ≡ result (status t p s) = simp x at e in let w : _≡_ {A = ℕ} 0 1 = cc in absurd (omega arith))
     (λ x. by-bool (eqb (b % 16) 4)
-    (λ y. let q : noStatus 8 ≡ status t p s = simp (x, y) at e in let w : _≡_ {A = ℕ} 0 1 = cc in absurd (omega arith))
+    (λ y. let q : refused 8 ≡ result (status t p s) = simp (x, y) at e in let w : _≡_ {A = ℕ} 0 1 = cc in absurd (omega arith))
     (λ y. by-bool (leb (b % 16) 9)
-    (λ z. let q : status (leb 128 b) (b / 16 % 4) (b % 16) ≡ status t p s = simp (x, y, z) at e in
+    (λ z. let q : result (status (leb 128 b) (b / 16 % 4) (b % 16)) ≡ result (status t p s) = simp (x, y, z) at e in
     let i : leb 128 b ≡ t = cc in
     let j : b / 16 % 4 ≡ p = cc in
     let k : b % 16 ≡ s = cc in
     (i, j, k, eqb-false (b / 64 % 2) 1 x, eqb-false (b % 16) 4 y, leb-true (b % 16) 9 z))
-    (λ z. let q : noStatus 8 ≡ status t p s = simp (x, y, z) at e in let w : _≡_ {A = ℕ} 0 1 = cc in absurd (omega arith))))
+    (λ z. let q : refused 8 ≡ result (status t p s) = simp (x, y, z) at e in let w : _≡_ {A = ℕ} 0 1 = cc in absurd (omega arith))))
 
 -- a byte is its bits
 digits : (b : ℕ) → b ≡ 128 * (b / 128) + (64 * (b / 64 % 2) + (16 * (b / 16 % 4) + b % 16))
@@ -38,7 +39,7 @@ top-bit b h =
     (λ y. simp y (div-eq-of-lt (leb-false 128 b y)))
 
 -- A sound byte, read and made again, is the byte.
-pub byte-again : (b : ℕ) (t : Bool) (p s : ℕ) → b < 256 → statusIn b ≡ status t p s → statusByte t p s ≡ b
+pub byte-again : (b : ℕ) (t : Bool) (p s : ℕ) → b < 256 → statusIn b ≡ result (status t p s) → statusByte t p s ≡ b
 unfolding statusByte
 byte-again b t p s h e =
     let m = sound-means b t p s e in
@@ -80,20 +81,20 @@ module _ (t p s : ℕ) (hp : p ≤ 3) (hs : s ≤ 9) where
       ap (λ (x : ℕ). x % 2) (sym (div-div-eq-div-mul made 16 4) ∙ ap (λ (x : ℕ). x / 4) made-high ∙ add-mul-div-left p (2 * t) (omega arith) ∙ omega (arith, div-eq-of-lt {n = p} {m = 4} (omega arith)))
       ∙ mul-mod-right 2 t
 
-status-made : (b : ℕ) (p s : ℕ) → b % 16 ≡ s → b / 16 % 4 ≡ p → b / 64 % 2 ≡ 0 → s ≤ 9 → (s ≡ 4 → ⊥) → statusIn b ≡ status (leb 128 b) p s
+status-made : (b : ℕ) (p s : ℕ) → b % 16 ≡ s → b / 16 % 4 ≡ p → b / 64 % 2 ≡ 0 → s ≤ 9 → (s ≡ 4 → ⊥) → statusIn b ≡ result (status (leb 128 b) p s)
 unfolding statusIn soundStatus
 status-made b p s i j k hs n =
     let i′ : eqb (b % 16) 4 ≡ false = ne-eqb (b % 16) 4 (λ e. n (sym i ∙ e)) in
     let i″ : leb (b % 16) 9 ≡ true = le-leb (b % 16) 9 (omega arith) in
     let k′ : eqb (b / 64 % 2) 1 ≡ false = ne-eqb (b / 64 % 2) 1 (λ e. absurd (omega arith)) in
-    (simp (k′, i′, i″)) ∙ ap (λ (x : ℕ). status (leb 128 b) x (b % 16)) j ∙ ap (status (leb 128 b) p) i
+    (simp (k′, i′, i″)) ∙ ap (λ (x : ℕ). result (status (leb 128 b) x (b % 16))) j ∙ ap (λ (x : ℕ). result (status (leb 128 b) p x)) i
 
 -- A status with a previous-frame result and a state of the paper, made and read again, is the status: no sound byte is refused.
-pub status-again : (t : Bool) (p s : ℕ) → p ≤ 3 → s ≤ 9 → (s ≡ 4 → ⊥) → statusIn (statusByte t p s) ≡ status t p s
+pub status-again : (t : Bool) (p s : ℕ) → p ≤ 3 → s ≤ 9 → (s ≡ 4 → ⊥) → statusIn (statusByte t p s) ≡ result (status t p s)
 unfolding statusByte made
 status-again true p s hp hs n =
     status-made (made 1 p s hp hs) p s (made-low 1 p s hp hs) (made-previous 1 p s hp hs) (made-clear 1 p s hp hs) hs n
-    ∙ ap (λ (x : Bool). status x p s) (le-leb 128 (made 1 p s hp hs) (omega arith))
+    ∙ ap (λ (x : Bool). result (status x p s)) (le-leb 128 (made 1 p s hp hs) (omega arith))
 status-again false p s hp hs n =
     status-made (made 0 p s hp hs) p s (made-low 0 p s hp hs) (made-previous 0 p s hp hs) (made-clear 0 p s hp hs) hs n
-    ∙ ap (λ (x : Bool). status x p s) (lt-leb 128 (made 0 p s hp hs) (omega (arith, made-is 0 p s hp hs)))
+    ∙ ap (λ (x : Bool). result (status x p s)) (lt-leb 128 (made 0 p s hp hs) (omega (arith, made-is 0 p s hp hs)))

@@ -2,20 +2,20 @@
 // Document 01, "Commands and replies".
 pub mod status;
 
+use answer::Refusal;
+use answer::Written;
 use command::entries;
 use command::entries::Counted;
 use command::entries::Cursor;
 use command::entries::Found;
-use frame::Written;
-use refusal::Refusal;
 use status::Status;
 use status::StatusRead;
 ghost use mathlib.Core.Path.{_≡_};
 ghost use lib.ListN.{length, drop};
-ghost use Rattle.packing.specs.Draft.{draftAnswer, draftOut};
-ghost use Rattle.frame.specs.Answers.{writtenMeans};
+ghost use Rattle.answer.specs.Answer.{result};
+ghost use Rattle.answer.specs.Draft.{draftAnswer, draftOut, writtenMeans};
 ghost use Rattle.command.specs.Answers.{foundMeans, partOf};
-ghost use Rattle.reply.specs.Status.{statusMeans, soundly};
+ghost use Rattle.reply.specs.Status.{statusMeans, partsOf};
 ghost use Rattle.reply.specs.Replies.{headIn, replyIn, replyMeans, replyAnswer, nthItem, statusDraft, withItem, itemDraft, afterStatus};
 ghost use Rattle.command.specs.Entries.{parse, items};
 
@@ -113,7 +113,7 @@ fn head(contents: &[u8]) -> StatusRead
 
 // The same contents, whose status is known.
 fn read_items(contents: &[u8], status: Status) -> ReplyRead
-    ensures { λ r. ⌜ replyMeans r ≡ replyAnswer (afterStatus (soundly status) (parse items (drop 1 (now (contents .entry))) 0)) ⌝ }
+    ensures { λ r. ⌜ replyMeans r ≡ replyAnswer (afterStatus (result (partsOf status)) (parse items (drop 1 (now (contents .entry))) 0)) ⌝ }
 {
     let all = entries::count(COUNTED, contents, Cursor { at: ITEMS });
     match all {

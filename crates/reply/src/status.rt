@@ -1,5 +1,5 @@
 // The status byte that every reply begins with.
-use refusal::Refusal;
+use answer::Refusal;
 ghost use mathlib.Core.Path.{_≡_};
 ghost use Rattle.reply.specs.Status.{statusMeans, statusIn, statusByte};
 

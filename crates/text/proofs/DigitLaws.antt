@@ -7,7 +7,7 @@ use native.Mathlib.Omega.{arith}
 use lib.ListN.{length, set, length-append}
 use lib.Dec.{ltb}
 use borrow.Author.Tests.{lt-ltb, le-ltb, ltb-true, ltb-false}
-use Rattle.packing.proofs.Cases.{by-bool}
+use Rattle.lists.proofs.Cases.{by-bool}
 use Rattle.text.specs.Digits.{decimalWithin, decimal, pair, hex, hexDigit}
 use Rattle.text.specs.Lines.{field, hexField}
 use Rattle.text.specs.Writing.{Wrote}

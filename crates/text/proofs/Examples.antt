@@ -2,7 +2,7 @@
 use mathlib.Core.Path.{_≡_, refl}
 use mathlib.Core.Bool.{true, false}
 use mathlib.Core.List.{[], _∷_}
-use Rattle.packing.specs.Choice.{noneOf}
+use Rattle.lists.specs.Choice.{noneOf}
 use Rattle.frame.specs.Stuffing.{unstuff, prepend}
 use Rattle.frame.specs.Checksum.{sumFrom}
 use Rattle.frame.specs.Verdict.{frameIn, judgeBytes, judge, isTerminated, verdict}

@@ -7,7 +7,7 @@ use native.Mathlib.Omega.{arith}
 use lib.Dec.{ltb}
 use lib.ListN.{length}
 use borrow.Author.Tests.{ltb-true, ltb-false}
-use Rattle.packing.proofs.Cases.{by-bool}
+use Rattle.lists.proofs.Cases.{by-bool}
 use Rattle.text.specs.Digits.{decimal}
 use Rattle.text.proofs.DigitLaws.{last-digit, tenth, decimal-small, decimal-large, length-small, length-large}
 

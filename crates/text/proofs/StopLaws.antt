@@ -7,7 +7,7 @@ use native.Mathlib.Omega.{arith}
 use lib.Dec.{eqb}
 use lib.ListN.{length, getD}
 use borrow.Author.Tests.{eq-eqb, ne-eqb}
-use Rattle.packing.specs.Choice.{pick}
+use Rattle.lists.specs.Choice.{pick}
 use Rattle.command.specs.Entries.{Entry, entry, Parsed, unsound, sound, put}
 use Rattle.text.specs.Stop.{anyOf, anyIn, isOneTwo}
 

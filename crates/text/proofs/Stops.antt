@@ -5,8 +5,8 @@ use mathlib.Core.List.{List, [], _∷_}
 use Prim.Native.Nat.{ℕ}
 use lib.Dec.{eqb}
 use borrow.Author.Tests.{eq-eqb, eqb-true}
-use Rattle.packing.specs.Choice.{pick}
-use Rattle.packing.proofs.Cases.{by-bool, both-true}
+use Rattle.lists.specs.Choice.{pick}
+use Rattle.lists.proofs.Cases.{by-bool, both-true}
 use Rattle.command.specs.Entries.{Entry, commands, Parsed, unsound, sound, parse}
 use Rattle.text.specs.Stop.{anyOf, anyIn, isOneTwo, terminates, stopsWithin, stopsWorkout, Among, first, later, StopsWorkout}
 

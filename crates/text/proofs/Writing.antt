@@ -7,8 +7,8 @@ use native.Mathlib.Numerals.{add-one}
 use native.Mathlib.Omega.{arith}
 use lib.ListN.{length, take, drop, set, getD, length-append}
 use lib.Seq.{length-take-le, take-suc, take-all}
-use Rattle.packing.specs.Splice.{splice}
-use Rattle.packing.proofs.Splices.{splice-nil, splice-splice, length-splice, set-splice, set2-splice}
+use Rattle.lists.specs.Splice.{splice}
+use Rattle.lists.proofs.Splices.{splice-nil, splice-splice, length-splice, set-splice, set2-splice}
 use Rattle.text.specs.Writing.{Wrote, Puts}
 
 -- Nothing, one byte, two bytes.

@@ -2,7 +2,7 @@
 use mathlib.Core.List.{List, [], _∷_, _++_}
 use Prim.Native.Nat.{ℕ, zero, suc, _+_, _/_, _%_}
 use lib.Dec.{ltb}
-use Rattle.packing.specs.Choice.{pick}
+use Rattle.lists.specs.Choice.{pick}
 
 -- The decimal digits of a number that has at most k of them, the most significant first.
 abbrev pub decimalWithin : (k n : ℕ) → List ℕ

@@ -6,7 +6,7 @@ use Prim.Native.Char.{code}
 use Prim.Native.String.{String, [] as empty, _∷_ as _then_}
 use lib.ListN.{length}
 use Rattle.frame.specs.Frame.{standard, extended}
-use Rattle.frame.specs.Verdict.{accepted, refused}
+use Rattle.answer.specs.Answer.{result, refused}
 use Rattle.line.specs.Outcome.{Outcome, nothing, judged}
 use Rattle.text.specs.Digits.{decimal, hex}
 use Rattle.text.specs.Stop.{stopsWorkout}
@@ -46,8 +46,8 @@ extendedLine n to from contents =
 abbrev pub line : (n : ℕ) → Outcome → List ℕ
 line n nothing = []
 line n (judged (refused number)) = refusedLine n number
-line n (judged (accepted (standard contents))) = standardLine n contents
-line n (judged (accepted (extended to from contents))) = extendedLine n to from contents
+line n (judged (result (standard contents))) = standardLine n contents
+line n (judged (result (extended to from contents))) = extendedLine n to from contents
 
 -- The last line.
 unfoldable pub totals : (frames refusals strays : ℕ) → List ℕ

@@ -5,7 +5,7 @@ use mathlib.Core.Bool.{Bool, true, false}
 use mathlib.Core.List.{List, [], _∷_}
 use Prim.Native.Nat.{ℕ}
 use lib.Dec.{eqb}
-use Rattle.packing.specs.Choice.{pick}
+use Rattle.lists.specs.Choice.{pick}
 use Rattle.command.specs.Entries.{Entry, commands, Parsed, unsound, sound, parse}
 
 -- ---- as a test

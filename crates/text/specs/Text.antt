@@ -4,7 +4,7 @@ use mathlib.Core.List.{List, [], _∷_, _++_}
 use Prim.Native.Nat.{ℕ, _+_}
 use Rattle.framing.specs.Reference.{finish, Reference}
 use Rattle.framing.specs.Demand3.{feed}
-use Rattle.frame.specs.Verdict.{accepted, refused}
+use Rattle.answer.specs.Answer.{result, refused}
 use Rattle.line.specs.Outcome.{Outcome, nothing, judged}
 use Rattle.line.specs.Rowing.{rowing}
 use Rattle.text.specs.Lines.{line, totals}
@@ -13,12 +13,12 @@ use Rattle.text.specs.Strays.{strays}
 -- 1 for a frame, and 1 for a refusal.
 abbrev pub frameOne : Outcome → ℕ
 frameOne nothing = 0
-frameOne (judged (accepted f)) = 1
+frameOne (judged (result f)) = 1
 frameOne (judged (refused number)) = 0
 
 abbrev pub refusedOne : Outcome → ℕ
 refusedOne nothing = 0
-refusedOne (judged (accepted f)) = 0
+refusedOne (judged (result f)) = 0
 refusedOne (judged (refused number)) = 1
 
 -- How many answers are frames, and how many are refusals.

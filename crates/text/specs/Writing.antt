@@ -3,7 +3,7 @@ use mathlib.Core.Path.{_≡_}
 use mathlib.Core.List.{List}
 use Prim.Native.Nat.{ℕ, _+_, _≤_, _<_}
 use lib.ListN.{length}
-use Rattle.packing.specs.Splice.{splice}
+use Rattle.lists.specs.Splice.{splice}
 
 -- The text stands in the output from index `at` on, and ends before the index `end`.
 pub record Wrote (out : List ℕ) (at : ℕ) (w out′ : List ℕ) (end : ℕ) : Type 0 where

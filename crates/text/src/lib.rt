@@ -3,12 +3,12 @@
 mod digits;
 pub mod stop;
 
+use answer::Refusal;
 use line::Told;
-use refusal::Refusal;
 ghost use mathlib.Core.Path.{_≡_};
 ghost use Prim.Native.Nat.{_+_, _≤_};
 ghost use lib.ListN.{length};
-ghost use Rattle.refusal.specs.Number.{numberOf};
+ghost use Rattle.answer.specs.Refusals.{numberOf};
 ghost use Rattle.line.specs.Outcome.{toldMeans, outcomeOf};
 ghost use Rattle.text.specs.Lines.{field, hexField, stopText, refusedLine, standardLine, extendedLine, line, totals};
 ghost use Rattle.text.specs.Stop.{stopsWorkout};

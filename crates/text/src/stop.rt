@@ -3,7 +3,7 @@ use command::entries::Cursor;
 use command::entries::Step;
 ghost use mathlib.Core.Path.{_≡_};
 ghost use mathlib.Core.Bool.{true};
-ghost use Rattle.packing.specs.Choice.{pick};
+ghost use Rattle.lists.specs.Choice.{pick};
 ghost use Rattle.command.specs.Entries.{commands, entry, parse};
 ghost use Rattle.text.specs.Stop.{anyIn, isOneTwo, terminates, stopsWithin, stopsWorkout};
 

@@ -7,7 +7,7 @@ use native.Mathlib.Omega.{arith}
 use lib.ListN.{length}
 use Rattle.framing.specs.Reference.{finish}
 use Rattle.frame.specs.Frame.{standard, extended}
-use Rattle.frame.specs.Verdict.{accepted, refused}
+use Rattle.answer.specs.Answer.{result, refused}
 use Rattle.frame.specs.Answers.{judgeAnswer}
 use Rattle.line.specs.Outcome.{Outcome, nothing, judged, toldMeans, summaryOf, outcomeOf}
 use Rattle.line.specs.Reader.{finishOf, Moves}
@@ -26,15 +26,15 @@ pub frame-count : (o : Outcome) → frameCount (summaryOf o) ≡ frameOne o
 unfolding judgeAnswer
 frame-count nothing = refl
 frame-count (judged (refused n)) = refl
-frame-count (judged (accepted (standard c))) = refl
-frame-count (judged (accepted (extended to from c))) = refl
+frame-count (judged (result (standard c))) = refl
+frame-count (judged (result (extended to from c))) = refl
 
 pub refused-count : (o : Outcome) → refusedCount (summaryOf o) ≡ refusedOne o
 unfolding judgeAnswer
 refused-count nothing = refl
 refused-count (judged (refused n)) = refl
-refused-count (judged (accepted (standard c))) = refl
-refused-count (judged (accepted (extended to from c))) = refl
+refused-count (judged (result (standard c))) = refl
+refused-count (judged (result (extended to from c))) = refl
 
 -- no answer changes no count
 pub add-none : (n : ℕ) → n < 2 ^ 64 → n ≡ add64 n 0

@@ -9,7 +9,7 @@ use lib.ListN.{length, take, drop, getD, length-drop}
 use lib.Seq.{take-add, take-all, drop-drop, drop-cons, drop-length}
 use lib.Dec.{ltb}
 use borrow.Author.Tests.{lt-ltb}
-use Rattle.packing.specs.Choice.{pick}
+use Rattle.lists.specs.Choice.{pick}
 use Rattle.text.specs.Writing.{lineRoom}
 use Rattle.text.proofs.Writing.{wrote-nothing, wrote-as, wrote-first, next}
 use Rattle.trace.specs.Chunk.{Going, Advances}

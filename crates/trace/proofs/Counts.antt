@@ -7,10 +7,10 @@ use native.Mathlib.Nat.{mod-eq-of-lt}
 use native.Mathlib.Omega.{arith}
 use lib.ListN.{length, set}
 use lib.Dec.{eqb, ltb}
-use Rattle.packing.specs.Choice.{pick}
+use Rattle.lists.specs.Choice.{pick}
 use Rattle.framing.specs.Reference.{finish, Role, starts, stops, plain, run}
 use Rattle.framing.specs.Demand3.{feed}
-use Rattle.frame.specs.Verdict.{accepted, refused}
+use Rattle.answer.specs.Answer.{result, refused}
 use Rattle.line.specs.Outcome.{Outcome, nothing, judged}
 use Rattle.line.specs.Reader.{reader, restartOf, stopOf, growOf, withByte, grownIn, stepOf, finishOf}
 use Rattle.line.specs.Rowing.{roleOf, outcomeAt, nextAfter}
@@ -32,7 +32,7 @@ number-is f r h = ap (λ (n : ℕ). add64 n 1) (add64-is f r (omega arith)) ∙ 
 one-answer : (o : Outcome) → frameOne o + refusedOne o ≤ 1
 one-answer nothing = omega arith
 one-answer (judged (refused n)) = omega arith
-one-answer (judged (accepted f)) = omega arith
+one-answer (judged (result f)) = omega arith
 
 one-stray : (ρ : Role) (o : Bool) → strayAt ρ o ≤ 1
 one-stray starts o = omega arith

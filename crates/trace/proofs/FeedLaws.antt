@@ -8,7 +8,7 @@ use native.Mathlib.Omega.{arith}
 use lib.ListN.{length, take, drop}
 use lib.Dec.{ltb}
 use borrow.Author.Tests.{le-ltb}
-use Rattle.packing.specs.Choice.{pick}
+use Rattle.lists.specs.Choice.{pick}
 use Rattle.line.specs.Outcome.{Outcome, nothing, judged, toldMeans, outcomeOf}
 use Rattle.line.specs.Feed.{isAnswer, Feeding, feeding, plus, feedOf, Feeds}
 use Rattle.line.specs.Reader.{reader, stepOf}

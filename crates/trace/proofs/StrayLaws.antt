@@ -8,9 +8,9 @@ use native.Mathlib.Omega.{arith}
 use lib.ListN.{take}
 use lib.Dec.{eqb}
 use borrow.Author.Tests.{eqb-true, eqb-false}
-use Rattle.packing.specs.Choice.{pick, countBefore}
-use Rattle.packing.proofs.Cases.{by-bool}
-use Rattle.packing.proofs.Tests.{within-true}
+use Rattle.lists.specs.Choice.{pick, countBefore}
+use Rattle.lists.proofs.Cases.{by-bool}
+use Rattle.lists.proofs.Tests.{within-true}
 use Rattle.framing.specs.Reference.{Role, starts, stops, plain}
 use Rattle.line.specs.Feed.{isAnswer, Feeding, feeding, plus, feedOf}
 use Rattle.line.specs.Reader.{stepOf, restartOf, stopOf, growOf, terminatedIn}

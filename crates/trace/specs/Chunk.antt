@@ -4,7 +4,7 @@ use mathlib.Core.Bool.{Bool, true, false}
 use mathlib.Core.List.{List}
 use Prim.Native.Nat.{ℕ, _+_, _-_, _<_, _≤_}
 use lib.ListN.{length, take, drop}
-use Rattle.packing.specs.Choice.{within, countBefore}
+use Rattle.lists.specs.Choice.{within, countBefore}
 use Rattle.text.specs.Writing.{Wrote, lineRoom}
 use Rattle.trace.specs.Machine.{after, texts, takenOf, listing}
 use Rattle.trace.specs.declared.Listing.{Listing}

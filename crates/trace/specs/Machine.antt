@@ -5,8 +5,9 @@ use mathlib.Core.List.{List, [], _∷_, _++_}
 use Prim.Native.Nat.{ℕ, _+_, _-_, _%_, _^_, _<_, _≤_}
 use lib.ListN.{length, take, drop}
 use lib.Dec.{ltb}
-use Rattle.packing.specs.Choice.{pick}
-use Rattle.frame.specs.Answers.{readStandard, readExtended, notRead}
+use Rattle.lists.specs.Choice.{pick}
+use Rattle.frame.specs.Answers.{standardOutline, extendedOutline}
+use Rattle.answer.specs.Answer.{result, refused}
 use Rattle.line.specs.Outcome.{Summary, silent, tells}
 use Rattle.line.specs.Reader.{newReader, stepOf, finishOf}
 use Rattle.line.specs.Rowing.{roleOf}
@@ -25,15 +26,15 @@ use Rattle.trace.specs.declared.Tally.{Tally}
 -- 1 for a frame, and 1 for a refusal.
 abbrev pub frameCount : Summary → ℕ
 frameCount silent = 0
-frameCount (tells (readStandard len)) = 1
-frameCount (tells (readExtended to from len)) = 1
-frameCount (tells (notRead number)) = 0
+frameCount (tells (result (standardOutline len))) = 1
+frameCount (tells (result (extendedOutline to from len))) = 1
+frameCount (tells (refused number)) = 0
 
 abbrev pub refusedCount : Summary → ℕ
 refusedCount silent = 0
-refusedCount (tells (readStandard len)) = 0
-refusedCount (tells (readExtended to from len)) = 0
-refusedCount (tells (notRead number)) = 1
+refusedCount (tells (result (standardOutline len))) = 0
+refusedCount (tells (result (extendedOutline to from len))) = 0
+refusedCount (tells (refused number)) = 1
 
 -- Whether a candidate is open.
 abbrev pub isOpen : Mode → Bool
@@ -52,8 +53,8 @@ abbrev pub newListing : Listing
 newListing = record { reader = newReader; frames = 0; refused = 0; stray = 0 }
 
 -- The number of the next answer.
-abbrev pub numberAfter : (frames refused : ℕ) → ℕ
-numberAfter frames refused = add64 (add64 frames refused) 1
+abbrev pub numberAfter : (frames refusals : ℕ) → ℕ
+numberAfter frames refusals = add64 (add64 frames refusals) 1
 
 -- The state after a byte.
 unfoldable pub nextOf : Listing → ℕ → Listing

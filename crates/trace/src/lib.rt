@@ -212,5 +212,5 @@ fn stray_count(mode: Mode, bytes: &[u8]) -> u64
     if is_open(mode) {
         return 0;
     }
-    packing::count_before(bytes, EXTENDED_START, STANDARD_START) as u64
+    lists::count_before(bytes, EXTENDED_START, STANDARD_START) as u64
 }

@@ -2,10 +2,10 @@
 use crate::print;
 use crate::wire;
 use crate::words;
+use answer::Refusal;
+use answer::Written;
 use command::entries;
 use command::entries::Found;
-use frame::Written;
-use refusal::Refusal;
 use reply::ReplyRead;
 use reply::status::Status;
 use workout::Goal;

@@ -77,7 +77,7 @@ fn run_on_bytes(operation: &[u8], bytes: &[u8]) {
         return wire::feed(bytes);
     }
     if check::same(operation, b"number") {
-        return print::number(b" number=", packing::number_at(bytes, 0, bytes.len()));
+        return print::number(b" number=", numbers::number_at(bytes, 0, bytes.len()));
     }
     print::text(b" unknown operation");
 }

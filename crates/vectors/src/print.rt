@@ -1,6 +1,6 @@
 // Pieces of a line on standard output.
+use answer::Refusal;
 use libc::STDOUT_FILENO;
-use refusal::Refusal;
 
 const HEX_DIGITS: [u8; 16] = *b"0123456789ABCDEF";
 

@@ -1,12 +1,12 @@
 // Frames read, written, and told by the line reader.
 use crate::inside;
 use crate::print;
+use answer::Refusal;
+use answer::Written;
 use command::entries;
 use frame::Read;
-use frame::Written;
 use line::Mode;
 use line::Told;
-use refusal::Refusal;
 
 // A frame that is read is written again from what was read.
 pub fn read(wire: &[u8]) {

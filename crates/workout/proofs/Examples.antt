@@ -4,11 +4,12 @@ use mathlib.Core.Path.{_≡_, refl}
 use mathlib.Core.Bool.{true, false}
 use mathlib.Core.List.{List, [], _∷_}
 use lib.ListN.{take, drop, set}
-use Rattle.packing.specs.Number.{number, bytesOf}
+use Rattle.numbers.specs.Number.{number, bytesOf}
 use Rattle.workout.specs.Limits.{pm3Limits, ceilDiv, withinGoal}
 use Rattle.workout.specs.Workout.{distance, time, withinLimits, layout, distanceBytes, timeBytes, contentsOf}
 use Rattle.workout.specs.Form.{sameBytes, bytesAt, laidOut, workoutAs, hasForm, inLimits}
-use Rattle.workout.specs.Answers.{sound, notRead, readAnswer}
+use Rattle.answer.specs.Answer.{result, refused}
+use Rattle.workout.specs.Answers.{readAnswer}
 
 -- 2,000 m with split 500 at 200 W: 000's example.
 abbrev pub fixedDistance : List ℕ
@@ -26,24 +27,24 @@ pub written : (contentsOf (distance 2000 500 200) ≡ fixedDistance)
 unfolding contentsOf layout distanceBytes timeBytes bytesOf
 written = (refl, refl, refl)
 
-pub read : (readAnswer pm3Limits fixedDistance ≡ sound (distance 2000 500 200)) × (readAnswer pm3Limits fixedTime ≡ sound (time 1200 24000 100))
+pub read : (readAnswer pm3Limits fixedDistance ≡ result (distance 2000 500 200)) × (readAnswer pm3Limits fixedTime ≡ result (time 1200 24000 100))
 unfolding readAnswer hasForm laidOut sameBytes bytesAt layout inLimits workoutAs withinLimits withinGoal ceilDiv number
 read = (refl, refl)
 
 -- Other bytes in the same places: 2,000 m in metres; 0 km and 51 km; a unit, an identifier and a last byte that no workout has.
-pub other-distances : (readAnswer pm3Limits (0x21 ∷ 0x03 ∷ 0xD0 ∷ 0x07 ∷ 0x24 ∷ drop 5 fixedDistance) ≡ sound (distance 2000 500 200))
-    × (readAnswer pm3Limits (set fixedDistance 2 0) ≡ notRead 12)
-    × (readAnswer pm3Limits (set fixedDistance 2 51) ≡ notRead 12)
-    × (readAnswer pm3Limits (set fixedDistance 4 0x22) ≡ notRead 13)
-    × (readAnswer pm3Limits (set fixedDistance 9 0x00) ≡ notRead 13)
-    × (readAnswer pm3Limits (set fixedDistance 22 0x01) ≡ notRead 13)
+pub other-distances : (readAnswer pm3Limits (0x21 ∷ 0x03 ∷ 0xD0 ∷ 0x07 ∷ 0x24 ∷ drop 5 fixedDistance) ≡ result (distance 2000 500 200))
+    × (readAnswer pm3Limits (set fixedDistance 2 0) ≡ refused 12)
+    × (readAnswer pm3Limits (set fixedDistance 2 51) ≡ refused 12)
+    × (readAnswer pm3Limits (set fixedDistance 4 0x22) ≡ refused 13)
+    × (readAnswer pm3Limits (set fixedDistance 9 0x00) ≡ refused 13)
+    × (readAnswer pm3Limits (set fixedDistance 22 0x01) ≡ refused 13)
 unfolding readAnswer hasForm laidOut sameBytes bytesAt layout inLimits workoutAs withinLimits withinGoal ceilDiv number
 other-distances = (refl, refl, refl, refl, refl, refl)
 
 -- 60 minutes are a limit, and the form of every byte comes before it; so are 10 hours.
-pub other-times : (readAnswer pm3Limits (set fixedTime 3 60) ≡ notRead 12)
-    × (readAnswer pm3Limits (set (set fixedTime 3 60) 22 0x01) ≡ notRead 13)
-    × (readAnswer pm3Limits (set (set fixedTime 3 0) 2 10) ≡ notRead 12)
+pub other-times : (readAnswer pm3Limits (set fixedTime 3 60) ≡ refused 12)
+    × (readAnswer pm3Limits (set (set fixedTime 3 60) 22 0x01) ≡ refused 13)
+    × (readAnswer pm3Limits (set (set fixedTime 3 0) 2 10) ≡ refused 12)
 unfolding readAnswer hasForm laidOut sameBytes bytesAt layout inLimits workoutAs withinLimits withinGoal ceilDiv number
 other-times = (refl, refl, refl)
 

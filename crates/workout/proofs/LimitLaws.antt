@@ -6,9 +6,9 @@ use native.Mathlib.Nat.{div-lt-iff-lt-mul, suc-mul, le-of-lt, lt-of-le-of-lt, mu
 use native.Mathlib.Omega.{arith}
 use lib.Dec.{leb}
 use borrow.Author.Tests.{leb-true, le-leb}
-use Rattle.packing.specs.Choice.{within}
-use Rattle.packing.proofs.Cases.{by-bool, both-true}
-use Rattle.packing.proofs.Tests.{within-yes, within-true}
+use Rattle.lists.specs.Choice.{within}
+use Rattle.lists.proofs.Cases.{by-bool, both-true}
+use Rattle.lists.proofs.Tests.{within-yes, within-true}
 use Rattle.workout.specs.Limits.{GoalLimits, ceilDiv, RoundedUp, withinGoal}
 use Rattle.workout.specs.Conditions.{Within}
 

@@ -8,13 +8,14 @@ use native.Mathlib.Omega.{arith}
 use lib.ListN.{length, getD, take, drop}
 use lib.Seq.{drop-cons}
 use borrow.Author.Tests.{eq-eqb, ne-eqb}
-use Rattle.packing.specs.Number.{number, bytesOf, Bytes}
-use Rattle.packing.proofs.Numbers.{bytesOf-number}
-use Rattle.packing.proofs.Cases.{by-bool}
+use Rattle.numbers.specs.Number.{number, bytesOf, Bytes}
+use Rattle.numbers.proofs.Numbers.{bytesOf-number}
+use Rattle.lists.proofs.Cases.{by-bool}
 use Rattle.workout.specs.Limits.{Limits}
 use Rattle.workout.specs.Workout.{layout}
 use Rattle.workout.specs.Form.{kindIn, sameBytes, bytesAt, laidOut, workoutAs, hasForm, inLimits}
-use Rattle.workout.specs.Answers.{notRead, readAnswer}
+use Rattle.answer.specs.Answer.{refused}
+use Rattle.workout.specs.Answers.{readAnswer}
 use Rattle.workout.specs.Steps.{limitedRead, distanceRead, timeRead}
 use Rattle.workout.specs.declared.layout.Kind.{Kind}
 use Rattle.workout.specs.declared.layout.Kind.the-variants.{Distance, Time}
@@ -60,6 +61,6 @@ module _ (c : List ℕ) {kind : Kind} {split watts : ℕ} (is-kind : kind ≡ ki
         (λ y. by-bool (leb (getD c 4 0) 59) (λ z. simp (is-split, is-watts, laid, d, y, z)) (λ z. simp (is-split, is-watts, laid, d, y, z)))
         (λ y. simp (is-split, is-watts, laid, d, y))
 
-pub read-formless : (limits : Limits) (c : List ℕ) → laidOut c ≡ false → readAnswer limits c ≡ notRead 13
+pub read-formless : (limits : Limits) (c : List ℕ) → laidOut c ≡ false → readAnswer limits c ≡ refused 13
 unfolding readAnswer hasForm
 read-formless limits c h = simp h

@@ -9,15 +9,16 @@ use native.Mathlib.Omega.{arith}
 use lib.Dec.{eqb}
 use lib.ListN.{length, take, drop}
 use borrow.Author.Tests.{eqb-true, eqb-false, le-leb}
-use Rattle.packing.specs.Number.{number, bytesOf}
-use Rattle.packing.specs.Draft.{wrote, draftAnswer, draftOut}
-use Rattle.packing.proofs.Drafts.{written-first}
-use Rattle.packing.proofs.Numbers.{number-bytesOf}
-use Rattle.packing.proofs.Cases.{by-bool}
+use Rattle.numbers.specs.Number.{number, bytesOf}
+use Rattle.answer.specs.Answer.{result}
+use Rattle.answer.specs.Draft.{draftAnswer, draftOut}
+use Rattle.answer.proofs.Drafts.{written-first}
+use Rattle.numbers.proofs.Numbers.{number-bytesOf}
+use Rattle.lists.proofs.Cases.{by-bool}
 use Rattle.workout.specs.Limits.{Limits, pm3Limits}
 use Rattle.workout.specs.Workout.{Programmed, distance, time, wattsOf, withinLimits, layout, distanceBytes, timeBytes, contentsOf, Sendable}
 use Rattle.workout.specs.Form.{bytesAt, laidOut}
-use Rattle.workout.specs.Answers.{sound, readAnswer, workoutDraft}
+use Rattle.workout.specs.Answers.{readAnswer, workoutDraft}
 use Rattle.workout.specs.Steps.{limitedRead, distanceRead, timeRead}
 use Rattle.workout.specs.declared.layout.Kind.{Kind}
 use Rattle.workout.specs.declared.layout.Kind.the-variants.{Distance, Time}
@@ -64,12 +65,12 @@ module _ (limits : Limits) (split watts : ℕ) (s : split < 256 ^ 4) (p : watts 
 
 -- ---- what is written is read back
 
-limited-sound : (limits : Limits) (v w : Programmed) → v ≡ w → withinLimits limits w ≡ true → limitedRead limits v ≡ sound w
+limited-sound : (limits : Limits) (v w : Programmed) → v ≡ w → withinLimits limits w ≡ true → limitedRead limits v ≡ result w
 unfolding limitedRead
 limited-sound limits v w e h = ap (limitedRead limits) e ∙ simp h
 
 -- A workout within any limits, if its bytes can hold it, is read back as itself.
-pub reads-back : (limits : Limits) (w : Programmed) → withinLimits limits w ≡ true → Sendable w → readAnswer limits (contentsOf w) ≡ sound w
+pub reads-back : (limits : Limits) (w : Programmed) → withinLimits limits w ≡ true → Sendable w → readAnswer limits (contentsOf w) ≡ result w
 unfolding contentsOf distanceBytes timeBytes distanceRead timeRead bytesOf
 reads-back limits (distance goal split watts) h (g, p) =
     let far : goal < 65536000 = farthest g in
@@ -104,14 +105,14 @@ pm3-sendable (distance goal split watts) h p = (inl (omega (arith, within-limits
 pm3-sendable (time goal split watts) h p = (omega (arith, within-limits pm3Limits (time goal split watts) h .most), p)
 
 -- What is written within document 01's limits is read back.
-pub pm3-reads-back : (w : Programmed) → withinLimits pm3Limits w ≡ true → wattsOf w < 65536 → readAnswer pm3Limits (contentsOf w) ≡ sound w
+pub pm3-reads-back : (w : Programmed) → withinLimits pm3Limits w ≡ true → wattsOf w < 65536 → readAnswer pm3Limits (contentsOf w) ≡ result w
 pm3-reads-back w h p = reads-back pm3Limits w h (pm3-sendable w h p)
 
 -- ---- the same of the answer and the lent slice
 
 -- A workout that was written is read back from the bytes that were written, whatever the output held.
-pub written-reads-back : (limits : Limits) (w : Programmed) (out : List ℕ) (n : ℕ) → Sendable w → draftAnswer (workoutDraft limits w) (length out) ≡ wrote n
-    → readAnswer limits (take n (draftOut (workoutDraft limits w) out)) ≡ sound w
+pub written-reads-back : (limits : Limits) (w : Programmed) (out : List ℕ) (n : ℕ) → Sendable w → draftAnswer (workoutDraft limits w) (length out) ≡ result n
+    → readAnswer limits (take n (draftOut (workoutDraft limits w) out)) ≡ result w
 written-reads-back limits w out n g e =
     let f = written-first (workoutDraft limits w) out n e in
     let i = draft-is limits w (f .0) (f .1) in

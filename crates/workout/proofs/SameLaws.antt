@@ -9,8 +9,8 @@ use lib.Dec.{eqb}
 use lib.ListN.{length, getD, drop, drop-of-length-le}
 use lib.Seq.{drop-cons}
 use borrow.Author.Tests.{eq-eqb, eqb-true}
-use Rattle.packing.specs.Choice.{pick}
-use Rattle.packing.proofs.Cases.{both-true}
+use Rattle.lists.specs.Choice.{pick}
+use Rattle.lists.proofs.Cases.{both-true}
 use Rattle.workout.specs.Form.{sameBytes}
 
 pub same-refl : (s : List ℕ) → sameBytes s s ≡ true

@@ -9,13 +9,14 @@ use lib.Dec.{leb, eqb}
 use lib.ListN.{length, getD}
 use lib.Seq.{take-all}
 use borrow.Author.Tests.{leb-true, leb-false, le-leb, lt-leb, eqb-true, eq-eqb}
-use Rattle.packing.specs.Choice.{pick}
-use Rattle.packing.specs.Draft.{Draft, WriteAnswer, wrote, notWritten, draftAnswer}
-use Rattle.packing.proofs.Cases.{by-bool, both-true}
+use Rattle.lists.specs.Choice.{pick}
+use Rattle.answer.specs.Draft.{Draft, draftAnswer}
+use Rattle.answer.specs.Answer.{result, refused, Answer}
+use Rattle.lists.proofs.Cases.{by-bool, both-true}
 use Rattle.workout.specs.Limits.{Limits}
 use Rattle.workout.specs.Workout.{Programmed, distance, time, commandOf, layout, withinLimits}
 use Rattle.workout.specs.Form.{kindFor, kindIn, sameBytes, bytesAt, laidOut, unitKnown, clockRight, workoutAs, hasForm, inLimits}
-use Rattle.workout.specs.Answers.{ReadAnswer, sound, notRead, readAnswer, workoutDraft}
+use Rattle.workout.specs.Answers.{readAnswer, workoutDraft}
 use Rattle.workout.specs.Conditions.{UnitKnown, Formed, WithinLimits, ClockRight, Limited, Readable, Judged, formless, overLimit, readable, WriteJudged, outside, noRoom, fits}
 use Rattle.workout.specs.declared.layout.Kind.{Kind}
 use Rattle.workout.specs.declared.layout.Kind.the-variants.{Distance, Time}
@@ -115,7 +116,7 @@ limited-yes limits c l = simp (right-clock (kindIn c) c (l .clock)) (limits-with
 
 module _ (limits : Limits) (c : List ℕ) where
   -- what the table says is the answer
-  table-answer : (a : ReadAnswer) → Judged limits c a → readAnswer limits c ≡ a
+  table-answer : (a : Answer Programmed) → Judged limits c a → readAnswer limits c ≡ a
   unfolding readAnswer
   table-answer a (formless n) = by-bool (hasForm c) (λ y. absurd (n (kindIn c) (form-of c y))) (λ y. simp y)
   table-answer a (overLimit kind f n) =
@@ -125,29 +126,29 @@ module _ (limits : Limits) (c : List ℕ) where
   table-answer a (readable w r) =
       let k = form-kind (r .kind) c (r .form) in
       let l = limited-yes limits c (subst (λ (k : Kind). Limited limits k c) (sym k) (r .limited)) in
-      simp (form-yes (r .kind) c (r .form), l) (ap (λ (k : Kind). sound (workoutAs k c)) k ∙ ap sound (sym (r .workout)))
+      simp (form-yes (r .kind) c (r .form), l) (ap (λ (k : Kind). result (workoutAs k c)) k ∙ ap result (sym (r .workout)))
 
   -- all contents have a line of the table
-  some-line : (a : ReadAnswer) × Judged limits c a
+  some-line : (a : Answer Programmed) × Judged limits c a
   some-line =
       by-bool (hasForm c)
       (λ y. by-bool (inLimits limits c)
-      (λ l. (sound (workoutAs (kindIn c) c), readable _ (record { kind = kindIn c; form = form-of c y; limited = limited-of limits c l; workout = refl })))
-      (λ l. (notRead 12, overLimit (kindIn c) (form-of c y) (λ r. true≢false (sym (limited-yes limits c r) ∙ l)))))
-      (λ y. (notRead 13, formless (λ kind f. true≢false (sym (form-yes kind c f) ∙ y))))
+      (λ l. (result (workoutAs (kindIn c) c), readable _ (record { kind = kindIn c; form = form-of c y; limited = limited-of limits c l; workout = refl })))
+      (λ l. (refused 12, overLimit (kindIn c) (form-of c y) (λ r. true≢false (sym (limited-yes limits c r) ∙ l)))))
+      (λ y. (refused 13, formless (λ kind f. true≢false (sym (form-yes kind c f) ∙ y))))
 
   -- Every answer is given exactly when the table gives it: a refusal where the rule that it names fails and all before it hold.
-  pub read-by-table : (a : ReadAnswer) → (readAnswer limits c ≡ a → Judged limits c a) × (Judged limits c a → readAnswer limits c ≡ a)
+  pub read-by-table : (a : Answer Programmed) → (readAnswer limits c ≡ a → Judged limits c a) × (Judged limits c a → readAnswer limits c ≡ a)
   read-by-table a = (
-    (λ e. subst (λ (x : ReadAnswer). Judged limits c x) (sym (table-answer (some-line .0) (some-line .1)) ∙ e) (some-line .1)),
+    (λ e. subst (λ (x : Answer Programmed). Judged limits c x) (sym (table-answer (some-line .0) (some-line .1)) ∙ e) (some-line .1)),
     table-answer a,
   )
 
   -- Read exactly when form and limits hold, and then as that workout.
-  pub read-exactly : (w : Programmed) → (readAnswer limits c ≡ sound w → Readable limits c w) × (Readable limits c w → readAnswer limits c ≡ sound w)
-  read-exactly w = ((λ e. found (sound w) (read-by-table (sound w) .0 e) w refl), (λ r. table-answer (sound w) (readable w r)))
+  pub read-exactly : (w : Programmed) → (readAnswer limits c ≡ result w → Readable limits c w) × (Readable limits c w → readAnswer limits c ≡ result w)
+  read-exactly w = ((λ e. found (result w) (read-by-table (result w) .0 e) w refl), (λ r. table-answer (result w) (readable w r)))
     where
-      found : (a : ReadAnswer) → Judged limits c a → (w : Programmed) → a ≡ sound w → Readable limits c w
+      found : (a : Answer Programmed) → Judged limits c a → (w : Programmed) → a ≡ result w → Readable limits c w
       found a (formless n) w e = let z : _≡_ {A = ℕ} 0 1 = cc in absurd (omega arith)
       found a (overLimit kind f n) w e = let z : _≡_ {A = ℕ} 0 1 = cc in absurd (omega arith)
       found a (readable v r) w e = let q : v ≡ w = cc in subst (λ (x : Programmed). Readable limits c x) q r
@@ -155,34 +156,34 @@ module _ (limits : Limits) (c : List ℕ) where
 -- ---- the table of writing
 
 module _ (limits : Limits) (w : Programmed) (room : ℕ) where
-  abbrev answer : WriteAnswer
+  abbrev answer : Answer ℕ
   answer = draftAnswer (workoutDraft limits w) room
 
   -- within the limits only the room is left to ask for
-  inside : withinLimits limits w ≡ true → answer ≡ pick (leb 23 room) (wrote 23) (notWritten 1)
+  inside : withinLimits limits w ≡ true → answer ≡ pick (leb 23 room) (result 23) (refused 1)
   unfolding draftAnswer
-  inside y = ap (λ (d : Draft). draftAnswer d room) (draft-inside limits w y) ∙ ap (λ (n : ℕ). pick (leb n room) (wrote n) (notWritten 1)) (contents-length w)
+  inside y = ap (λ (d : Draft). draftAnswer d room) (draft-inside limits w y) ∙ ap (λ (n : ℕ). pick (leb n room) (result n) (refused 1)) (contents-length w)
 
-  past : withinLimits limits w ≡ false → answer ≡ notWritten 12
+  past : withinLimits limits w ≡ false → answer ≡ refused 12
   unfolding draftAnswer
   past y = ap (λ (d : Draft). draftAnswer d room) (draft-outside limits w y)
 
-  table-written : (a : WriteAnswer) → WriteJudged limits w room a → answer ≡ a
+  table-written : (a : Answer ℕ) → WriteJudged limits w room a → answer ≡ a
   table-written a (outside n) = by-bool (withinLimits limits w) (λ y. absurd (n (within-limits limits w y))) (λ y. past y)
   table-written a (noRoom l h) = inside (limits-within limits w l) ∙ simp (lt-leb 23 room h)
   table-written a (fits l h) = inside (limits-within limits w l) ∙ simp (le-leb 23 room h)
 
-  some-write : (a : WriteAnswer) × WriteJudged limits w room a
+  some-write : (a : Answer ℕ) × WriteJudged limits w room a
   some-write =
       by-bool (withinLimits limits w)
       (λ y. by-bool (leb 23 room)
-      (λ r. (wrote 23, fits (within-limits limits w y) (leb-true _ _ r)))
-      (λ r. (notWritten 1, noRoom (within-limits limits w y) (leb-false _ _ r))))
-      (λ y. (notWritten 12, outside (λ l. true≢false (sym (limits-within limits w l) ∙ y))))
+      (λ r. (result 23, fits (within-limits limits w y) (leb-true _ _ r)))
+      (λ r. (refused 1, noRoom (within-limits limits w y) (leb-false _ _ r))))
+      (λ y. (refused 12, outside (λ l. true≢false (sym (limits-within limits w l) ∙ y))))
 
   -- Every answer to writing is given exactly when the table gives it.
-  pub written-by-table : (a : WriteAnswer) → (answer ≡ a → WriteJudged limits w room a) × (WriteJudged limits w room a → answer ≡ a)
+  pub written-by-table : (a : Answer ℕ) → (answer ≡ a → WriteJudged limits w room a) × (WriteJudged limits w room a → answer ≡ a)
   written-by-table a = (
-    (λ e. subst (λ (x : WriteAnswer). WriteJudged limits w room x) (sym (table-written (some-write .0) (some-write .1)) ∙ e) (some-write .1)),
+    (λ e. subst (λ (x : Answer ℕ). WriteJudged limits w room x) (sym (table-written (some-write .0) (some-write .1)) ∙ e) (some-write .1)),
     table-written a,
   )

@@ -6,12 +6,12 @@ use mathlib.Core.List.{List, _++_}
 use native.Mathlib.Omega.{arith}
 use lib.Dec.{eqb}
 use lib.ListN.{length, take, drop}
-use Rattle.packing.specs.Draft.{draft, noDraft, wrote}
-use Rattle.packing.specs.Number.{bytesOf}
-use Rattle.packing.specs.Splice.{splice}
-use Rattle.packing.proofs.Cases.{by-bool}
-use Rattle.packing.proofs.Splices.{copied-first}
-use Rattle.packing.proofs.Drafts.{Writes, writes-done}
+use Rattle.answer.specs.Answer.{result, refused}
+use Rattle.numbers.specs.Number.{bytesOf}
+use Rattle.lists.specs.Splice.{splice}
+use Rattle.lists.proofs.Cases.{by-bool}
+use Rattle.lists.proofs.Splices.{copied-first}
+use Rattle.answer.proofs.Drafts.{Writes, writes-done}
 use Rattle.workout.specs.Limits.{Limits}
 use Rattle.workout.specs.Workout.{Programmed, distance, time, goalMeans, programmed, withinLimits, layout, distanceBytes, timeBytes, contentsOf}
 use Rattle.workout.specs.Answers.{workoutDraft}
@@ -28,28 +28,28 @@ contents-length (distance goal split watts) = by-bool (eqb (goal % 1000) 0) (λ 
 contents-length (time goal split watts) = refl
 
 module _ (limits : Limits) (w : Programmed) where
-  pub draft-outside : withinLimits limits w ≡ false → workoutDraft limits w ≡ noDraft 12
+  pub draft-outside : withinLimits limits w ≡ false → workoutDraft limits w ≡ refused 12
   unfolding workoutDraft
   draft-outside e = simp e
 
-  pub draft-inside : withinLimits limits w ≡ true → workoutDraft limits w ≡ draft (contentsOf w)
+  pub draft-inside : withinLimits limits w ≡ true → workoutDraft limits w ≡ result (contentsOf w)
   unfolding workoutDraft
   draft-inside e = simp e
 
   -- a draft is of the contents, and is made only within the limits
-  pub draft-is : (c : List ℕ) → workoutDraft limits w ≡ draft c → (withinLimits limits w ≡ true) × (c ≡ contentsOf w)
+  pub draft-is : (c : List ℕ) → workoutDraft limits w ≡ result c → (withinLimits limits w ≡ true) × (c ≡ contentsOf w)
   unfolding workoutDraft
   draft-is c e =
       by-bool (withinLimits limits w)
-      (λ y. let q : draft (contentsOf w) ≡ draft c = simp y at e in
+      (λ y. let q : result (contentsOf w) ≡ result c = simp y at e in
       let r : c ≡ contentsOf w = cc in (y, r))
-      (λ y. let q : noDraft 12 ≡ draft c = simp y at e in
+      (λ y. let q : refused 12 ≡ result c = simp y at e in
       let x : _≡_ {A = ℕ} 0 1 = cc in absurd (omega arith))
 
 -- the 23 bytes at the front of the output, with the answer
 pub write-done : (limits : Limits) (w : Programmed) {contents last : List ℕ} (out : List ℕ) → withinLimits limits w ≡ true → 23 ≤ length out → contents ≡ contentsOf w
-    → last ≡ take (length contents) contents ++ drop (length contents) out → Writes (workoutDraft limits w) out (wrote 23) last
+    → last ≡ take (length contents) contents ++ drop (length contents) out → Writes (workoutDraft limits w) out (result 23) last
 write-done limits w {contents} {last} out e h p q =
-    subst (λ (n : ℕ). Writes (workoutDraft limits w) out (wrote n) last) (contents-length w)
+    subst (λ (n : ℕ). Writes (workoutDraft limits w) out (result n) last) (contents-length w)
     (writes-done (workoutDraft limits w) (contentsOf w) out last (draft-inside limits w e) (omega (arith, contents-length w))
     (copied-first contents out last q ∙ ap (splice out 0) p))

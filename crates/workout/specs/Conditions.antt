@@ -5,11 +5,10 @@ use mathlib.Core.Path.{_≡_}
 use mathlib.Core.Logic.{_⊎_}
 use mathlib.Core.List.{List, [], _∷_}
 use lib.ListN.{length, getD}
-use Rattle.packing.specs.Draft.{WriteAnswer, wrote, notWritten}
+use Rattle.answer.specs.Answer.{result, refused, Answer}
 use Rattle.workout.specs.Limits.{GoalLimits, Limits, ceilDiv}
 use Rattle.workout.specs.Workout.{Programmed, distance, time, commandOf, identifierOf}
 use Rattle.workout.specs.Form.{bytesAt, workoutAs}
-use Rattle.workout.specs.Answers.{ReadAnswer, sound, notRead}
 use Rattle.workout.specs.declared.layout.Kind.{Kind}
 use Rattle.workout.specs.declared.layout.Kind.the-variants.{Distance, Time}
 
@@ -63,13 +62,13 @@ pub record Readable (limits : Limits) (c : List ℕ) (w : Programmed) : Type 0 w
   pub workout : w ≡ workoutAs kind c
 
 -- Document 01's table with its order: each answer with the rule that fails, where every rule before it holds.
-pub data Judged (limits : Limits) (c : List ℕ) : ReadAnswer → Type 0 where
-  formless : ((kind : Kind) → Formed kind c → ⊥) → Judged limits c (notRead 13)
-  overLimit : (kind : Kind) → Formed kind c → (Limited limits kind c → ⊥) → Judged limits c (notRead 12)
-  readable : (w : Programmed) → Readable limits c w → Judged limits c (sound w)
+pub data Judged (limits : Limits) (c : List ℕ) : Answer Programmed → Type 0 where
+  formless : ((kind : Kind) → Formed kind c → ⊥) → Judged limits c (refused 13)
+  overLimit : (kind : Kind) → Formed kind c → (Limited limits kind c → ⊥) → Judged limits c (refused 12)
+  readable : (w : Programmed) → Readable limits c w → Judged limits c (result w)
 
 -- The same of writing, where the output's room is asked for last.
-pub data WriteJudged (limits : Limits) (w : Programmed) (room : ℕ) : WriteAnswer → Type 0 where
-  outside : (WithinLimits limits w → ⊥) → WriteJudged limits w room (notWritten 12)
-  noRoom : WithinLimits limits w → room < 23 → WriteJudged limits w room (notWritten 1)
-  fits : WithinLimits limits w → 23 ≤ room → WriteJudged limits w room (wrote 23)
+pub data WriteJudged (limits : Limits) (w : Programmed) (room : ℕ) : Answer ℕ → Type 0 where
+  outside : (WithinLimits limits w → ⊥) → WriteJudged limits w room (refused 12)
+  noRoom : WithinLimits limits w → room < 23 → WriteJudged limits w room (refused 1)
+  fits : WithinLimits limits w → 23 ≤ room → WriteJudged limits w room (result 23)

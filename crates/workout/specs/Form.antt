@@ -4,8 +4,8 @@ use mathlib.Core.Bool.{Bool, true, false}
 use mathlib.Core.List.{List, [], _∷_}
 use lib.Dec.{leb, eqb}
 use lib.ListN.{length, getD}
-use Rattle.packing.specs.Choice.{pick}
-use Rattle.packing.specs.Number.{number}
+use Rattle.lists.specs.Choice.{pick}
+use Rattle.numbers.specs.Number.{number}
 use Rattle.workout.specs.Limits.{Limits}
 use Rattle.workout.specs.Workout.{Programmed, distance, time, layout, withinLimits}
 use Rattle.workout.specs.declared.layout.Kind.{Kind}

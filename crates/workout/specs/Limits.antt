@@ -2,7 +2,7 @@
 use Prim.Native.Nat.{ℕ, _+_, _-_, _*_, _/_, _≤_, _<_}
 use mathlib.Core.Bool.{Bool, false}
 use lib.Dec.{leb}
-use Rattle.packing.specs.Choice.{pick, within}
+use Rattle.lists.specs.Choice.{pick, within}
 
 -- The limits on one kind of goal: on the goal in its own unit, and on its split in the split's.
 pub record GoalLimits : Type 0 where

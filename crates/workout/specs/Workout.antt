@@ -5,8 +5,8 @@ use mathlib.Core.Logic.{_⊎_}
 use mathlib.Core.Bool.{Bool}
 use mathlib.Core.List.{List, [], _∷_, _++_}
 use lib.Dec.{eqb}
-use Rattle.packing.specs.Choice.{pick}
-use Rattle.packing.specs.Number.{bytesOf}
+use Rattle.lists.specs.Choice.{pick}
+use Rattle.numbers.specs.Number.{bytesOf}
 use Rattle.workout.specs.Limits.{Limits, withinGoal}
 use Rattle.workout.specs.declared.Workout.{Workout}
 use Rattle.workout.specs.declared.Goal.{Goal}

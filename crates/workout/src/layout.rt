@@ -3,7 +3,7 @@ ghost use mathlib.Core.Path.{_≡_};
 ghost use mathlib.Core.List.{[], _∷_};
 ghost use Prim.Native.Nat.{_+_, _*_, _/_, _%_};
 ghost use lib.ListN.{length};
-ghost use Rattle.packing.specs.Number.{bytesOf};
+ghost use Rattle.numbers.specs.Number.{bytesOf};
 ghost use Rattle.workout.specs.Workout.{layout, commandOf, identifierOf, distanceBytes, timeBytes};
 ghost use Rattle.workout.specs.Form.{kindFor, sameBytes};
 

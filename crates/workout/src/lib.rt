@@ -3,16 +3,15 @@
 mod layout;
 mod limits;
 
-use frame::Written;
+use answer::Refusal;
+use answer::Written;
 use layout::GoalBytes;
 use layout::Kind;
 use limits::Limits;
-use refusal::Refusal;
 ghost use mathlib.Core.Path.{_≡_};
 ghost use Prim.Native.Nat.{_<_};
 ghost use lib.ListN.{length};
-ghost use Rattle.packing.specs.Draft.{draftAnswer, draftOut};
-ghost use Rattle.frame.specs.Answers.{writtenMeans};
+ghost use Rattle.answer.specs.Draft.{draftAnswer, draftOut, writtenMeans};
 ghost use Rattle.workout.specs.Limits.{pm3Limits, Divisible};
 ghost use Rattle.workout.specs.Workout.{Programmed, programmed, contentsOf};
 ghost use Rattle.workout.specs.Answers.{readMeans, readAnswer, workoutDraft};
@@ -71,15 +70,15 @@ fn read_within(limits: Limits, contents: &[u8]) -> WorkoutRead
     }
     let kind = layout::kind_of(contents[0]);
     let goal = GoalBytes(contents[2], contents[3], contents[4]);
-    let split = packing::number_at(contents, layout::SPLIT_AT, 4) as u32;
-    let watts = packing::number_at(contents, layout::POWER_AT, 2) as u16;
+    let split = numbers::number_at(contents, layout::SPLIT_AT, 4) as u32;
+    let watts = numbers::number_at(contents, layout::POWER_AT, 2) as u16;
     let expected = layout::lay_out(kind, goal, split, watts);
     if !layout::same(contents, &expected) {
         return WorkoutRead::Refused(Refusal::NotWorkout);
     }
     match kind {
         Kind::Distance => {
-            let amount = packing::number_at(contents, layout::DISTANCE_AT, 2) as u32;
+            let amount = numbers::number_at(contents, layout::DISTANCE_AT, 2) as u32;
             read_distance(limits, amount, goal.2, split, watts)
         }
         Kind::Time => read_time(limits, goal, split, watts),

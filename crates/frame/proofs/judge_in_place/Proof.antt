@@ -3,7 +3,7 @@ use Prim.Native.Nat.{ℕ, _-_, _≤_}
 use mathlib.Core.List.{List}
 use lib.ListN.{length, take}
 use lib.Seq.{length-take-le}
-use Rattle.packing.proofs.Lists.{take-lesser}
+use Rattle.lists.proofs.Lists.{take-lesser}
 use Rattle.frame.specs.Verdict.{judge}
 use Rattle.frame.specs.Answers.{judgeAnswer, leftIn}
 use Rattle.frame.proofs.ContentsLaws.{left-part}

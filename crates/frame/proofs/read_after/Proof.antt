@@ -2,7 +2,7 @@ use mathlib.Core.Path.{_≡_, ap, _∙_}
 use Prim.Native.Nat.{ℕ, _-_}
 use native.Mathlib.Omega.{arith}
 use lib.ListN.{length, take, drop, length-drop}
-use Rattle.packing.specs.Splice.{splice}
+use Rattle.lists.specs.Splice.{splice}
 use Rattle.frame.specs.Steps.{kindIn, SoundAt}
 use Rattle.frame.proofs.VerdictLaws.{after-short, after-sum, after-sound, after-length, answer-refused, answer-no-room, answer-done, header-as, contents-of}
 use Rattle.frame.proofs.ContentsLaws.{rest-first, copied-plain}

@@ -9,7 +9,8 @@ use Rattle.frame.specs.Stuffing.{unstuff}
 use borrow.Author.Tests.{not-true, not-false}
 use Rattle.frame.specs.Steps.{isBounded, frameOf, judgeWhole, ExaminesWhole, SoundAt, bytesOf}
 use Rattle.frame.specs.declared.candidate.Examined.{Examined}
-use Rattle.frame.specs.Verdict.{Verdict, accepted, verdict}
+use Rattle.frame.specs.Verdict.{Verdict, verdict}
+use Rattle.answer.specs.Answer.{result}
 use Rattle.frame.specs.Answers.{readAnswer, readOut}
 use Rattle.frame.proofs.VerdictLaws.{bounded-no, bounded-long, bounded-judged, whole-judged, plain-whole, answer-refused, answer-no-room, answer-done, header-as, contents-of}
 use Rattle.frame.proofs.ContentsLaws.{rest-length, rest-first}
@@ -50,7 +51,7 @@ E k = k .before .before .before
 sound : (k : tie.After-known-told2) → SoundAt (K (E k) .kind-of .result) (B (K (E k))) (k .before .found2 .given .0 .0) (k .before .found2 .given .0 .1 .0) (k .before .found2 .given .0 .1 .1 .0)
 sound k = found (E k) _ (k .before .found2 .given .1) .1
 
-accepts : (k : tie.After-known-told2) → verdict (W (T (K (E k)))) ≡ accepted (frameOf (k .before .found2 .given .0 .0) (sound k .contents))
+accepts : (k : tie.After-known-told2) → verdict (W (T (K (E k)))) ≡ result (frameOf (k .before .found2 .given .0 .0) (sound k .contents))
 accepts k = sym (judged (K (E k))) ∙ whole-judged _ _ (found (E k) _ (k .before .found2 .given .1) .0) ∙ sound k .judged
 
 -- the part from the contents on

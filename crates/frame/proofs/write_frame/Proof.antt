@@ -6,8 +6,8 @@ use lib.ListN.{length, length-set}
 use Rattle.frame.specs.Stuffing.{stuffByte}
 use Rattle.frame.specs.Checksum.{checksum}
 use Rattle.frame.specs.Frame.{Frame, wireOf}
-use Rattle.packing.specs.Draft.{wrote}
-use Rattle.packing.proofs.Drafts.{writes-refusal, writes-no-room, writes-done}
+use Rattle.answer.specs.Answer.{result}
+use Rattle.answer.proofs.Drafts.{writes-refusal, writes-no-room, writes-done}
 use Rattle.frame.specs.Steps.{frameOf}
 use Rattle.frame.proofs.WireLaws.{wire-length, header-between, draft-long, draft-fits, put-parts}
 use Rattle.frame.proofs.StuffingLaws.{stuff-between, stuffByte-between}
@@ -120,7 +120,7 @@ returns-4 c =
     let done =
     writes-done _ (W w) (a .out .now) _ (draft-fits (F w) (omega (arith, counted w, h .before .before .before))) (omega (arith, counted w, h .before .before .if3 .left))
     (put-parts (a .header) (a .contents .now) (a .out .now) _ _ _ (sum w) _ _ _ (is-sum w) (omega (arith, counted w, h .before .before .if3 .left)) (p .put-byte .kept .1 .0 ∙ kept s) (h .put-header .ensures .0) (h .put-header .ensures .1) (s .put-stuffed .ensures .0) (s .put-stuffed .ensures .1) (p .put-byte .ensures .0) (p .put-byte .ensures .1)) in
-    (ap wrote (counted w) ∙ done .0, done .1)
+    (ap result (counted w) ∙ done .0, done .1)
 
 pub write-frame-spec : {M : Type 1} → statement M
 write-frame-spec =

@@ -3,10 +3,10 @@ use lib.Seq.{take-all}
 use mathlib.Core.Path.{_≡_, sym, ap, _∙_}
 use Prim.Native.Nat.{ℕ, _+_, _-_, _≤_}
 use native.Mathlib.Omega.{arith}
-use Rattle.packing.specs.Draft.{wrote}
-use Rattle.packing.proofs.Drafts.{writes-refusal, writes-no-room, writes-done}
+use Rattle.answer.specs.Answer.{result}
+use Rattle.answer.proofs.Drafts.{writes-refusal, writes-no-room, writes-done}
 use mathlib.Core.List.{List, _∷_, _++_}
-use Rattle.packing.proofs.Splices.{part-splice, copied-first}
+use Rattle.lists.proofs.Splices.{part-splice, copied-first}
 use Rattle.reply.proofs.ReplyLaws.{item-count, item-long, item-fits, whole-length, put-written}
 use borrow.Rule.Slice.PartMut.{same-len-mid}
 use borrow.Author.Needs.{needs}
@@ -100,7 +100,7 @@ returns-5 c =
     let w = whole-length (a .prior .now) (a .byte) (a .body .now) (omega (arith, e)) in
     let done = writes-done _ (whole (St k)) (a .out .now) _ (item-fits (a .prior .now) (a .byte) (a .body .now) (omega (arith, e)) (e .before .before .before .if1 .left) (e .before .if3 .left)) (omega (arith, e .if4 .left))
     (put-written (a .prior .now) (a .body .now) (a .out .now) (o .last .1 .0) _ (a .byte) (e .if4 .left) (copied-first (a .prior .now) (a .out .now) _ (o .ensures .1)) (part-splice (stored k) (a .body .now) _ (length (a .prior .now) + 2) (room k) (c .before .before .copy2 .ensures .1))) in
-    (ap wrote (sym w) ∙ done .0, done .1)
+    (ap result (sym w) ∙ done .0, done .1)
 
 pub put-item-spec : {M : Type 1} → statement M
 put-item-spec =

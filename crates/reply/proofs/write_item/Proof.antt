@@ -1,7 +1,7 @@
 use mathlib.Core.Path.{sym, ap, _∙_}
 use Rattle.reply.specs.Replies.{replyMeans}
-use Rattle.packing.specs.Draft.{Draft, draftAnswer, draftOut}
-use Rattle.packing.proofs.Drafts.{writes-refusal}
+use Rattle.answer.specs.Draft.{Draft, draftAnswer, draftOut}
+use Rattle.answer.proofs.Drafts.{writes-refusal}
 use lib.ListN.{length}
 use Rattle.reply.proofs.ReplyLaws.{prior-refused, prior-sound}
 use borrow.Author.Needs.{needs}

@@ -1,8 +1,8 @@
 use mathlib.Core.Path.{sym, ap, _∙_}
 use Rattle.reply.specs.Status.{statusMeans}
-use Rattle.packing.proofs.Drafts.{writes-refusal, writes-no-room, writes-done}
+use Rattle.answer.proofs.Drafts.{writes-refusal, writes-no-room, writes-done}
 use mathlib.Core.List.{[], _∷_}
-use Rattle.packing.proofs.Splices.{set-splice}
+use Rattle.lists.proofs.Splices.{set-splice}
 use Rattle.reply.proofs.ReplyLaws.{status-refused, status-sound}
 use borrow.Author.Needs.{needs}
 use Rattle.reply.proofs.write_status.Statement.{statement}

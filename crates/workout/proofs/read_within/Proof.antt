@@ -3,8 +3,8 @@ use borrow.Author.Needs.{needs}
 use mathlib.Core.Path.{_≡_, sym, _∙_}
 use native.Mathlib.Omega.{arith}
 use borrow.Author.Tests.{not-true, not-false}
-use Rattle.packing.specs.Number.{Bytes}
-use Rattle.packing.proofs.Numbers.{number-bound}
+use Rattle.numbers.specs.Number.{Bytes}
+use Rattle.numbers.proofs.Numbers.{number-bound}
 use Rattle.workout.specs.Steps.{limitsOf}
 use Rattle.workout.specs.Form.{laidOut}
 use Rattle.workout.proofs.ReadLaws.{not-long, laid-out-same, read-distance-is, read-time-is, read-formless}

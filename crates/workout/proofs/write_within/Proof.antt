@@ -4,7 +4,7 @@ use borrow.Author.Tests.{not-true, not-false}
 use Rattle.workout.specs.Steps.{limitsOf}
 use Rattle.workout.specs.Workout.{programmed, contentsOf}
 use native.Mathlib.Omega.{arith}
-use Rattle.packing.proofs.Drafts.{writes-refusal, writes-no-room}
+use Rattle.answer.proofs.Drafts.{writes-refusal, writes-no-room}
 use Rattle.workout.proofs.WriteLaws.{contents-length, draft-outside, draft-inside, write-done}
 use Rattle.workout.proofs.write_within.Statement.{statement}
 use Rattle.workout.proofs.write_within.Tie as tie

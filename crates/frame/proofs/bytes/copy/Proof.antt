@@ -3,7 +3,7 @@ use Prim.Native.Nat.{_+_, _-_, _≤_}
 use native.Mathlib.Omega.{arith}
 use lib.ListN.{length, length-set}
 use lib.Seq.{paste, paste-zero}
-use Rattle.packing.proofs.Splices.{paste-more, paste-all}
+use Rattle.lists.proofs.Splices.{paste-more, paste-all}
 use borrow.Author.Needs.{needs}
 use Rattle.frame.proofs.bytes.copy.Statement.{statement}
 use Rattle.frame.proofs.bytes.copy.Tie as tie

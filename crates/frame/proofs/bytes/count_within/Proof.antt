@@ -3,8 +3,8 @@ use Prim.Native.Nat.{_+_, _-_, _≤_}
 use native.Mathlib.Nat.{zero-add}
 use native.Mathlib.Omega.{arith}
 use lib.ListN.{length, drop}
-use Rattle.packing.specs.Choice.{within, countOf}
-use Rattle.packing.proofs.Tests.{count-at, count-end, count-most}
+use Rattle.lists.specs.Choice.{within, countOf}
+use Rattle.lists.proofs.Tests.{count-at, count-end, count-most}
 use borrow.Author.Needs.{needs}
 use Rattle.frame.proofs.bytes.count_within.Statement.{statement}
 use Rattle.frame.proofs.bytes.count_within.Tie as tie

@@ -3,8 +3,8 @@ use Prim.Native.Nat.{ℕ, _-_, _≤_}
 use lib.ListN.{length, take, drop}
 use lib.Dec.{eqb}
 use lib.Seq.{take-all}
-use Rattle.packing.specs.Choice.{pick, within, noneOf}
-use Rattle.packing.proofs.Tests.{mark-more, mark-all}
+use Rattle.lists.specs.Choice.{pick, within, noneOf}
+use Rattle.lists.proofs.Tests.{mark-more, mark-all}
 use Rattle.frame.specs.Checksum.{sumFrom}
 use Rattle.frame.proofs.ChecksumLaws.{sumFrom-at, sumFrom-end}
 use borrow.Author.Needs.{needs}

@@ -3,7 +3,7 @@ use Prim.Native.Nat.{ℕ, _+_, _-_, _≤_, _<_}
 use native.Mathlib.Omega.{arith}
 use mathlib.Core.List.{_++_}
 use lib.ListN.{length, take, drop, length-drop, length-set, take-append-drop}
-use Rattle.packing.proofs.Lists.{shift-more}
+use Rattle.lists.proofs.Lists.{shift-more}
 use borrow.Author.Needs.{needs}
 use Rattle.frame.proofs.bytes.shift.Statement.{statement}
 use Rattle.frame.proofs.bytes.shift.Tie as tie

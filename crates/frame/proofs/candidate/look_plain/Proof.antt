@@ -4,7 +4,7 @@ use Prim.Native.Nat.{_-_, _≤_}
 use native.Mathlib.Omega.{arith}
 use lib.ListN.{length}
 use lib.Seq.{length-take-le}
-use Rattle.packing.proofs.Tests.{none-last}
+use Rattle.lists.proofs.Tests.{none-last}
 use Rattle.frame.specs.Stuffing.{isStuffed}
 use Rattle.frame.proofs.ChecksumLaws.{sum-last}
 use borrow.Author.Needs.{needs}

@@ -5,8 +5,8 @@ use native.Mathlib.Omega.{arith}
 use lib.ListN.{length, take}
 use lib.Seq.{length-take-le}
 use borrow.Author.Tests.{not-true, not-false}
-use Rattle.packing.specs.Choice.{within, noneOf}
-use Rattle.packing.proofs.Tests.{count-most}
+use Rattle.lists.specs.Choice.{within, noneOf}
+use Rattle.lists.proofs.Tests.{count-most}
 use Rattle.frame.specs.Checksum.{sumFrom, checksum}
 use Rattle.frame.proofs.EscapeLaws.{scan-as-is, scan-ends-bad, scan-unsound, scan-none, scan-counted}
 use borrow.Author.Needs.{needs}

@@ -4,8 +4,8 @@ use native.Mathlib.Nat.{zero-add}
 use native.Mathlib.Omega.{arith}
 use lib.Bits.{bitXor}
 use lib.ListN.{length, drop}
-use Rattle.packing.specs.Choice.{within, countOf}
-use Rattle.packing.proofs.Tests.{count-at, count-end, count-most}
+use Rattle.lists.specs.Choice.{within, countOf}
+use Rattle.lists.proofs.Tests.{count-at, count-end, count-most}
 use Rattle.frame.specs.Checksum.{sumFrom}
 use Rattle.frame.specs.Steps.{lowered}
 use Rattle.frame.proofs.EscapeLaws.{lowered-at, lowered-end}

@@ -5,9 +5,9 @@ use mathlib.Core.List.{[], _∷_}
 use lib.ListN.{length, length-set}
 use Rattle.frame.specs.Stuffing.{stuffByte}
 use Rattle.frame.proofs.StuffingLaws.{stuffByte-yes, stuffByte-no}
-use Rattle.packing.specs.Splice.{splice}
-use Rattle.packing.proofs.Splices.{set-splice, set2-splice}
-use Rattle.packing.proofs.Tests.{within-true}
+use Rattle.lists.specs.Splice.{splice}
+use Rattle.lists.proofs.Splices.{set-splice, set2-splice}
+use Rattle.lists.proofs.Tests.{within-true}
 use borrow.Author.Needs.{needs}
 use Rattle.frame.proofs.stuffing.put_byte.Statement.{statement}
 use Rattle.frame.proofs.stuffing.put_byte.Tie as tie

@@ -5,8 +5,8 @@ use lib.ListN.{length, length-set}
 use Rattle.frame.specs.Stuffing.{stuffByte}
 use Rattle.frame.specs.Steps.{headerWire}
 use Rattle.frame.specs.declared.Header.{Header}
-use Rattle.packing.specs.Splice.{splice}
-use Rattle.packing.proofs.Splices.{set-splice}
+use Rattle.lists.specs.Splice.{splice}
+use Rattle.lists.proofs.Splices.{set-splice}
 use Rattle.frame.specs.declared.Header.the-variants.{Addressed}
 use Rattle.frame.proofs.WireLaws.{put-addressed, addressed-length, header-between}
 use borrow.Author.Needs.{needs}

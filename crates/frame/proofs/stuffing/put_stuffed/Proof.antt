@@ -1,7 +1,7 @@
 use mathlib.Core.Path.{_≡_, sym, ap, _∙_}
 use Prim.Native.Nat.{ℕ, _+_, _-_}
 use Rattle.frame.specs.Stuffing.{stuff}
-use Rattle.packing.specs.Splice.{splice}
+use Rattle.lists.specs.Splice.{splice}
 use Rattle.frame.proofs.StuffingLaws.{stuff-same}
 use borrow.Author.Needs.{needs}
 use Rattle.frame.proofs.stuffing.put_stuffed.Statement.{statement}

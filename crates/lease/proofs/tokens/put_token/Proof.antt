@@ -1,9 +1,9 @@
 use mathlib.Core.Path.{_≡_, refl, sym, ap, _∙_}
 use Prim.Native.Nat.{ℕ, _+_, _-_, _≤_}
-use Rattle.packing.specs.Number.{put}
+use Rattle.numbers.specs.Number.{put}
 use lib.ListN.{length, length-set}
 use native.Mathlib.Nat.{add-zero}
-use Rattle.packing.proofs.Numbers.{put-up, put-all}
+use Rattle.numbers.proofs.Numbers.{put-up, put-all}
 use borrow.Author.Needs.{needs}
 use Rattle.lease.proofs.tokens.put_token.Statement.{statement}
 use Rattle.lease.proofs.tokens.put_token.Tie as tie

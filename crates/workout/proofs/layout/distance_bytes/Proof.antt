@@ -1,6 +1,6 @@
 use borrow.Author.Needs.{needs}
 use borrow.Author.Tests.{eq-eqb, ne-eqb}
-use Rattle.packing.specs.Number.{bytesOf}
+use Rattle.numbers.specs.Number.{bytesOf}
 use Rattle.workout.specs.Workout.{distanceBytes}
 use Rattle.workout.proofs.layout.distance_bytes.Statement.{statement}
 use Rattle.workout.proofs.layout.distance_bytes.Tie as tie

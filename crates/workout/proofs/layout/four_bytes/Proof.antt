@@ -1,5 +1,5 @@
 use borrow.Author.Needs.{needs}
-use Rattle.packing.specs.Number.{bytesOf}
+use Rattle.numbers.specs.Number.{bytesOf}
 use Rattle.workout.proofs.layout.four_bytes.Statement.{statement}
 use Rattle.workout.proofs.layout.four_bytes.Tie as tie
 

@@ -1,5 +1,5 @@
 use borrow.Author.Needs.{needs}
-use Rattle.packing.specs.Number.{bytesOf}
+use Rattle.numbers.specs.Number.{bytesOf}
 use Rattle.workout.specs.Workout.{layout}
 use Rattle.workout.proofs.layout.lay_out.Statement.{statement}
 use Rattle.workout.proofs.layout.lay_out.Tie as tie

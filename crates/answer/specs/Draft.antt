@@ -1,0 +1,29 @@
+-- What every writer of these crates answers and leaves in the output that it is lent.
+use Prim.Native.Nat.{ℕ}
+use mathlib.Core.List.{List, _++_}
+use lib.Dec.{leb}
+use lib.ListN.{length, drop}
+use Rattle.lists.specs.Choice.{pick}
+use Rattle.answer.specs.Answer.{Answer, result, refused}
+use Rattle.answer.specs.Refusals.{numberOf}
+use Rattle.answer.specs.declared.Written.{Written}
+use Rattle.answer.specs.declared.Written.the-variants.{Length, Refused}
+
+-- The bytes to put first in an output, or a refusal that needs no output to be known.
+abbrev pub Draft : Type 0
+Draft = Answer (List ℕ)
+
+-- How many bytes were written, or a refusal.
+abbrev pub writtenMeans : Written → Answer ℕ
+writtenMeans (Length n) = result n
+writtenMeans (Refused why) = refused (numberOf why)
+
+-- The answer with so much room: the draft's refusal, then 1, then the length.
+unfoldable pub draftAnswer : Draft → ℕ → Answer ℕ
+draftAnswer (refused n) room = refused n
+draftAnswer (result w) room = pick (leb (length w) room) (result (length w)) (refused 1)
+
+-- The output afterwards: a refusal changes nothing, and what stands past the result stays.
+unfoldable pub draftOut : Draft → List ℕ → List ℕ
+draftOut (refused n) out = out
+draftOut (result w) out = pick (leb (length w) (length out)) (w ++ drop (length w) out) out

@@ -1,0 +1,22 @@
+-- Document 01, "Refusal numbers": the number of each refusal. Every meaning of an answer goes through it.
+use Prim.Native.Nat.{ℕ}
+use Rattle.answer.specs.declared.Refusal.{Refusal}
+use Rattle.answer.specs.declared.Refusal.the-variants.{NoRoom, TooLong, BadEscape, TooShort, BadChecksum, Truncated, BadCount, BadStatus, BadAddress, AlreadyHeld, NotHolder, OutOfLimits, NotWorkout, ZeroToken, Absent, BadTable}
+
+abbrev pub numberOf : Refusal → ℕ
+numberOf NoRoom = 1
+numberOf TooLong = 2
+numberOf BadEscape = 3
+numberOf TooShort = 4
+numberOf BadChecksum = 5
+numberOf Truncated = 6
+numberOf BadCount = 7
+numberOf BadStatus = 8
+numberOf BadAddress = 9
+numberOf AlreadyHeld = 10
+numberOf NotHolder = 11
+numberOf OutOfLimits = 12
+numberOf NotWorkout = 13
+numberOf ZeroToken = 14
+numberOf Absent = 15
+numberOf BadTable = 18

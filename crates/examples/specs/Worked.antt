@@ -1,0 +1,50 @@
+-- Document 01, "Bench sheet": the lines marked P, one case for each, with what is expected as data.
+use Prim.Native.Nat.{ℕ}
+use mathlib.Core.Bool.{true}
+use mathlib.Core.Path.{_≡_}
+use mathlib.Core.List.{List, [], _∷_}
+use Rattle.answer.specs.Answer.{result, refused, result as granted, Answer}
+use Rattle.frame.specs.Frame.{Frame, standard, extended}
+use Rattle.frame.specs.Verdict.{Verdict, verdict}
+use Rattle.frame.specs.Answers.{frameDraft}
+use Rattle.command.specs.Entries.{entry}
+use Rattle.reply.specs.Replies.{reply, replyIn, Reply}
+use Rattle.lease.specs.Lease.{hold, stop}
+use Rattle.lease.specs.History.{newTable, answersOn}
+
+-- A slice and its verdict; a frame and its bytes on the wire; contents and the reply that they are; an address and the stop that its holder gets.
+pub data Case : Type 0 where
+  reads : (wire : List ℕ) → Verdict → Case
+  writes : Frame → (wire : List ℕ) → Case
+  replies : (contents : List ℕ) → Answer Reply → Case
+  stops : (address : ℕ) → (wire : List ℕ) → Case
+
+-- What a case says of the definitions that the contracts cite. The stop is one by token 1, which took the address on a new table; its output has 120 bytes.
+abbrev pub Holds : Case → Type 0
+Holds (reads wire expected) = verdict wire ≡ expected
+Holds (writes frame wire) = frameDraft frame ≡ result wire
+Holds (replies contents expected) = replyIn contents ≡ expected
+Holds (stops address wire) = answersOn newTable (hold address 1 ∷ stop address 1 120 ∷ []) ≡ granted [] ∷ granted wire ∷ []
+
+-- Every case of a list holds.
+unfoldable pub AllHold : List Case → Type 0
+AllHold [] = Unit {0}
+AllHold (c ∷ cs) = Holds c × AllHold cs
+
+-- The status 81 of the reply: toggle set, previous frame 0 (ok), state 1 (ready).
+abbrev pub markedExamples : List Case
+markedExamples =
+    reads (0xF1 ∷ 0xF2 ∷ []) (refused 4)
+    ∷ reads (0xF1 ∷ 0x00 ∷ 0xF2 ∷ []) (result (standard []))
+    ∷ reads (0xF0 ∷ 0x05 ∷ 0x00 ∷ 0xF2 ∷ []) (refused 4)
+    ∷ reads (0xF0 ∷ 0x05 ∷ 0x00 ∷ 0x00 ∷ 0xF2 ∷ []) (result (extended 0x05 0x00 []))
+    ∷ reads (0xF1 ∷ 0xF3 ∷ 0x04 ∷ 0xF2 ∷ []) (refused 3)
+    ∷ reads (0xF1 ∷ 0xF3 ∷ 0xF2 ∷ []) (refused 3)
+    ∷ writes (standard (0xF1 ∷ [])) (0xF1 ∷ 0xF3 ∷ 0x01 ∷ 0xF3 ∷ 0x01 ∷ 0xF2 ∷ [])
+    ∷ reads (0xF1 ∷ 0x24 ∷ 0x02 ∷ 0x03 ∷ 0x00 ∷ 0x25 ∷ 0xF2 ∷ []) (result (standard (0x24 ∷ 0x02 ∷ 0x03 ∷ 0x00 ∷ [])))
+    ∷ reads (0xF1 ∷ 0x24 ∷ 0x02 ∷ 0x03 ∷ 0x00 ∷ 0x24 ∷ 0xF2 ∷ []) (refused 5)
+    ∷ reads (0xF1 ∷ 0x1A ∷ 0x07 ∷ 0x05 ∷ 0x05 ∷ 0x80 ∷ 0x64 ∷ 0x00 ∷ 0x00 ∷ 0x00 ∷ 0xF9 ∷ 0xF2 ∷ [])
+    (result (standard (0x1A ∷ 0x07 ∷ 0x05 ∷ 0x05 ∷ 0x80 ∷ 0x64 ∷ 0x00 ∷ 0x00 ∷ 0x00 ∷ [])))
+    ∷ replies (0x81 ∷ 0x1A ∷ 0x00 ∷ []) (result (reply true 0 1 (entry 0x1A [] ∷ [])))
+    ∷ stops 0xF1 (0xF0 ∷ 0xF3 ∷ 0x01 ∷ 0x00 ∷ 0x76 ∷ 0x04 ∷ 0x13 ∷ 0x02 ∷ 0x01 ∷ 0x02 ∷ 0x60 ∷ 0xF2 ∷ [])
+    ∷ []

@@ -1,0 +1,68 @@
+-- The lengths of all answers have room in 32 bits.
+use Prim.Native.Nat.{ℕ, _^_, _≤_, _<_}
+use mathlib.Core.Path.{_≡_, refl}
+use mathlib.Core.List.{List}
+use native.Mathlib.Omega.{arith}
+use lib.Dec.{leb, eqb}
+use lib.ListN.{length, getD}
+use borrow.Author.Tests.{leb-true}
+use Rattle.answer.specs.Draft.{Draft, draftAnswer}
+use Rattle.answer.specs.Answer.{result, refused}
+use Rattle.lists.proofs.Cases.{by-bool}
+use Rattle.frame.specs.Frame.{Frame, standard, extended, contentsOf, wireOf}
+use Rattle.frame.specs.Verdict.{Verdict, verdict}
+use Rattle.frame.specs.Answers.{frameDraft, readAnswer}
+use Rattle.frame.proofs.ContentsLaws.{accepted-short}
+use Rattle.workout.specs.Limits.{Limits}
+use Rattle.workout.specs.Workout.{Programmed, withinLimits}
+use Rattle.workout.specs.Answers.{workoutDraft}
+use Rattle.workout.proofs.WriteLaws.{contents-length}
+use Rattle.lease.specs.Lease.{stop, inRange, owns, stopFrame, answerOf, lentAnswer, tableOf}
+use Rattle.lease.specs.Answers.{told}
+use Rattle.lease.proofs.LeaseLaws.{stop-short}
+use Rattle.exports.specs.Answers.{WriteShort, ReadShort}
+
+-- a draft's length has room
+abbrev DraftShort : Draft → Type 0
+DraftShort (result w) = length w < 2 ^ 32
+DraftShort (refused n) = Unit {0}
+
+draft-short : (d : Draft) (room : ℕ) → DraftShort d → WriteShort (draftAnswer d room)
+unfolding draftAnswer
+draft-short (refused n) room h = tt
+draft-short (result w) room h = by-bool (leb (length w) room) (λ y. simp y h) (λ y. simp y tt)
+
+pub frame-short : (f : Frame) (room : ℕ) → WriteShort (draftAnswer (frameDraft f) room)
+unfolding frameDraft
+frame-short f room =
+    draft-short (frameDraft f) room (by-bool (leb (length (wireOf f)) 120) (λ y. simp y (omega (arith, leb-true (length (wireOf f)) 120 y))) (λ y. simp y tt))
+
+pub workout-short : (limits : Limits) (w : Programmed) (room : ℕ) → WriteShort (draftAnswer (workoutDraft limits w) room)
+unfolding workoutDraft
+workout-short limits w room =
+    draft-short (workoutDraft limits w) room (by-bool (withinLimits limits w) (λ y. simp y (omega (arith, contents-length w))) (λ y. simp y tt))
+
+token-fits : (a t room held : ℕ) → WriteShort (told (answerOf (stop a t room) held))
+unfolding answerOf
+token-fits a t room held =
+    by-bool (inRange a)
+    (λ r. by-bool (owns t held)
+    (λ o. by-bool (leb (length (stopFrame a)) room) (λ l. simp (r, o, l) (omega (arith, stop-short a))) (λ l. simp (r, o, l) tt))
+    (λ o. simp (r, o) tt))
+    (λ r. simp r tt)
+
+pub stop-fits : (a t room : ℕ) (s : List ℕ) → WriteShort (told (lentAnswer (stop a t room) s))
+unfolding lentAnswer
+stop-fits a t room s = by-bool (eqb (length s) 2048) (λ y. simp y (token-fits a t room (getD (tableOf s) a 0))) (λ y. simp y tt)
+
+pub read-short : (w : List ℕ) (room : ℕ) → ReadShort (readAnswer (verdict w) room)
+unfolding readAnswer contentsOf
+read-short w room = of-verdict (verdict w) refl
+  where
+    of-frame : (f : Frame) → length (contentsOf f) ≤ 118 → ReadShort (readAnswer (result f) room)
+    of-frame (standard c) h = by-bool (leb (length c) room) (λ y. simp y (omega (arith, h))) (λ y. simp y tt)
+    of-frame (extended to from c) h = by-bool (leb (length c) room) (λ y. simp y (omega (arith, h))) (λ y. simp y tt)
+
+    of-verdict : (v : Verdict) → verdict w ≡ v → ReadShort (readAnswer v room)
+    of-verdict (refused n) e = tt
+    of-verdict (result f) e = of-frame f (accepted-short w f e)

@@ -1,0 +1,59 @@
+-- Packing a line reader's length and mode and taking them apart are inverse, and an answer that tells nothing is told from every other.
+use Prim.Native.Nat.{ℕ, _+_, _*_, _/_, _%_, _<_}
+use mathlib.Core.Path.{_≡_, refl, sym, ap, _∙_}
+use mathlib.Core.Bool.{Bool, true, false}
+use mathlib.Core.List.{List}
+use lib.Dec.{eqb}
+use native.Mathlib.Omega.{arith}
+use borrow.Author.Tests.{eqb-true, eqb-false}
+use Rattle.lists.specs.Choice.{pick}
+use Rattle.frame.specs.Answers.{standardOutline, extendedOutline, FrameOutline}
+use Rattle.answer.specs.Answer.{Answer, result, refused}
+use Rattle.line.specs.Outcome.{silent, tells}
+use Rattle.line.specs.Reader.{reader}
+use Rattle.line.specs.declared.Mode.{Mode}
+use Rattle.line.specs.declared.Mode.the-variants.{Outside, InStandard, InExtended, Overlong}
+use Rattle.exports.specs.Packed.{Fields, Tells}
+use Rattle.exports.specs.LineState.{digitOf, modeOf, stateOf, readerIn}
+use Rattle.exports.specs.LineAnswers.{lineFields}
+
+digit-small : (m : Mode) → digitOf m < 4
+digit-small Outside = omega arith
+digit-small InStandard = omega arith
+digit-small InExtended = omega arith
+digit-small Overlong = omega arith
+
+mode-of-digit : (m : Mode) → modeOf (digitOf m) ≡ m
+mode-of-digit Outside = refl
+mode-of-digit InStandard = refl
+mode-of-digit InExtended = refl
+mode-of-digit Overlong = refl
+
+-- A reader that was packed is what its number is taken apart to.
+pub state-tells : (bytes : List ℕ) (len : ℕ) (m : Mode) → readerIn bytes (stateOf len m) ≡ reader bytes len m
+state-tells bytes len m =
+    let l : stateOf len m / 4 ≡ len = omega (arith, digit-small m) in
+    let d : stateOf len m % 4 ≡ digitOf m = omega (arith, digit-small m) in
+    let e : modeOf (stateOf len m % 4) ≡ m = ap modeOf d ∙ mode-of-digit m in
+    λ i. record { bytes = bytes; len = l i; mode = e i }
+
+digit-of-mode : (n : ℕ) → n < 4 → digitOf (modeOf n) ≡ n
+digit-of-mode n h = by-tests (eqb n 0) (eqb n 1) (eqb n 2) refl refl refl
+  where
+    by-tests : (t₀ t₁ t₂ : Bool) → eqb n 0 ≡ t₀ → eqb n 1 ≡ t₁ → eqb n 2 ≡ t₂ → digitOf (pick t₀ Outside (pick t₁ InStandard (pick t₂ InExtended Overlong))) ≡ n
+    by-tests true t₁ t₂ a b c = sym (eqb-true n 0 a)
+    by-tests false true t₂ a b c = sym (eqb-true n 1 b)
+    by-tests false false true a b c = sym (eqb-true n 2 c)
+    by-tests false false false a b c = omega (arith, h, eqb-false n 0 a, eqb-false n 1 b, eqb-false n 2 c)
+
+-- A number is that of the reader that it is taken apart to.
+pub state-packs : (bytes : List ℕ) (n : ℕ) → stateOf (readerIn bytes n .len) (readerIn bytes n .mode) ≡ n
+state-packs bytes n =
+    let h : n % 4 < 4 = omega arith in
+    ap (λ (d : ℕ). d + 4 * (n / 4)) (digit-of-mode (n % 4) h) ∙ omega arith
+
+-- The number of an answer that tells nothing is that of no frame and of no refusal.
+pub silence-apart : (n : ℕ) (a : Answer FrameOutline) → Tells n (lineFields silent) → Tells n (lineFields (tells a)) → ⊥
+silence-apart n (result (standardOutline len)) s t = let k : _≡_ {A = ℕ} 2 0 = ap (λ (f : Fields). f .kind) (sym (s .unpacks) ∙ t .unpacks) in omega arith
+silence-apart n (result (extendedOutline to from len)) s t = let k : _≡_ {A = ℕ} 2 1 = ap (λ (f : Fields). f .kind) (sym (s .unpacks) ∙ t .unpacks) in omega arith
+silence-apart n (refused m) s t = let k : _≡_ {A = ℕ} 2 0 = ap (λ (f : Fields). f .kind) (sym (s .unpacks) ∙ t .unpacks) in omega arith

@@ -1,0 +1,25 @@
+use Rattle.exports.specs.Answers.{leaseFields}
+use Rattle.exports.specs.Packed.{Tells}
+use mathlib.Core.Path.{subst}
+use borrow.Author.Needs.{needs}
+use Rattle.exports.proofs.csafe_release.Statement.{statement}
+use Rattle.exports.proofs.csafe_release.Tie as tie
+use Rattle.answer.specs.Answer.{Answer}
+use Prim.Native.Nat.{ℕ}
+use mathlib.Core.List.{List}
+
+release-lent-requires : tie.Need-release-lent-requires
+release-lent-requires c κs = search needs
+
+of-outcome-requires : tie.Need-of-outcome-requires
+of-outcome-requires c κs = search needs
+
+same-length : tie.Need-same-length
+same-length c = search needs
+
+returns : tie.Need-returns
+returns c = let e = c .before .before .before .release-lent .ensures in (subst (λ (a : Answer (List ℕ)). Tells (c .of-outcome .result) (leaseFields a)) (e .answered) (c .of-outcome .ensures), e .left)
+
+pub csafe-release-spec : {M : Type 1} → statement M
+csafe-release-spec =
+    tie.close (tie.spec release-lent-requires of-outcome-requires same-length returns)

@@ -1,0 +1,159 @@
+// The portal's functions: frames, the line reader, workouts and leases, called with numbers and byte slices.
+// Document 01, "What the box does".
+mod line_state;
+mod packed;
+
+use workout::Goal;
+use workout::Hundredths;
+use workout::Metres;
+use workout::Seconds;
+use workout::Workout;
+ghost use mathlib.Core.Path.{_≡_};
+ghost use mathlib.Core.List.{List};
+ghost use Prim.Native.Nat.{ℕ};
+ghost use lib.ListN.{length};
+ghost use Rattle.answer.specs.Draft.{draftAnswer, draftOut};
+ghost use Rattle.frame.specs.Frame.{standard, extended};
+ghost use Rattle.frame.specs.Verdict.{verdict};
+ghost use Rattle.frame.specs.Answers.{frameDraft, readAnswer, readOut};
+ghost use Rattle.workout.specs.Limits.{pm3Limits};
+ghost use Rattle.workout.specs.Workout.{distance, time};
+ghost use Rattle.workout.specs.Answers.{workoutDraft};
+ghost use Rattle.lease.specs.Lease.{hold, release, stop, lentAnswer, lentAfter};
+ghost use Rattle.lease.specs.Answers.{told, outAfter};
+ghost use Rattle.exports.specs.Packed.{Tells};
+ghost use Rattle.exports.specs.Answers.{writeFields, readFields, leaseFields};
+ghost use Rattle.exports.specs.LineAnswers.{fedTo, finished, FedAs, FinishedAs};
+
+// Writes a standard frame. Refusals 2 and 1.
+#[no_mangle]
+pub extern "C" fn csafe_write_standard(contents: &[u8], out: &mut [u8]) -> u64
+    ensures { λ r. ⌜ Tells r (writeFields (draftAnswer (frameDraft (standard (now (contents .entry)))) (length (now (out .entry))))) ⌝ }
+    ensures { λ r. ⌜ now (out .exit) ≡ draftOut (frameDraft (standard (now (contents .entry)))) (now (out .entry)) ⌝ }
+{
+    let written = frame::write_standard(contents, out);
+    packed::of_written(written)
+}
+
+// Writes an extended frame. Refusals 2 and 1.
+#[no_mangle]
+pub extern "C" fn csafe_write_extended(to: u8, from: u8, contents: &[u8], out: &mut [u8]) -> u64
+    ensures { λ r. ⌜ Tells r (writeFields (draftAnswer (frameDraft (extended to from (now (contents .entry)))) (length (now (out .entry))))) ⌝ }
+    ensures { λ r. ⌜ now (out .exit) ≡ draftOut (frameDraft (extended to from (now (contents .entry)))) (now (out .entry)) ⌝ }
+{
+    let written = frame::write_extended(to, from, contents, out);
+    packed::of_written(written)
+}
+
+// Reads one frame. Refusals 6, 2, 3, 4, 5 and 1.
+#[no_mangle]
+pub extern "C" fn csafe_read(wire: &[u8], out: &mut [u8]) -> u64
+    ensures { λ r. ⌜ Tells r (readFields (readAnswer (verdict (now (wire .entry))) (length (now (out .entry))))) ⌝ }
+    ensures { λ r. ⌜ now (out .exit) ≡ readOut (verdict (now (wire .entry))) (now (out .entry)) ⌝ }
+{
+    let read = frame::read_frame(wire, out);
+    packed::of_read(read)
+}
+
+// Feeds bytes to a line reader up to the first that is answered, and counts those taken. With no answer all are taken. The reader is its array
+// and the number that holds its length and mode, 0 for a new one.
+#[no_mangle]
+pub extern "C" fn csafe_feed(
+    bytes: &mut [u8; 118],
+    state: &mut u64,
+    input: &[u8],
+    taken: &mut u64,
+) -> u64
+    ensures { λ r. ⌜ FedAs r (now (bytes .exit)) (now (state .exit)) (now (taken .exit)) (fedTo (now (bytes .entry)) (now (state .entry)) (now (input .entry))) ⌝ }
+{
+    let before = *state;
+    let len = line_state::len_in(before);
+    let mode = line_state::mode_in(before);
+    let fed = line::feed_in(bytes, len, mode, input);
+    let after = fed.mode;
+    *state = line_state::state_of(fed.len, after);
+    *taken = fed.taken as u64;
+    let told = fed.told;
+    packed::of_told(told)
+}
+
+// Ends the input of such a reader, whose array stays as it is. Refusal 6 where a candidate is open.
+#[no_mangle]
+pub extern "C" fn csafe_finish(state: &mut u64) -> u64
+    ensures { λ r. ⌜ ((bytes : List ℕ) → FinishedAs r (now (state .exit)) (finished bytes (now (state .entry)))) ⌝ }
+{
+    let mode = line_state::mode_in(*state);
+    let ended = line::finish_in(mode);
+    let after = ended.mode;
+    *state = line_state::state_of(ended.len, after);
+    let told = ended.told;
+    packed::of_told(told)
+}
+
+// Writes the contents of a workout over a distance. Refusals 12 and 1.
+#[no_mangle]
+pub extern "C" fn csafe_write_distance_workout(
+    metres: u32,
+    split: u32,
+    watts: u16,
+    out: &mut [u8],
+) -> u64
+    ensures { λ r. ⌜ Tells r (writeFields (draftAnswer (workoutDraft pm3Limits (distance metres split watts)) (length (now (out .entry))))) ⌝ }
+    ensures { λ r. ⌜ now (out .exit) ≡ draftOut (workoutDraft pm3Limits (distance metres split watts)) (now (out .entry)) ⌝ }
+{
+    let goal = Goal::Distance {
+        goal: Metres(metres),
+        split: Metres(split),
+    };
+    let written = workout::write_workout(Workout { goal, watts }, out);
+    packed::of_written(written)
+}
+
+// Writes the contents of a workout over a time. Refusals 12 and 1.
+#[no_mangle]
+pub extern "C" fn csafe_write_time_workout(
+    seconds: u32,
+    split: u32,
+    watts: u16,
+    out: &mut [u8],
+) -> u64
+    ensures { λ r. ⌜ Tells r (writeFields (draftAnswer (workoutDraft pm3Limits (time seconds split watts)) (length (now (out .entry))))) ⌝ }
+    ensures { λ r. ⌜ now (out .exit) ≡ draftOut (workoutDraft pm3Limits (time seconds split watts)) (now (out .entry)) ⌝ }
+{
+    let goal = Goal::Time {
+        goal: Seconds(seconds),
+        split: Hundredths(split),
+    };
+    let written = workout::write_workout(Workout { goal, watts }, out);
+    packed::of_written(written)
+}
+
+// Takes a free address. Refusals 18, 9, 14 and 10.
+#[no_mangle]
+pub extern "C" fn csafe_hold(table: &mut [u8], address: u32, token: u64) -> u64
+    ensures { λ r. ⌜ Tells r (leaseFields (lentAnswer (hold address token) (now (table .entry)))) ⌝ }
+    ensures { λ r. ⌜ now (table .exit) ≡ lentAfter (hold address token) (now (table .entry)) ⌝ }
+{
+    let outcome = lease::hold_lent(table, address, token);
+    packed::of_outcome(outcome)
+}
+
+// Frees an address for its holder. Refusals 18, 9 and 11.
+#[no_mangle]
+pub extern "C" fn csafe_release(table: &mut [u8], address: u32, token: u64) -> u64
+    ensures { λ r. ⌜ Tells r (leaseFields (lentAnswer (release address token) (now (table .entry)))) ⌝ }
+    ensures { λ r. ⌜ now (table .exit) ≡ lentAfter (release address token) (now (table .entry)) ⌝ }
+{
+    let outcome = lease::release_lent(table, address, token);
+    packed::of_outcome(outcome)
+}
+
+// Writes the stop frame for the holder. Refusals 18, 9, 11 and 1.
+#[no_mangle]
+pub extern "C" fn csafe_stop(table: &[u8], address: u32, token: u64, out: &mut [u8]) -> u64
+    ensures { λ r. ⌜ Tells r (writeFields (told (lentAnswer (stop address token (length (now (out .entry)))) (now (table .entry))))) ⌝ }
+    ensures { λ r. ⌜ now (out .exit) ≡ outAfter (lentAnswer (stop address token (length (now (out .entry)))) (now (table .entry))) (now (out .entry)) ⌝ }
+{
+    let written = lease::stop_lent(table, address, token, out);
+    packed::of_written(written)
+}

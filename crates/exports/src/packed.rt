@@ -1,0 +1,112 @@
+// The one number that every exported function answers.
+use answer::Refusal;
+use answer::Written;
+use frame::Read;
+use lease::Outcome;
+use line::Told;
+ghost use mathlib.Core.Path.{_≡_};
+ghost use Rattle.answer.specs.Refusals.{numberOf};
+ghost use Rattle.answer.specs.Draft.{writtenMeans};
+ghost use Rattle.frame.specs.Answers.{readMeans};
+ghost use Rattle.lease.specs.Answers.{outcomeMeans};
+ghost use Rattle.line.specs.Outcome.{toldMeans};
+ghost use Rattle.line.specs.Within.{Within};
+ghost use Rattle.exports.specs.Packed.{Fields, Tells};
+ghost use Rattle.exports.specs.Answers.{refusalFields, resultFields, writeFields, readFields, leaseFields, WriteShort, ReadShort};
+ghost use Rattle.exports.specs.LineAnswers.{lineFields};
+
+// The kinds of frame.
+const STANDARD: u8 = 0;
+
+const EXTENDED: u8 = 1;
+
+// Not a kind: the line reader told nothing.
+const UNTOLD: u8 = 2;
+
+// No refusal, and no address.
+const NONE: u8 = 0;
+
+// The answer's fields, the number in the lowest bits.
+struct Fields {
+    number: u8,
+    kind: u8,
+    to: u8,
+    from: u8,
+    len: u32,
+}
+
+fn pack(f: Fields) -> u64
+    ensures { λ r. ⌜ Tells r (record { number = f .number; kind = f .kind; to = f .to; from = f .from; len = f .len }) ⌝ }
+{
+    let low = (f.number as u64)
+        + 0x100 * (f.kind as u64)
+        + 0x1_0000 * (f.to as u64)
+        + 0x100_0000 * (f.from as u64);
+    low + 0x1_0000_0000 * (f.len as u64)
+}
+
+fn refused(why: Refusal) -> u64
+    ensures { λ r. ⌜ Tells r (refusalFields (numberOf why)) ⌝ }
+{
+    pack(Fields {
+        number: why.number(),
+        kind: STANDARD,
+        to: NONE,
+        from: NONE,
+        len: 0,
+    })
+}
+
+fn result(kind: u8, to: u8, from: u8, len: u32) -> u64
+    ensures { λ r. ⌜ Tells r (resultFields kind to from len) ⌝ }
+{
+    pack(Fields {
+        number: NONE,
+        kind,
+        to,
+        from,
+        len,
+    })
+}
+
+pub(crate) fn of_written(w: Written) -> u64
+    requires { ⌜ WriteShort (writtenMeans w) ⌝ }
+    ensures { λ r. ⌜ Tells r (writeFields (writtenMeans w)) ⌝ }
+{
+    match w {
+        Written::Length(n) => result(STANDARD, NONE, NONE, n as u32),
+        Written::Refused(why) => refused(why),
+    }
+}
+
+pub(crate) fn of_read(read: Read) -> u64
+    requires { ⌜ ReadShort (readMeans read) ⌝ }
+    ensures { λ r. ⌜ Tells r (readFields (readMeans read)) ⌝ }
+{
+    match read {
+        Read::Standard { len } => result(STANDARD, NONE, NONE, len as u32),
+        Read::Extended { to, from, len } => result(EXTENDED, to, from, len as u32),
+        Read::Refused(why) => refused(why),
+    }
+}
+
+pub(crate) fn of_outcome(outcome: Outcome) -> u64
+    ensures { λ r. ⌜ Tells r (leaseFields (outcomeMeans outcome)) ⌝ }
+{
+    match outcome {
+        Outcome::Done => result(STANDARD, NONE, NONE, 0),
+        Outcome::Refused(why) => refused(why),
+    }
+}
+
+pub(crate) fn of_told(told: Told) -> u64
+    requires { ⌜ Within 118 (toldMeans told) ⌝ }
+    ensures { λ r. ⌜ Tells r (lineFields (toldMeans told)) ⌝ }
+{
+    match told {
+        Told::Nothing => result(UNTOLD, NONE, NONE, 0),
+        Told::Refused(why) => refused(why),
+        Told::Standard { len } => of_read(Read::Standard { len }),
+        Told::Extended { to, from, len } => of_read(Read::Extended { to, from, len }),
+    }
+}

@@ -1,0 +1,5 @@
+pub mod Cases
+pub mod Splices
+pub mod Lists
+pub mod Tests
+pub mod Before

@@ -1,0 +1,62 @@
+use mathlib.Core.Path.{_≡_}
+use native.Mathlib.Omega.{arith}
+use lib.ListN.{length, drop}
+use Prim.Native.Nat.{_+_, _-_, _≤_}
+use Rattle.lists.specs.Choice.{within, countBefore}
+use Rattle.lists.proofs.Before.{marked, unmarked, before-here, before-more, before-end}
+use borrow.Author.Needs.{needs}
+use Rattle.lists.proofs.count_before.Statement.{statement}
+use Rattle.lists.proofs.count_before.Tie as tie
+
+abbrev Inv-loop : tie.InvT-loop
+Inv-loop s low high i₀ i = (i ≤ length s) × (countBefore (within low high) s ≡ i + countBefore (within low high) (drop i s))
+
+abbrev μ-loop : tie.MeasureT-loop
+μ-loop s low high i₀ i = length s - i
+
+blocks-before-requires : tie.Need-blocks-before-requires Inv-loop μ-loop
+blocks-before-requires c κs = search needs
+
+loop-holds : tie.Need-loop-holds Inv-loop μ-loop
+loop-holds c = (c .blocks-before .ensures .0, c .blocks-before .ensures .1)
+
+shared-slice-read-mark : tie.Need-shared-slice-read-mark Inv-loop μ-loop
+shared-slice-read-mark c = search needs
+
+mark-requires : tie.Need-mark-requires Inv-loop μ-loop
+mark-requires c κs = search needs
+
+returns : tie.Need-returns Inv-loop μ-loop
+returns c =
+    let l = c .before .before .before .before in
+    before-here _ _ (l .loop .i) (c .before .before .before .loop-test .taken) (marked _ _ (c .before .mark .ensures) (c .if1 .taken)) (l .loop .inv .1)
+
+add-i : tie.Need-add-i Inv-loop μ-loop
+add-i c = search needs
+
+loop-less : tie.Need-loop-less Inv-loop μ-loop
+loop-less c = omega arith
+
+loop-again : tie.Need-loop-again Inv-loop μ-loop
+loop-again c =
+    let l = c .before .before .before .before in
+    (search needs, before-more _ _ (l .loop .i) (c .before .before .before .loop-test .taken) (unmarked _ _ (c .before .mark .ensures) (c .if1 .left)) (l .loop .inv .1))
+
+returns-2 : tie.Need-returns-2 Inv-loop μ-loop
+returns-2 c = before-end _ _ (c .before .loop .i) (c .loop-test .left) (c .before .loop .inv .1)
+
+pub count-before-spec : {M : Type 1} → statement M
+count-before-spec =
+    tie.close
+    (tie.spec
+    Inv-loop
+    μ-loop
+    blocks-before-requires
+    loop-holds
+    shared-slice-read-mark
+    mark-requires
+    returns
+    add-i
+    loop-less
+    loop-again
+    returns-2)

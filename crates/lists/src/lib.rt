@@ -1,0 +1,72 @@
+// Definitions and laws on lists that the layers above share: a choice by a test, a test on every element, a list put into another
+// from an index on, the first element that passes a test, and a machine run on a list of calls.
+ghost use mathlib.Core.Path.{_≡_};
+ghost use Prim.Native.Nat.{_+_, _≤_};
+ghost use lib.Dec.{leb};
+ghost use lib.ListN.{length, drop};
+ghost use Rattle.lists.specs.Choice.{pick, within, noneOf, countBefore};
+
+// How many bytes are tested together.
+const BLOCK: usize = 32;
+
+// The lesser of two numbers.
+pub fn lesser(a: usize, b: usize) -> usize
+    ensures { λ r. ⌜ r ≡ pick (leb a b) a b ⌝ }
+{
+    if a <= b { a } else { b }
+}
+
+// 1 for a byte between two others, both included, else 0.
+pub fn mark(b: u8, low: u8, high: u8) -> u8
+    ensures { λ r. ⌜ r ≡ pick (within low high b) 1 0 ⌝ }
+{
+    if b < low {
+        return 0;
+    }
+    if high < b {
+        return 0;
+    }
+    1
+}
+
+// Whether no byte lies between two values, both included. The loop has no branch on the bytes.
+pub fn none_within(s: &[u8], low: u8, high: u8) -> bool
+    ensures { λ r. ⌜ r ≡ noneOf (within low high) (now (s .entry)) ⌝ }
+{
+    let mut seen: u8 = 0;
+    let mut i: usize = 0;
+    while i < s.len() {
+        seen = seen | mark(s[i], low, high);
+        i += 1;
+    }
+    seen == 0
+}
+
+// How many bytes stand before the first that lies between two values, both included. Whole blocks without one are passed over first,
+// because a block is tested without a branch for each byte.
+pub fn count_before(s: &[u8], low: u8, high: u8) -> usize
+    ensures { λ r. ⌜ r ≡ countBefore (within low high) (now (s .entry)) ⌝ }
+{
+    let mut i = blocks_before(s, low, high);
+    while i < s.len() {
+        if mark(s[i], low, high) == 1 {
+            return i;
+        }
+        i += 1;
+    }
+    i
+}
+
+fn blocks_before(s: &[u8], low: u8, high: u8) -> usize
+    ensures { λ r. ⌜ r ≤ length (now (s .entry)) ⌝ }
+    ensures { λ r. ⌜ countBefore (within low high) (now (s .entry)) ≡ r + countBefore (within low high) (drop r (now (s .entry))) ⌝ }
+{
+    let mut i: usize = 0;
+    while BLOCK <= s.len() - i {
+        if !none_within(&s[i..i + BLOCK], low, high) {
+            return i;
+        }
+        i += BLOCK;
+    }
+    i
+}

@@ -1,7 +1,0 @@
-pub mod Cases
-pub mod Splices
-pub mod Lists
-pub mod Tests
-pub mod Before
-pub mod Drafts
-pub mod Numbers

@@ -1,4 +1,0 @@
-pub mod Choice
-pub mod Splice
-pub mod Draft
-pub mod Number
