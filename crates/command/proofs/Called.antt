@@ -1,4 +1,4 @@
--- The two contracts that the proofs by hand over a command cursor cite, over the answer's type and what is said of it: a covered function's over contents and a place, and a function's over a cursor.
+-- The two contracts that the proofs by hand over a command cursor cite, over the answer's type and what is said of it: a covered function's over contents and an index, and a function's over a cursor.
 -- Each function's own contract is one of these; antt sees it by computing.
 use Prim.Native.Nat.{ℕ}
 use mathlib.Core.List.{List, [], _∷_}

@@ -9,103 +9,103 @@ use lib.ListN.{length, take, drop, length-append, length-drop, drop-of-length-le
 use lib.Seq.{take-take, drop-drop, length-take-le}
 use denote.Ref.{RefT, now}
 use Rattle.lists.specs.Choice.{pick}
-use Rattle.command.specs.Entries.{Entry, commands, bytesOf, wireOf, Parsed, unsound, sound, parse, found, nthOf, nthIn, Extent}
+use Rattle.command.specs.Entries.{Entry, commands, entryBytes, listBytes, Parsed, unsound, sound, parse, found, nthOf, nthIn, Extent}
 use Rattle.answer.specs.Answer.{Answer, result, refused}
 use Rattle.command.specs.Answers.{partOf}
 use Rattle.command.specs.Commands.{isWrapper, nthCommand, shifted, inside, nthInside}
-use Rattle.command.specs.Steps.{Within}
-use Rattle.command.specs.Walk.{commandAt, past, placeAfter, placeOf}
+use Rattle.command.specs.Private.{InContents}
+use Rattle.command.specs.Traversal.{commandAt, indexPast, indexAfter, indexOf}
 use Rattle.command.specs.declared.cursor.CommandCursor.{CommandCursor}
 use Rattle.command.proofs.CursorMoves.{nthFrom, one-past, next-from}
-use Rattle.command.proofs.Places.{within-command}
+use Rattle.command.proofs.Extents.{within-command}
 use Rattle.command.proofs.Sound.{sound-exactly}
 
 -- ---- the k-th step
 
-kth-from : (s : List ℕ) (k at : ℕ) → commandAt s (placeOf s k at) ≡ nthFrom s at k
-unfolding commandAt placeOf
+kth-from : (s : List ℕ) (k at : ℕ) → commandAt s (indexOf s k at) ≡ nthFrom s at k
+unfolding commandAt indexOf
 kth-from s zero at = refl
-kth-from s (suc k) at = kth-from s k (placeAfter s at) ∙ next-from s at k
+kth-from s (suc k) at = kth-from s k (indexAfter s at) ∙ next-from s at k
 
 -- After k moves a new cursor answers as the call with n = k does, for every contents and every k.
-pub kth-step : (s : List ℕ) (k : ℕ) → commandAt s (placeOf s k 0) ≡ nthCommand s k
+pub kth-step : (s : List ℕ) (k : ℕ) → commandAt s (indexOf s k 0) ≡ nthCommand s k
 unfolding nthCommand
 kth-step s k = kth-from s k 0
 
 -- Its data is that call's data.
-pub kth-data : (s : List ℕ) (k : ℕ) → partOf s (commandAt s (placeOf s k 0)) ≡ partOf s (nthCommand s k)
+pub kth-data : (s : List ℕ) (k : ℕ) → partOf s (commandAt s (indexOf s k 0)) ≡ partOf s (nthCommand s k)
 kth-data s k = ap (partOf s) (kth-step s k)
 
 -- ---- where the cursor stands
 
 place-from : (s : List ℕ) (at : ℕ) (before rest : List Entry) → parse commands (drop at s) 0 ≡ sound (before ++ rest)
-    → placeOf s (length before) at ≡ at + length (wireOf commands before)
-unfolding placeOf wireOf
+    → indexOf s (length before) at ≡ at + length (listBytes commands before)
+unfolding indexOf listBytes
 place-from s at [] rest h = sym (add-zero at)
 place-from s at (e ∷ before) rest h =
     let o = one-past s at e (before ++ rest) h in
-    place-from s (placeAfter s at) before rest (o .1) ∙ omega (arith, o .0, length-append (bytesOf commands e) (wireOf commands before))
+    place-from s (indexAfter s at) before rest (o .1) ∙ omega (arith, o .0, length-append (entryBytes commands e) (listBytes commands before))
 
 -- Moved past the first commands of a sound list, a new cursor stands after their bytes.
-pub kth-place : (s : List ℕ) (before rest : List Entry) → parse commands s 0 ≡ sound (before ++ rest) → placeOf s (length before) 0 ≡ length (wireOf commands before)
-kth-place s before rest h = place-from s 0 before rest h ∙ omega arith
+pub kth-index : (s : List ℕ) (before rest : List Entry) → parse commands s 0 ≡ sound (before ++ rest) → indexOf s (length before) 0 ≡ length (listBytes commands before)
+kth-index s before rest h = place-from s 0 before rest h ∙ omega arith
 
-moves-add : (s : List ℕ) (j k at : ℕ) → placeOf s (j + k) at ≡ placeOf s k (placeOf s j at)
-unfolding placeOf
-moves-add s zero k at = let z : 0 + k ≡ k = omega arith in ap (λ (n : ℕ). placeOf s n at) z
-moves-add s (suc j) k at = let z : suc j + k ≡ suc (j + k) = omega arith in ap (λ (n : ℕ). placeOf s n at) z ∙ moves-add s j k (placeAfter s at)
+moves-add : (s : List ℕ) (j k at : ℕ) → indexOf s (j + k) at ≡ indexOf s k (indexOf s j at)
+unfolding indexOf
+moves-add s zero k at = let z : 0 + k ≡ k = omega arith in ap (λ (n : ℕ). indexOf s n at) z
+moves-add s (suc j) k at = let z : suc j + k ≡ suc (j + k) = omega arith in ap (λ (n : ℕ). indexOf s n at) z ∙ moves-add s j k (indexAfter s at)
 
 -- Any row of cursors of which the first is as `new` ensures and each other as `advanced` ensures of the one before: the k-th answers as the call with n = k does.
 pub run-answers : (s : RefT (List ℕ)) (row : ℕ → CommandCursor) → (row 0 .contents ≡ s) × (row 0 .at ≡ 0)
-    → ((k : ℕ) → (row (suc k) .contents ≡ row k .contents) × (row (suc k) .at ≡ placeAfter (now (row k .contents)) (row k .at)))
+    → ((k : ℕ) → (row (suc k) .contents ≡ row k .contents) × (row (suc k) .at ≡ indexAfter (now (row k .contents)) (row k .at)))
     → (k : ℕ) → commandAt (now (row k .contents)) (row k .at) ≡ nthCommand (now s) k
-unfolding placeOf
+unfolding indexOf
 run-answers s row first next k = let r = stands k in ap (λ (c : RefT (List ℕ)). commandAt (now c) (row k .at)) (r .0) ∙ ap (commandAt (now s)) (r .1) ∙ kth-step (now s) k
   where
-    stands : (k : ℕ) → (row k .contents ≡ s) × (row k .at ≡ placeOf (now s) k 0)
+    stands : (k : ℕ) → (row k .contents ≡ s) × (row k .at ≡ indexOf (now s) k 0)
     stands zero = first
     stands (suc k) =
         let r = stands k in
         let one : suc k ≡ k + 1 = omega arith in (
           next k .0 ∙ r .0,
-          next k .1 ∙ ap (λ (c : RefT (List ℕ)). placeAfter (now c) (row k .at)) (r .0) ∙ ap (placeAfter (now s)) (r .1)
-              ∙ sym (ap (λ (n : ℕ). placeOf (now s) n 0) one ∙ moves-add (now s) k 1 0),
+          next k .1 ∙ ap (λ (c : RefT (List ℕ)). indexAfter (now c) (row k .at)) (r .0) ∙ ap (indexAfter (now s)) (r .1)
+              ∙ sym (ap (λ (n : ℕ). indexOf (now s) n 0) one ∙ moves-add (now s) k 1 0),
         )
 
 -- ---- refusals
 
 -- A cursor whose command is refused stays where it is, however often it is moved, and so it answers the same.
-pub refused-stays : (s : List ℕ) (at n : ℕ) → commandAt s at ≡ refused n → (k : ℕ) → placeOf s k at ≡ at
-unfolding placeOf placeAfter
+pub refused-stays : (s : List ℕ) (at n : ℕ) → commandAt s at ≡ refused n → (k : ℕ) → indexOf s k at ≡ at
+unfolding indexOf indexAfter
 refused-stays s at n h zero = refl
-refused-stays s at n h (suc k) = ap (λ (a : Answer Extent). placeOf s k (past at a)) h ∙ refused-stays s at n h k
+refused-stays s at n h (suc k) = ap (λ (a : Answer Extent). indexOf s k (indexPast at a)) h ∙ refused-stays s at n h k
 
--- A place at the end or past it has no command: 15.
+-- An index at the end or past it has no command: 15.
 pub none-past-end : (s : List ℕ) (at : ℕ) → length s ≤ at → commandAt s at ≡ refused 15
 unfolding commandAt nthIn nthOf parse
 none-past-end s at h = ap (λ (l : List ℕ). nthIn commands at (parse commands l 0) 0) (drop-of-length-le s h)
 
 -- Moved past the last command of a sound list, a new cursor stands at the end and answers 15, however often it is moved.
-pub end-always : (s : List ℕ) (es : List Entry) → parse commands s 0 ≡ sound es → (k : ℕ) → (placeOf s (length es + k) 0 ≡ length s) × (commandAt s (placeOf s (length es + k) 0) ≡ refused 15)
+pub end-always : (s : List ℕ) (es : List Entry) → parse commands s 0 ≡ sound es → (k : ℕ) → (indexOf s (length es + k) 0 ≡ length s) × (commandAt s (indexOf s (length es + k) 0) ≡ refused 15)
 end-always s es h k =
     let w = ap length (sound-exactly commands s es .0 h .0) in
-    let last = kth-place s es [] (h ∙ ap sound (sym (append-nil es))) ∙ w in
+    let last = kth-index s es [] (h ∙ ap sound (sym (append-nil es))) ∙ w in
     let none = none-past-end s (length s) (omega arith) in
-    let stands : placeOf s (length es + k) 0 ≡ length s = moves-add s (length es) k 0 ∙ ap (placeOf s k) last ∙ refused-stays s (length s) 15 none k in
+    let stands : indexOf s (length es + k) 0 ≡ length s = moves-add s (length es) k 0 ∙ ap (indexOf s k) last ∙ refused-stays s (length s) 15 none k in
     (stands, ap (commandAt s) stands ∙ none)
 
 -- On an unsound list a new cursor answers 7 and stays at the start, however often it is moved.
-pub unsound-always : (s : List ℕ) → parse commands s 0 ≡ unsound → (k : ℕ) → (placeOf s k 0 ≡ 0) × (commandAt s (placeOf s k 0) ≡ refused 7)
-unfolding nthCommand nthIn placeOf
+pub unsound-always : (s : List ℕ) → parse commands s 0 ≡ unsound → (k : ℕ) → (indexOf s k 0 ≡ 0) × (commandAt s (indexOf s k 0) ≡ refused 7)
+unfolding nthCommand nthIn indexOf
 unsound-always s h k =
-    let seven : (n : ℕ) → commandAt s (placeOf s n 0) ≡ refused 7 = λ n. kth-step s n ∙ ap (λ (p : Parsed). nthIn commands 0 p n) h in
+    let seven : (n : ℕ) → commandAt s (indexOf s n 0) ≡ refused 7 = λ n. kth-step s n ∙ ap (λ (p : Parsed). nthIn commands 0 p n) h in
     (refused-stays s 0 7 (seven 0) k, seven k)
 
 -- ---- in a wrapper
 
--- A new cursor on a wrapper's data answers as the call inside the wrapper does, with places that count from the data's start.
+-- A new cursor on a wrapper's data answers as the call inside the wrapper does, with indices that count from the data's start.
 pub kth-inside : (s : List ℕ) (w k b start len : ℕ) → nthCommand s w ≡ result (found b start len) → isWrapper b ≡ true
-    → nthInside s w k ≡ shifted start (commandAt (partOf s (nthCommand s w)) (placeOf (partOf s (nthCommand s w)) k 0))
+    → nthInside s w k ≡ shifted start (commandAt (partOf s (nthCommand s w)) (indexOf (partOf s (nthCommand s w)) k 0))
 unfolding nthInside inside
 kth-inside s w k b start len e y =
     let part = partOf s (nthCommand s w) in
@@ -120,7 +120,7 @@ part-of-part (suc at) l zero s h = absurd (omega arith)
 part-of-part (suc at) l (suc len) [] h = refl
 part-of-part (suc at) l (suc len) (x ∷ s) h = part-of-part at l len s (omega arith)
 
-part-shifted : (s : List ℕ) (start len : ℕ) → start + len ≤ length s → (part : List ℕ) → part ≡ take len (drop start s) → (a : Answer Extent) → Within part a → partOf part a ≡ partOf s (shifted start a)
+part-shifted : (s : List ℕ) (start len : ℕ) → start + len ≤ length s → (part : List ℕ) → part ≡ take len (drop start s) → (a : Answer Extent) → InContents part a → partOf part a ≡ partOf s (shifted start a)
 part-shifted s start len h part d (refused k) w = refl
 part-shifted s start len h part d (result (found b at l)) w =
     let n : length part ≡ len = ap length d ∙ length-take-le len (drop start s) (omega (arith, length-drop start s)) in
@@ -128,10 +128,10 @@ part-shifted s start len h part d (result (found b at l)) w =
 
 -- Its data is that call's data, the same part of the whole contents.
 pub kth-inside-data : (s : List ℕ) (w k b start len : ℕ) → nthCommand s w ≡ result (found b start len) → isWrapper b ≡ true
-    → partOf (partOf s (nthCommand s w)) (commandAt (partOf s (nthCommand s w)) (placeOf (partOf s (nthCommand s w)) k 0)) ≡ partOf s (nthInside s w k)
+    → partOf (partOf s (nthCommand s w)) (commandAt (partOf s (nthCommand s w)) (indexOf (partOf s (nthCommand s w)) k 0)) ≡ partOf s (nthInside s w k)
 kth-inside-data s w k b start len e y =
     let part = partOf s (nthCommand s w) in
-    let answer = commandAt part (placeOf part k 0) in
-    let fits : start + len ≤ length s = subst (Within s) e (within-command s w) in
-    part-shifted s start len fits part (ap (partOf s) e) answer (subst (Within part) (sym (kth-step part k)) (within-command part k))
+    let answer = commandAt part (indexOf part k 0) in
+    let fits : start + len ≤ length s = subst (InContents s) e (within-command s w) in
+    part-shifted s start len fits part (ap (partOf s) e) answer (subst (InContents part) (sym (kth-step part k)) (within-command part k))
     ∙ sym (ap (partOf s) (kth-inside s w k b start len e y))

@@ -12,10 +12,11 @@ use lib.Seq.{drop-cons, drop-drop, length-take-le, take-all, take-nil}
 use borrow.Author.Tests.{ltb-true, ltb-false, leb-true, leb-false}
 use Rattle.lists.specs.Choice.{pick}
 use Rattle.lists.proofs.Cases.{by-bool}
-use Rattle.command.specs.Entries.{Entry, entry, bytesOf, Parsed, unsound, sound, put, parse, parseCounted, headOf, found, nthOf, nthIn, Extent}
+use Rattle.command.specs.Entries.{Entry, entry, entryBytes, Parsed, unsound, sound, withEntry, parse, parseCounted, headOf, found, nthOf, nthIn, Extent}
 use Rattle.answer.specs.Answer.{Answer, result, refused, through}
 use Rattle.command.specs.Answers.{counted}
-use Rattle.command.specs.Steps.{cursor, stepAt, ifSound}
+use Rattle.command.specs.Steps.{cursor, stepAt}
+use Rattle.command.specs.Private.{ifSound}
 use Rattle.command.specs.declared.entries.Cursor.{Cursor}
 use Rattle.command.specs.declared.entries.Step.{Step}
 use Rattle.command.specs.declared.entries.Step.the-variants.{End, Broken, Entry as At}
@@ -37,15 +38,15 @@ skip-beyond limit (suc k) (x ∷ s) h = skip-beyond limit k s (omega arith)
 -- ---- a step
 
 -- what bytes are, where what stands at their front is known
-abbrev pub after : ℕ → List ℕ → Step → Parsed
-after limit s End = sound []
-after limit s Broken = unsound
-after limit s (At b start len next) = put (entry b (take len (drop start s))) (parse limit (drop (next .at) s) 0)
+abbrev pub parseAfter : ℕ → List ℕ → Step → Parsed
+parseAfter limit s End = sound []
+parseAfter limit s Broken = unsound
+parseAfter limit s (At b start len next) = withEntry (entry b (take len (drop start s))) (parse limit (drop (next .at) s) 0)
 
 counted-at : (limit b : ℕ) (s : List ℕ) (at : ℕ)
     → parseCounted limit (drop (at + 1) s) b
-    ≡ after limit s (pick (ltb (at + 1) (length s)) (pick (leb (getD s (at + 1) 0) (length s - (at + 2))) (At b (at + 2) (getD s (at + 1) 0) (cursor (at + 2 + getD s (at + 1) 0))) Broken) Broken)
-unfolding parse put
+    ≡ parseAfter limit s (pick (ltb (at + 1) (length s)) (pick (leb (getD s (at + 1) 0) (length s - (at + 2))) (At b (at + 2) (getD s (at + 1) 0) (cursor (at + 2 + getD s (at + 1) 0))) Broken) Broken)
+unfolding parse withEntry
 counted-at limit b s at =
     by-bool (ltb (at + 1) (length s))
     (λ y. let two : suc (at + 1) ≡ at + 2 = omega arith in
@@ -54,15 +55,15 @@ counted-at limit b s at =
     ap (λ (l : List ℕ). parseCounted limit l b) front
     ∙ by-bool (leb n (length s - (at + 2)))
     (λ z. let fits : n ≤ length (drop (at + 2) s) = omega (arith, length-drop (at + 2) s, leb-true n (length s - (at + 2)) z) in
-    ap (put (entry b (take n (drop (at + 2) s)))) (skip-within limit n (drop (at + 2) s) fits ∙ ap (λ (l : List ℕ). parse limit l 0) (drop-drop n (at + 2) s))
+    ap (withEntry (entry b (take n (drop (at + 2) s)))) (skip-within limit n (drop (at + 2) s) fits ∙ ap (λ (l : List ℕ). parse limit l 0) (drop-drop n (at + 2) s))
     ∙ sym (simp (y, z)))
     (λ z. let over : length (drop (at + 2) s) < n = omega (arith, length-drop (at + 2) s, leb-false n (length s - (at + 2)) z) in
-    ap (put (entry b (take n (drop (at + 2) s)))) (skip-beyond limit n (drop (at + 2) s) over) ∙ sym (simp (y, z))))
+    ap (withEntry (entry b (take n (drop (at + 2) s)))) (skip-beyond limit n (drop (at + 2) s) over) ∙ sym (simp (y, z))))
     (λ y. ap (λ (l : List ℕ). parseCounted limit l b) (drop-of-length-le s (ltb-false _ _ y)) ∙ sym (simp y))
 
 -- the bytes from an index on are what stands there, and then the bytes after it
-pub entry-step : (limit : ℕ) (s : List ℕ) (at : ℕ) → parse limit (drop at s) 0 ≡ after limit s (stepAt limit s at)
-unfolding parse put stepAt
+pub entry-step : (limit : ℕ) (s : List ℕ) (at : ℕ) → parse limit (drop at s) 0 ≡ parseAfter limit s (stepAt limit s at)
+unfolding parse withEntry stepAt
 entry-step limit s at =
     by-bool (ltb at (length s))
     (λ y. let b = getD s at 0 in
@@ -74,14 +75,14 @@ entry-step limit s at =
     (λ y. ap (λ (l : List ℕ). parse limit l 0) (drop-of-length-le s (ltb-false _ _ y)) ∙ sym (simp y))
 
 -- where the entry at an index stands
-pub record Stands (limit : ℕ) (s : List ℕ) (at b start len next : ℕ) : Type 0 where
+pub record EntryStands (limit : ℕ) (s : List ℕ) (at b start len next : ℕ) : Type 0 where
   pub head : start ≡ at + headOf limit b
   pub ends : next ≡ start + len
   pub fits : next ≤ length s
   pub bare : ltb b limit ≡ false → len ≡ 0
   pub past : at < start
 
-stands : (limit : ℕ) (s : List ℕ) (at b start len : ℕ) (next : Cursor) → stepAt limit s at ≡ At b start len next → Stands limit s at b start len (next .at)
+stands : (limit : ℕ) (s : List ℕ) (at b start len : ℕ) (next : Cursor) → stepAt limit s at ≡ At b start len next → EntryStands limit s at b start len (next .at)
 unfolding stepAt
 stands limit s at b start len next e =
     let c = getD s at 0 in
@@ -116,37 +117,37 @@ stands limit s at b start len next e =
 -- ---- what a call of the step and the match on it tell
 
 module _ (limit : ℕ) (s : List ℕ) (at : ℕ) {x : Step} (p : x ≡ stepAt limit s at) where
-  pub told : (y : Step) → x ≡ y → parse limit (drop at s) 0 ≡ after limit s y
-  told y q = entry-step limit s at ∙ ap (after limit s) (sym p ∙ q)
+  pub told : (y : Step) → x ≡ y → parse limit (drop at s) 0 ≡ parseAfter limit s y
+  told y q = entry-step limit s at ∙ ap (parseAfter limit s) (sym p ∙ q)
 
-  pub told-stands : (b start len : ℕ) (next : Cursor) → x ≡ At b start len next → Stands limit s at b start len (next .at)
+  pub told-stands : (b start len : ℕ) (next : Cursor) → x ≡ At b start len next → EntryStands limit s at b start len (next .at)
   told-stands b start len next q = stands limit s at b start len next (sym p ∙ q)
 
 -- ---- counting
 
 -- entries that were counted before
-abbrev pub plus : ℕ → Answer ℕ → Answer ℕ
-plus n a = through (λ (k : ℕ). n + k) a
+abbrev pub countedPlus : ℕ → Answer ℕ → Answer ℕ
+countedPlus n a = through (λ (k : ℕ). n + k) a
 
-pub plus-none : (a : Answer ℕ) → plus 0 a ≡ a
+pub plus-none : (a : Answer ℕ) → countedPlus 0 a ≡ a
 plus-none (refused k) = refl
 plus-none (result k) = ap result (omega arith)
 
-pub count-end : (n : ℕ) (p : Parsed) → p ≡ sound [] → result n ≡ plus n (counted p)
+pub count-end : (n : ℕ) (p : Parsed) → p ≡ sound [] → result n ≡ countedPlus n (counted p)
 unfolding counted
-count-end n p e = sym (ap (λ (x : Parsed). plus n (counted x)) e ∙ ap result (add-zero n))
+count-end n p e = sym (ap (λ (x : Parsed). countedPlus n (counted x)) e ∙ ap result (add-zero n))
 
-pub count-broken : (n : ℕ) (p : Parsed) → p ≡ unsound → refused 7 ≡ plus n (counted p)
+pub count-broken : (n : ℕ) (p : Parsed) → p ≡ unsound → refused 7 ≡ countedPlus n (counted p)
 unfolding counted
-count-broken n p e = sym (ap (λ (x : Parsed). plus n (counted x)) e)
+count-broken n p e = sym (ap (λ (x : Parsed). countedPlus n (counted x)) e)
 
-count-put : (n : ℕ) (e : Entry) (p : Parsed) → plus n (counted (put e p)) ≡ plus (n + 1) (counted p)
-unfolding counted put
+count-put : (n : ℕ) (e : Entry) (p : Parsed) → countedPlus n (counted (withEntry e p)) ≡ countedPlus (n + 1) (counted p)
+unfolding counted withEntry
 count-put n e unsound = refl
 count-put n e (sound es) = ap result (omega arith)
 
-pub count-more : (n : ℕ) (p : Parsed) (e : Entry) (q : Parsed) → p ≡ put e q → plus (n + 1) (counted q) ≡ plus n (counted p)
-count-more n p e q h = sym (ap (λ (x : Parsed). plus n (counted x)) h ∙ count-put n e q)
+pub count-more : (n : ℕ) (p : Parsed) (e : Entry) (q : Parsed) → p ≡ withEntry e q → countedPlus (n + 1) (counted q) ≡ countedPlus n (counted p)
+count-more n p e q h = sym (ap (λ (x : Parsed). countedPlus n (counted x)) h ∙ count-put n e q)
 
 pub sound-unsound : (p : Parsed) (a : Answer Extent) → counted p ≡ refused 7 → refused 7 ≡ ifSound p a
 unfolding counted ifSound
@@ -168,28 +169,28 @@ pub nth-broken : (limit at : ℕ) (p : Parsed) (n : ℕ) → p ≡ unsound → r
 unfolding nthIn
 nth-broken limit at p n e = sym (ap (λ (x : Parsed). nthIn limit at x n) e)
 
-module _ {limit : ℕ} {s : List ℕ} {at b start len next : ℕ} (t : Stands limit s at b start len next) where
+module _ {limit : ℕ} {s : List ℕ} {at b start len next : ℕ} (t : EntryStands limit s at b start len next) where
   data-length : length (take len (drop start s)) ≡ len
   data-length = length-take-le len (drop start s) (omega (arith, length-drop start s, t .fits, t .ends))
 
   -- an entry's bytes are as many as from its index to the next
-  width : at + length (bytesOf limit (entry b (take len (drop start s)))) ≡ next
-  unfolding bytesOf
+  width : at + length (entryBytes limit (entry b (take len (drop start s)))) ≡ next
+  unfolding entryBytes
   width =
       let l = data-length in
       by-bool (ltb b limit)
       (λ y. let h : start ≡ at + 2 = simp y at (t .head) in simp y (omega (arith, t .ends)))
       (λ y. let h : start ≡ at + 1 = simp y at (t .head) in let z : len ≡ 0 = t .bare y in simp y (omega (arith, t .ends)))
 
-  pub nth-found : (p q : Parsed) (n : ℕ) → p ≡ put (entry b (take len (drop start s))) q → n ≡ 0 → ifSound q (result (found b start len)) ≡ nthIn limit at p n
-  unfolding put nthIn nthOf ifSound
+  pub nth-found : (p q : Parsed) (n : ℕ) → p ≡ withEntry (entry b (take len (drop start s))) q → n ≡ 0 → ifSound q (result (found b start len)) ≡ nthIn limit at p n
+  unfolding withEntry nthIn nthOf ifSound
   nth-found p unsound n e z = sym (ap (λ (x : Parsed). nthIn limit at x n) e)
   nth-found p (sound es) n e z =
       ap (λ (x : ℕ). result (found b x len)) (t .head) ∙ ap (λ (x : ℕ). result (found b (at + headOf limit b) x)) (sym data-length)
       ∙ sym (ap (λ (x : Parsed). nthIn limit at x n) e ∙ ap (nthOf limit at (entry b (take len (drop start s)) ∷ es)) z)
 
-  pub nth-more : (p q : Parsed) (n : ℕ) → p ≡ put (entry b (take len (drop start s))) q → (n ≡ 0 → ⊥) → nthIn limit next q (n - 1) ≡ nthIn limit at p n
-  unfolding put nthIn nthOf
+  pub nth-more : (p q : Parsed) (n : ℕ) → p ≡ withEntry (entry b (take len (drop start s))) q → (n ≡ 0 → ⊥) → nthIn limit next q (n - 1) ≡ nthIn limit at p n
+  unfolding withEntry nthIn nthOf
   nth-more p unsound n e z = sym (ap (λ (x : Parsed). nthIn limit at x n) e)
   nth-more p (sound es) zero e z = absurd (z refl)
   nth-more p (sound es) (suc n) e z =

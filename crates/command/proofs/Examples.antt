@@ -1,10 +1,10 @@
 -- Lists that tell readings of document 01 apart, computed.
 use mathlib.Core.Path.{_≡_, refl}
 use mathlib.Core.List.{[], _∷_}
-use Rattle.command.specs.Entries.{bytesOf, put, parse, found, nthOf, nthIn}
+use Rattle.command.specs.Entries.{entryBytes, withEntry, parse, found, nthOf, nthIn}
 use Rattle.answer.specs.Answer.{result, refused}
 use Rattle.command.specs.Commands.{nthCommand, inside, nthInside}
-use Rattle.command.specs.Walk.{commandAt, placeAfter, placeOf}
+use Rattle.command.specs.Traversal.{commandAt, indexAfter, indexOf}
 
 pub examples :
     -- an empty list is sound, and so is an empty wrapper
@@ -25,25 +25,25 @@ pub examples :
     -- a count that leaves its list
     × (nthCommand (0x76 ∷ 0x02 ∷ 0x13 ∷ 0x02 ∷ 0x01 ∷ 0x02 ∷ []) 0 ≡ refused 7)
     × (nthInside (0x76 ∷ 0x02 ∷ 0x13 ∷ 0x02 ∷ 0x80 ∷ 0x80 ∷ []) 0 0 ≡ refused 7)
-unfolding bytesOf put parse nthOf nthIn nthCommand inside nthInside
+unfolding entryBytes withEntry parse nthOf nthIn nthCommand inside nthInside
 examples = (refl, refl, refl, refl, refl, refl, refl, refl, refl, refl, refl, refl)
 
 -- the same of a command cursor
 pub cursor-examples :
     -- a short command, a wrapper, and then the end, where it stays
     (commandAt (0x80 ∷ 0x76 ∷ 0x02 ∷ 0x13 ∷ 0x00 ∷ []) 0 ≡ result (found 0x80 1 0))
-    × (placeAfter (0x80 ∷ 0x76 ∷ 0x02 ∷ 0x13 ∷ 0x00 ∷ []) 0 ≡ 1)
+    × (indexAfter (0x80 ∷ 0x76 ∷ 0x02 ∷ 0x13 ∷ 0x00 ∷ []) 0 ≡ 1)
     × (commandAt (0x80 ∷ 0x76 ∷ 0x02 ∷ 0x13 ∷ 0x00 ∷ []) 1 ≡ result (found 0x76 3 2))
-    × (placeOf (0x80 ∷ 0x76 ∷ 0x02 ∷ 0x13 ∷ 0x00 ∷ []) 2 0 ≡ 5)
+    × (indexOf (0x80 ∷ 0x76 ∷ 0x02 ∷ 0x13 ∷ 0x00 ∷ []) 2 0 ≡ 5)
     × (commandAt (0x80 ∷ 0x76 ∷ 0x02 ∷ 0x13 ∷ 0x00 ∷ []) 5 ≡ refused 15)
-    × (placeOf (0x80 ∷ 0x76 ∷ 0x02 ∷ 0x13 ∷ 0x00 ∷ []) 4 0 ≡ 5)
+    × (indexOf (0x80 ∷ 0x76 ∷ 0x02 ∷ 0x13 ∷ 0x00 ∷ []) 4 0 ≡ 5)
     -- on the wrapper's data
     × (commandAt (0x13 ∷ 0x00 ∷ []) 0 ≡ result (found 0x13 2 0))
     -- on an unsound list it answers 7 from the first step on, and stays
     × (commandAt (0x80 ∷ 0x20 ∷ 0x05 ∷ []) 0 ≡ refused 7)
-    × (placeOf (0x80 ∷ 0x20 ∷ 0x05 ∷ []) 3 0 ≡ 0)
-    -- a place past the end
+    × (indexOf (0x80 ∷ 0x20 ∷ 0x05 ∷ []) 3 0 ≡ 0)
+    -- an index past the end
     × (commandAt (0x80 ∷ []) 9 ≡ refused 15)
-    × (placeAfter (0x80 ∷ []) 9 ≡ 9)
-unfolding bytesOf put parse nthOf nthIn commandAt placeAfter placeOf
+    × (indexAfter (0x80 ∷ []) 9 ≡ 9)
+unfolding entryBytes withEntry parse nthOf nthIn commandAt indexAfter indexOf
 cursor-examples = (refl, refl, refl, refl, refl, refl, refl, refl, refl, refl, refl)

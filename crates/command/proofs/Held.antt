@@ -1,4 +1,4 @@
--- What the proofs by hand over a command cursor share: the struct's type and values, a cursor taken apart for a covered function, and one made of a slice and a place.
+-- What the proofs by hand over a command cursor share: the struct's type and values, a cursor taken apart for a covered function, and one made of a slice and an index.
 -- A `&[u8]` and the struct are Copy: what they own is had twice, and one of the two is kept whole for the exit.
 use mathlib.Core.Path.{_≡_, refl}
 use Prim.Native.Nat.{ℕ, _<_, _^_}
@@ -53,7 +53,7 @@ parts κ d = (d .contents, (d .at, tt))
 abbrev pub Own : Lft → CommandCursor → Fml
 Own κ d = B (κ, tt) .own d (mach d ∷ [])
 
--- the machine value of a slice, and those that a covered function over a slice and a place is passed
+-- the machine value of a slice, and those that a covered function over a slice and an index is passed
 abbrev pub slice : RefT (List ℕ) → Val
 slice s = sliceVal (s .ptr) (length (s .now))
 

@@ -1,7 +1,7 @@
 pub mod EntryLaws
 pub mod Sound
-pub mod Places
-pub mod WalkLaws
+pub mod Extents
+pub mod InnerLaws
 pub mod Called
 pub mod CursorMoves
 pub mod CursorSteps

@@ -1,4 +1,4 @@
--- The functions that take a command cursor apart and call a covered function with its contents and its place have one proof by hand: it is over the answer's type and what the callee says of it.
+-- The functions that take a command cursor apart and call a covered function with its contents and its index have one proof by hand: it is over the answer's type and what the callee says of it.
 -- Their MIR is written here once; that each function's own is this, antt sees by computing.
 use mathlib.Core.Path.{refl}
 use Prim.Native.Nat.{ℕ}

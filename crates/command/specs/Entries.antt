@@ -24,30 +24,30 @@ abbrev pub items : ℕ
 items = 0x100
 
 -- The bytes of an entry: its byte, its count where it has one, its data.
-unfoldable pub bytesOf : ℕ → Entry → List ℕ
-bytesOf limit e = pick (ltb (e .byte) limit) (e .byte ∷ length (e .body) ∷ e .body) (e .byte ∷ [])
+unfoldable pub entryBytes : ℕ → Entry → List ℕ
+entryBytes limit e = pick (ltb (e .byte) limit) (e .byte ∷ length (e .body) ∷ e .body) (e .byte ∷ [])
 
 -- The bytes of entries, one after the other.
-unfoldable pub wireOf : ℕ → List Entry → List ℕ
-wireOf limit [] = []
-wireOf limit (e ∷ es) = bytesOf limit e ++ wireOf limit es
+unfoldable pub listBytes : ℕ → List Entry → List ℕ
+listBytes limit [] = []
+listBytes limit (e ∷ es) = entryBytes limit e ++ listBytes limit es
 
 -- An entry without a count has no data.
-abbrev pub Formed : ℕ → Entry → Type 0
-Formed limit e = limit ≤ e .byte → e .body ≡ []
+abbrev pub WellFormed : ℕ → Entry → Type 0
+WellFormed limit e = limit ≤ e .byte → e .body ≡ []
 
-unfoldable pub AllFormed : ℕ → List Entry → Type 0
-AllFormed limit [] = Unit {0}
-AllFormed limit (e ∷ es) = Formed limit e × AllFormed limit es
+unfoldable pub AllWellFormed : ℕ → List Entry → Type 0
+AllWellFormed limit [] = Unit {0}
+AllWellFormed limit (e ∷ es) = WellFormed limit e × AllWellFormed limit es
 
 -- What bytes are as a list of entries: unsound where a count is missing or goes beyond the end.
 pub data Parsed : Type 0 where
   unsound : Parsed
   sound : List Entry → Parsed
 
-unfoldable pub put : Entry → Parsed → Parsed
-put e unsound = unsound
-put e (sound es) = sound (e ∷ es)
+unfoldable pub withEntry : Entry → Parsed → Parsed
+withEntry e unsound = unsound
+withEntry e (sound es) = sound (e ∷ es)
 
 -- The entries of bytes, of which `skip` data bytes of the entry before are still to be passed.
 unfoldable mutual
@@ -55,14 +55,14 @@ unfoldable mutual
   parse limit [] zero = sound []
   parse limit [] (suc k) = unsound
   parse limit (x ∷ xs) (suc k) = parse limit xs k
-  parse limit (b ∷ xs) zero = pick (ltb b limit) (parseCounted limit xs b) (put (entry b []) (parse limit xs zero))
+  parse limit (b ∷ xs) zero = pick (ltb b limit) (parseCounted limit xs b) (withEntry (entry b []) (parse limit xs zero))
 
   -- the same where the byte b comes before, and is followed by a count
   pub parseCounted : (limit : ℕ) → List ℕ → (b : ℕ) → Parsed
   parseCounted limit [] b = unsound
-  parseCounted limit (n ∷ xs) b = put (entry b (take n xs)) (parse limit xs n)
+  parseCounted limit (n ∷ xs) b = withEntry (entry b (take n xs)) (parse limit xs n)
 
--- ---- the n-th entry and its place
+-- ---- the n-th entry and its index
 
 -- How many bytes stand before an entry's data: its byte, and its count where it has one.
 abbrev pub headOf : ℕ → ℕ → ℕ
@@ -76,7 +76,7 @@ pub data Extent : Type 0 where
 unfoldable pub nthOf : (limit at : ℕ) → List Entry → ℕ → Answer Extent
 nthOf limit at [] n = refused 15
 nthOf limit at (e ∷ es) zero = result (found (e .byte) (at + headOf limit (e .byte)) (length (e .body)))
-nthOf limit at (e ∷ es) (suc n) = nthOf limit (at + length (bytesOf limit e)) es n
+nthOf limit at (e ∷ es) (suc n) = nthOf limit (at + length (entryBytes limit e)) es n
 
 -- All counts first (7), then whether there is an n-th (15).
 unfoldable pub nthIn : (limit at : ℕ) → Parsed → ℕ → Answer Extent

@@ -2,4 +2,5 @@ pub mod Entries
 pub mod Answers
 pub mod Commands
 pub mod Steps
-pub mod Walk
+pub mod Traversal
+pub mod Private

@@ -1,4 +1,4 @@
--- What the cursor's step and the private functions answer.
+-- The entry at an index: what one step of a cursor answers.
 use Prim.Native.Nat.{ℕ, _+_, _-_, _≤_, _<_, _^_}
 use mathlib.Core.List.{List}
 use lib.Dec.{leb, ltb}
@@ -23,18 +23,3 @@ stepAt limit s at =
     Broken)
     (Entry (getD s at 0) (at + 1) 0 (cursor (at + 1))))
     End
-
--- An answer, where what follows is sound.
-unfoldable pub ifSound : Parsed → Answer Extent → Answer Extent
-ifSound unsound a = refused 7
-ifSound (sound es) a = a
-
--- What an answer names stands within the contents.
-abbrev pub Within : List ℕ → Answer Extent → Type 0
-Within s (result (found b start len)) = start + len ≤ length s
-Within s (refused n) = Unit {0}
-
--- A place further on by a number is still a usize.
-abbrev pub Fits : ℕ → Answer Extent → Type 0
-Fits by (result (found b start len)) = by + start < 2 ^ 64
-Fits by (refused n) = Unit {0}

@@ -1,20 +1,20 @@
 // A cursor that stays on one frame's contents from command to command: document 01's walker.
-// The borrow checker covers no function that has one, so each takes it apart and calls a covered function of `walk`.
+// The borrow checker covers no function that has one, so each takes it apart and calls a covered function of `traversal`.
 use crate::entries::Found;
-use crate::walk;
+use crate::traversal;
 ghost use mathlib.Core.Path.{_≡_};
 ghost use Rattle.command.specs.Answers.{foundMeans, partOf};
 ghost use Rattle.command.specs.Commands.{nthCommand};
-ghost use Rattle.command.specs.Walk.{commandAt, placeAfter};
+ghost use Rattle.command.specs.Traversal.{commandAt, indexAfter};
 
-// A list of commands, a frame's contents or a wrapper's data, and a place in it. Every place has an answer.
+// A list of commands, a frame's contents or a wrapper's data, and an index in it. Every index has an answer.
 pub struct CommandCursor<'a> {
     pub contents: &'a [u8],
     pub at: usize,
 }
 
-// What one step tells: the command at a place, and the place after it, or the same place where the command is refused.
-pub struct Stepped {
+// What one step tells: the command at an index, and the index after it, or the same index where the command is refused.
+pub struct CursorStep {
     pub found: Found,
     pub next: usize,
 }
@@ -27,25 +27,25 @@ impl<'a> CommandCursor<'a> {
         CommandCursor { contents, at: 0 }
     }
 
-    // The command at its place. The counts from there on are checked first. Refusals 7 and 15.
+    // The command at its index. The counts from there on are checked first. Refusals 7 and 15.
     pub fn command(self) -> Found
         ensures { λ r. ⌜ foundMeans r ≡ commandAt (now (self .entry .contents)) (self .entry .at) ⌝ }
     {
-        walk::command_at(self.contents, self.at)
+        traversal::command_at(self.contents, self.at)
     }
 
     // Its data, a part of the contents; empty where `command` refuses.
     pub fn data(self) -> &'a [u8]
         ensures { λ r. ⌜ now r ≡ partOf (now (self .entry .contents)) (commandAt (now (self .entry .contents)) (self .entry .at)) ⌝ }
     {
-        walk::data_at(self.contents, self.at)
+        traversal::data_at(self.contents, self.at)
     }
 
     // The cursor moved to the next command; unmoved where `command` refuses.
     pub fn advanced(self) -> CommandCursor<'a>
-        ensures { λ r. ⌜ (r .contents ≡ self .entry .contents) × (r .at ≡ placeAfter (now (self .entry .contents)) (self .entry .at)) ⌝ }
+        ensures { λ r. ⌜ (r .contents ≡ self .entry .contents) × (r .at ≡ indexAfter (now (self .entry .contents)) (self .entry .at)) ⌝ }
     {
-        let at = walk::place_after(self.contents, self.at);
+        let at = traversal::index_after(self.contents, self.at);
         CommandCursor {
             contents: self.contents,
             at,
@@ -53,14 +53,14 @@ impl<'a> CommandCursor<'a> {
     }
 }
 
-// One step of a cursor, for callers that hold the contents and a place: they need no proof by hand.
-pub fn step_from(contents: &[u8], at: usize) -> Stepped
-    ensures { λ r. ⌜ (foundMeans (r .found) ≡ commandAt (now (contents .entry)) at) × (r .next ≡ placeAfter (now (contents .entry)) at) ⌝ }
+// One step of a cursor, for callers that hold the contents and an index: they need no proof by hand.
+pub fn step_from(contents: &[u8], at: usize) -> CursorStep
+    ensures { λ r. ⌜ (foundMeans (r .found) ≡ commandAt (now (contents .entry)) at) × (r .next ≡ indexAfter (now (contents .entry)) at) ⌝ }
 {
     let here = CommandCursor { contents, at };
     let found = CommandCursor::command(here);
     let there = CommandCursor::advanced(here);
-    Stepped {
+    CursorStep {
         found,
         next: there.at,
     }

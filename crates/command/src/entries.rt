@@ -4,9 +4,10 @@ ghost use mathlib.Core.Path.{_≡_};
 ghost use lib.ListN.{take, drop};
 ghost use Rattle.command.specs.Entries.{parse, nthIn, found};
 ghost use Rattle.command.specs.Answers.{foundMeans, countedMeans, partOf, counted};
-ghost use Rattle.command.specs.Steps.{stepAt, ifSound};
+ghost use Rattle.command.specs.Steps.{stepAt};
+ghost use Rattle.command.specs.Private.{ifSound};
 
-// A place in contents, between two entries.
+// An index in contents, between two entries.
 pub struct Cursor {
     pub at: usize,
 }

@@ -2,7 +2,7 @@
 // Document 01, "Commands and replies".
 pub mod cursor;
 pub mod entries;
-pub mod walk;
+pub mod traversal;
 
 use answer::Refusal;
 use entries::Cursor;
@@ -14,7 +14,7 @@ ghost use Rattle.answer.specs.Answer.{result};
 ghost use Rattle.command.specs.Entries.{found};
 ghost use Rattle.command.specs.Answers.{foundMeans, partOf};
 ghost use Rattle.command.specs.Commands.{isWrapper, nthCommand, shifted, inside, nthInside};
-ghost use Rattle.command.specs.Steps.{Fits};
+ghost use Rattle.command.specs.Private.{IndexFits};
 
 // Command bytes below this have a count.
 const COUNTED: usize = 0x80;
@@ -91,7 +91,7 @@ fn inner(contents: &[u8], byte: u8, start: usize, len: usize, n: usize) -> Found
 
 // An answer about a part that starts at an index of the whole, as one about the whole.
 fn shift(by: usize, found: Found) -> Found
-    requires { ⌜ Fits by (foundMeans found) ⌝ }
+    requires { ⌜ IndexFits by (foundMeans found) ⌝ }
     ensures { λ r. ⌜ foundMeans r ≡ shifted by (foundMeans found) ⌝ }
 {
     match found {

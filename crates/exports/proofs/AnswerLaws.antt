@@ -18,9 +18,9 @@ use Rattle.workout.specs.Workout.{Programmed, withinLimits}
 use Rattle.workout.specs.Answers.{workoutDraft}
 use Rattle.workout.proofs.WriteLaws.{contents-length}
 use Rattle.lease.specs.Lease.{stop, inRange, owns, stopFrame, answerOf, lentAnswer, tableOf}
-use Rattle.lease.specs.Answers.{told}
+use Rattle.lease.specs.Answers.{writtenLength}
 use Rattle.lease.proofs.LeaseLaws.{stop-short}
-use Rattle.exports.specs.Answers.{WriteShort, ReadShort}
+use Rattle.exports.specs.Private.{WriteShort, ReadShort}
 
 -- a draft's length has room
 abbrev DraftShort : Draft → Type 0
@@ -42,7 +42,7 @@ unfolding workoutDraft
 workout-short limits w room =
     draft-short (workoutDraft limits w) room (by-bool (withinLimits limits w) (λ y. simp y (omega (arith, contents-length w))) (λ y. simp y tt))
 
-token-fits : (a t room held : ℕ) → WriteShort (told (answerOf (stop a t room) held))
+token-fits : (a t room held : ℕ) → WriteShort (writtenLength (answerOf (stop a t room) held))
 unfolding answerOf
 token-fits a t room held =
     by-bool (inRange a)
@@ -51,7 +51,7 @@ token-fits a t room held =
     (λ o. simp (r, o) tt))
     (λ r. simp r tt)
 
-pub stop-fits : (a t room : ℕ) (s : List ℕ) → WriteShort (told (lentAnswer (stop a t room) s))
+pub stop-fits : (a t room : ℕ) (s : List ℕ) → WriteShort (writtenLength (lentAnswer (stop a t room) s))
 unfolding lentAnswer
 stop-fits a t room s = by-bool (eqb (length s) 2048) (λ y. simp y (token-fits a t room (getD (tableOf s) a 0))) (λ y. simp y tt)
 

@@ -4,7 +4,7 @@ use mathlib.Core.Path.{_≡_, sym, ap, _∙_, subst}
 use mathlib.Core.List.{List, []}
 use native.Mathlib.Omega.{arith}
 use Rattle.line.specs.Outcome.{Summary, toldMeans}
-use Rattle.line.specs.Within.{Within}
+use Rattle.line.specs.Within.{ContentsFit}
 use Rattle.line.specs.Reader.{reader, finishOf, Moves}
 use Rattle.line.specs.Feed.{Feeding, feedOf, Feeds}
 use Rattle.line.specs.declared.LineReader.{LineReader}
@@ -25,8 +25,8 @@ module _ (bytes input left : List ℕ) (len : ℕ) (mode : Mode) (f : Fed) (feed
       (feed-len (2 ^ 62) (omega arith) (reader bytes len mode) input (omega (arith, h, e)))
 
   -- the contents that are told have room in the answer
-  pub fed-within : Within 118 (toldMeans (f .told))
-  fed-within = subst (Within 118) (sym (feeds .told-is)) (feed-within (reader bytes len mode) input)
+  pub fed-within : ContentsFit 118 (toldMeans (f .told))
+  fed-within = subst (ContentsFit 118) (sym (feeds .told-is)) (feed-within (reader bytes len mode) input)
 
   pub fed-as : (answer state₀ state : ℕ) → len ≡ state₀ / 4 → mode ≡ modeOf (state₀ % 4) → state ≡ stateOf (f .len) (f .mode) → Tells answer (lineFields (toldMeans (f .told)))
       → FedAs answer left state (f .taken) (fedTo bytes state₀ input)
@@ -43,8 +43,8 @@ module _ (mode : Mode) (m : Moved) (moves : (bytes : List ℕ) (len : ℕ) → M
   pub finish-len : m .len ≡ 0
   finish-len = ap (λ (u : LineReader). u .len) (moves [] 0 .next-is)
 
-  pub finish-within : Within 118 (toldMeans (m .told))
-  finish-within = subst (Within 118) (sym (moves [] 0 .told-is)) (truncated-within mode)
+  pub finish-within : ContentsFit 118 (toldMeans (m .told))
+  finish-within = subst (ContentsFit 118) (sym (moves [] 0 .told-is)) (truncated-within mode)
 
   pub finished-as : (answer state₀ state : ℕ) → mode ≡ modeOf (state₀ % 4) → state ≡ stateOf (m .len) (m .mode) → Tells answer (lineFields (toldMeans (m .told)))
       → (bytes : List ℕ) → FinishedAs answer state (finished bytes state₀)

@@ -3,7 +3,7 @@ use Prim.Native.Nat.{ℕ, _+_, _*_, _/_, _%_, _^_, _<_}
 use mathlib.Core.Path.{_≡_, refl, sym, ap, _∙_}
 use native.Mathlib.Nat.{zero-add, add-mul-div-left, div-eq-of-lt, div-div-eq-div-mul}
 use native.Mathlib.Omega.{arith}
-use Rattle.exports.specs.Packed.{Fields, packed, unpacked, Fits, Tells}
+use Rattle.exports.specs.Packed.{Fields, packed, unpacked, FieldsFit, Tells}
 
 -- what stands above the low digits
 top : (k low high : ℕ) → low < k → (low + k * high) / k ≡ high
@@ -25,7 +25,7 @@ module _ (a b t d e : ℕ) where
   split₃ = omega arith
 
 -- Fields that have room are told by their number.
-pub packed-tells : (f : Fields) → Fits f → unpacked (packed f) ≡ f
+pub packed-tells : (f : Fields) → FieldsFit f → unpacked (packed f) ≡ f
 unfolding packed unpacked
 packed-tells f h =
     let a = f .number in
@@ -55,5 +55,5 @@ unpacked-packs n =
         → n % 2 ^ 8 + 2 ^ 8 * (a % 2 ^ 8) + 2 ^ 16 * (b % 2 ^ 8) + 2 ^ 24 * (d % 2 ^ 8) + 2 ^ 32 * e ≡ n
     digits n a b d e p q r s = omega (arith, p, q, r, s)
 
-pub tells : (f : Fields) → Fits f → Tells (packed f) f
+pub tells : (f : Fields) → FieldsFit f → Tells (packed f) f
 tells f h = record { packs = refl; unpacks = packed-tells f h }

@@ -28,14 +28,3 @@ readFields (refused n) = refusalFields n
 abbrev pub leaseFields : Answer (List ℕ) → Fields
 leaseFields (result w) = resultFields 0 0 0 (length w)
 leaseFields (refused n) = refusalFields n
-
--- ---- lengths that have room in 32 bits, as those of every answer do
-
-abbrev pub WriteShort : Answer ℕ → Type 0
-WriteShort (result n) = n < 2 ^ 32
-WriteShort (refused n) = Unit {0}
-
-abbrev pub ReadShort : Answer FrameOutline → Type 0
-ReadShort (result (standardOutline n)) = n < 2 ^ 32
-ReadShort (result (extendedOutline to from n)) = n < 2 ^ 32
-ReadShort (refused n) = Unit {0}

@@ -1,4 +1,5 @@
 pub mod Packed
 pub mod Answers
+pub mod Private
 pub mod LineState
 pub mod LineAnswers

@@ -20,7 +20,7 @@ unfoldable pub unpacked : ℕ → Fields
 unpacked n = record { number = n % 2 ^ 8; kind = n / 2 ^ 8 % 2 ^ 8; to = n / 2 ^ 16 % 2 ^ 8; from = n / 2 ^ 24 % 2 ^ 8; len = n / 2 ^ 32 }
 
 -- Every field has room in its bits.
-pub record Fits (f : Fields) : Type 0 where
+pub record FieldsFit (f : Fields) : Type 0 where
   pub number : f .number < 2 ^ 8
   pub kind : f .kind < 2 ^ 8
   pub to : f .to < 2 ^ 8

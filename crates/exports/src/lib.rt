@@ -20,7 +20,7 @@ ghost use Rattle.workout.specs.Limits.{pm3Limits};
 ghost use Rattle.workout.specs.Workout.{distance, time};
 ghost use Rattle.workout.specs.Answers.{workoutDraft};
 ghost use Rattle.lease.specs.Lease.{hold, release, stop, lentAnswer, lentAfter};
-ghost use Rattle.lease.specs.Answers.{told, outAfter};
+ghost use Rattle.lease.specs.Answers.{writtenLength, outAfter};
 ghost use Rattle.exports.specs.Packed.{Tells};
 ghost use Rattle.exports.specs.Answers.{writeFields, readFields, leaseFields};
 ghost use Rattle.exports.specs.LineAnswers.{fedTo, finished, FedAs, FinishedAs};
@@ -151,7 +151,7 @@ pub extern "C" fn csafe_release(table: &mut [u8], address: u32, token: u64) -> u
 // Writes the stop frame for the holder. Refusals 18, 9, 11 and 1.
 #[no_mangle]
 pub extern "C" fn csafe_stop(table: &[u8], address: u32, token: u64, out: &mut [u8]) -> u64
-    ensures { λ r. ⌜ Tells r (writeFields (told (lentAnswer (stop address token (length (now (out .entry)))) (now (table .entry))))) ⌝ }
+    ensures { λ r. ⌜ Tells r (writeFields (writtenLength (lentAnswer (stop address token (length (now (out .entry)))) (now (table .entry))))) ⌝ }
     ensures { λ r. ⌜ now (out .exit) ≡ outAfter (lentAnswer (stop address token (length (now (out .entry)))) (now (table .entry))) (now (out .entry)) ⌝ }
 {
     let written = lease::stop_lent(table, address, token, out);

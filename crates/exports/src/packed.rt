@@ -2,17 +2,18 @@
 use answer::Refusal;
 use answer::Written;
 use frame::Read;
-use lease::Outcome;
+use lease::LeaseAnswer;
 use line::Told;
 ghost use mathlib.Core.Path.{_≡_};
 ghost use Rattle.answer.specs.Refusals.{numberOf};
 ghost use Rattle.answer.specs.Draft.{writtenMeans};
 ghost use Rattle.frame.specs.Answers.{readMeans};
-ghost use Rattle.lease.specs.Answers.{outcomeMeans};
+ghost use Rattle.lease.specs.Answers.{leaseMeans};
 ghost use Rattle.line.specs.Outcome.{toldMeans};
-ghost use Rattle.line.specs.Within.{Within};
+ghost use Rattle.line.specs.Within.{ContentsFit};
 ghost use Rattle.exports.specs.Packed.{Fields, Tells};
-ghost use Rattle.exports.specs.Answers.{refusalFields, resultFields, writeFields, readFields, leaseFields, WriteShort, ReadShort};
+ghost use Rattle.exports.specs.Answers.{refusalFields, resultFields, writeFields, readFields, leaseFields};
+ghost use Rattle.exports.specs.Private.{WriteShort, ReadShort};
 ghost use Rattle.exports.specs.LineAnswers.{lineFields};
 
 // The kinds of frame.
@@ -90,17 +91,17 @@ pub(crate) fn of_read(read: Read) -> u64
     }
 }
 
-pub(crate) fn of_outcome(outcome: Outcome) -> u64
-    ensures { λ r. ⌜ Tells r (leaseFields (outcomeMeans outcome)) ⌝ }
+pub(crate) fn of_outcome(outcome: LeaseAnswer) -> u64
+    ensures { λ r. ⌜ Tells r (leaseFields (leaseMeans outcome)) ⌝ }
 {
     match outcome {
-        Outcome::Done => result(STANDARD, NONE, NONE, 0),
-        Outcome::Refused(why) => refused(why),
+        LeaseAnswer::Done => result(STANDARD, NONE, NONE, 0),
+        LeaseAnswer::Refused(why) => refused(why),
     }
 }
 
 pub(crate) fn of_told(told: Told) -> u64
-    requires { ⌜ Within 118 (toldMeans told) ⌝ }
+    requires { ⌜ ContentsFit 118 (toldMeans told) ⌝ }
     ensures { λ r. ⌜ Tells r (lineFields (toldMeans told)) ⌝ }
 {
     match told {

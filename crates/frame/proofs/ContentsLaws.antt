@@ -19,7 +19,7 @@ use Rattle.lists.proofs.Lists.{back-in}
 use Rattle.frame.specs.Checksum.{checksum}
 use Rattle.frame.specs.Frame.{Frame, contentsOf, standard, extended}
 use Rattle.frame.specs.Answers.{leftIn, judgeAnswer, frameRead}
-use Rattle.frame.specs.Steps.{frameOf, bytesOf, SoundAt}
+use Rattle.frame.specs.Private.{frameOf, unstuffedBytes, SoundAt}
 use Rattle.frame.specs.declared.Kind.{Kind}
 use Rattle.frame.specs.declared.Header.{Header}
 use Rattle.frame.proofs.VerdictLaws.{contents-of}
@@ -27,16 +27,16 @@ use Rattle.frame.proofs.VerdictLaws.{contents-of}
 -- ---- the stuffed contents and checksum of a sound body
 
 module _ {kind : Kind} {body : List ℕ} {header : Header} {start len : ℕ} (s : SoundAt kind body header start len) where
-  pub rest-length : length (bytesOf (unstuff false (drop start body))) ≡ len + 1
-  unfolding bytesOf
-  rest-length = ap (λ (r : _). length (bytesOf r)) (s .follows) ∙ length-append (s .contents) (checksum (s .contents) ∷ []) ∙ omega (arith, s .counted)
+  pub rest-length : length (unstuffedBytes (unstuff false (drop start body))) ≡ len + 1
+  unfolding unstuffedBytes
+  rest-length = ap (λ (r : _). length (unstuffedBytes r)) (s .follows) ∙ length-append (s .contents) (checksum (s .contents) ∷ []) ∙ omega (arith, s .counted)
 
-  pub rest-contents : take len (bytesOf (unstuff false (drop start body))) ≡ s .contents
-  unfolding bytesOf
-  rest-contents = ap (λ (r : _). take len (bytesOf r)) (s .follows) ∙ take-at (s .contents) (checksum (s .contents) ∷ []) len (s .counted)
+  pub rest-contents : take len (unstuffedBytes (unstuff false (drop start body))) ≡ s .contents
+  unfolding unstuffedBytes
+  rest-contents = ap (λ (r : _). take len (unstuffedBytes r)) (s .follows) ∙ take-at (s .contents) (checksum (s .contents) ∷ []) len (s .counted)
 
   -- the contents put first in a list, as the code counts them
-  pub rest-first : (d last : List ℕ) → last ≡ take len (bytesOf (unstuff false (drop start body))) ++ drop len d
+  pub rest-first : (d last : List ℕ) → last ≡ take len (unstuffedBytes (unstuff false (drop start body))) ++ drop len d
       → last ≡ contentsOf (frameOf header (s .contents)) ++ drop (length (contentsOf (frameOf header (s .contents)))) d
   rest-first d last e =
       e ∙ ap (λ (l : List ℕ). l ++ drop len d) rest-contents ∙ ap (λ (n : ℕ). s .contents ++ drop n d) (sym (s .counted))
@@ -45,15 +45,15 @@ module _ {kind : Kind} {body : List ℕ} {header : Header} {start len : ℕ} (s 
 -- ---- bytes without an escape
 
 -- a part as long as its unstuffed bytes, copied as it is
-pub copied-plain : (rest out last : List ℕ) (len : ℕ) → length (bytesOf (unstuff false rest)) ≡ len + 1 → length rest ≡ len + 1
-    → last ≡ splice out 0 (take len rest) → last ≡ take len (bytesOf (unstuff false rest)) ++ drop len out
+pub copied-plain : (rest out last : List ℕ) (len : ℕ) → length (unstuffedBytes (unstuff false rest)) ≡ len + 1 → length rest ≡ len + 1
+    → last ≡ splice out 0 (take len rest) → last ≡ take len (unstuffedBytes (unstuff false rest)) ++ drop len out
 copied-plain rest out last len n l e =
     let k : 0 + length (take len rest) ≡ len = omega (arith, length-take-le len rest (omega arith)) in
     e ∙ ap (λ (m : ℕ). take len rest ++ drop m out) k ∙ ap (λ (x : List ℕ). take len x ++ drop len out) (sym (unstuff-same rest (n ∙ sym l)))
 
 -- the same, brought to the front
-pub shifted-plain : (s last : List ℕ) (start len : ℕ) → length (bytesOf (unstuff false (drop start s))) ≡ len + 1 → length (drop start s) ≡ len + 1
-    → last ≡ take len (drop start s) ++ drop len s → last ≡ take len (bytesOf (unstuff false (drop start s))) ++ drop len s
+pub shifted-plain : (s last : List ℕ) (start len : ℕ) → length (unstuffedBytes (unstuff false (drop start s))) ≡ len + 1 → length (drop start s) ≡ len + 1
+    → last ≡ take len (drop start s) ++ drop len s → last ≡ take len (unstuffedBytes (unstuff false (drop start s))) ++ drop len s
 shifted-plain s last start len n l e = e ∙ ap (λ (x : List ℕ). take len x ++ drop len s) (sym (unstuff-same (drop start s) (n ∙ sym l)))
 
 -- ---- what a verdict leaves
@@ -92,14 +92,14 @@ frame-shorter Extended u = omega (arith, take-shorter (length u - 3) (drop 2 u),
 
 -- the contents of a body that is accepted are no longer than the body, which is within the limit
 judge-shrinks : (kind : Kind) (body : List ℕ) (f : Frame) → judge kind body ≡ result f → (length (contentsOf f) ≤ length body) × (length body ≤ 118)
-unfolding judge judgeBytes bytesOf
+unfolding judge judgeBytes unstuffedBytes
 judge-shrinks kind body f e =
     by-bool (leb (length body + 2) 120)
     (λ l. (of-bytes (unstuff false body) (simp l at e) (unstuff-shrinks false body), omega (arith, leb-true (length body + 2) 120 l)))
     (λ l. let q : refused 2 ≡ result f = simp l at e in
     let z : _≡_ {A = ℕ} 0 1 = cc in absurd (omega arith))
   where
-    of-bytes : (r : Unstuffed) → judgeBytes kind r ≡ result f → length (bytesOf r) ≤ length body → length (contentsOf f) ≤ length body
+    of-bytes : (r : Unstuffed) → judgeBytes kind r ≡ result f → length (unstuffedBytes r) ≤ length body → length (contentsOf f) ≤ length body
     of-bytes badEscape e h = let z : _≡_ {A = ℕ} 0 1 = cc in absurd (omega arith)
     of-bytes (bytes u) e h =
         by-bool (leb (addressCount kind + 1) (length u))

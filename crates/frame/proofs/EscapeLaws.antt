@@ -17,7 +17,7 @@ use Rattle.lists.proofs.Lists.{drop-two, last-apart}
 use Rattle.lists.proofs.Tests.{within-yes, within-true, mark-all, count-last, count-none}
 use Rattle.frame.specs.Stuffing.{Unstuffed, badEscape, bytes, prepend, unstuff}
 use Rattle.frame.specs.Checksum.{sumFrom, checksum}
-use Rattle.frame.specs.Steps.{isSound, goodPair, lowerByte, lowered, scanFrom, bytesOf}
+use Rattle.frame.specs.Private.{isSound, goodPair, lowerByte, lowered, scanFrom, unstuffedBytes}
 use Rattle.frame.specs.declared.candidate.Scan.the-variants.{Fault, Good}
 use Rattle.frame.proofs.ChecksumLaws.{sumFrom-last, sum-escape}
 use Rattle.frame.proofs.StuffingLaws.{prepend-inv, unstuff-plain}
@@ -207,8 +207,8 @@ unfolding scanFrom
 scan-as-is s n len sum p q =
     ap (λ (m : ℕ). Good m sum) (p ∙ sym (zero-add (length s))) ∙ ap (Good (0 + length s)) q ∙ sym (ap (scanFrom 0 0) (unstuff-plain s n))
 
-sound-bytes : (r : Unstuffed) → isSound r ≡ true → r ≡ bytes (bytesOf r)
-unfolding bytesOf
+sound-bytes : (r : Unstuffed) → isSound r ≡ true → r ≡ bytes (unstuffedBytes r)
+unfolding unstuffedBytes
 sound-bytes badEscape h = absurd (true≢false (sym h))
 sound-bytes (bytes u) h = refl
 
@@ -241,7 +241,7 @@ module _ (s : List ℕ) (last : ℕ) (some : 1 ≤ length s) (is : last ≡ getD
   unfolding scanFrom lowered
   scan-counted len sum count n y c′ l q =
       let c : count ≡ countOf (within 0xF3 0xF3) s = c′ ∙ count-here n in
-      let u = bytesOf (unstuff false s) in
+      let u = unstuffedBytes (unstuff false s) in
       let e = sound-bytes (unstuff false s) y in
       let k = counts s u e in
       let len-is : len ≡ 0 + length u = omega (arith, k .0) in

@@ -13,7 +13,7 @@ use borrow.Author.Tests.{leb-true, leb-false, ltb-true, ltb-false, eqb-true, eqb
 use Rattle.lists.proofs.Cases.{by-bool}
 use Rattle.lists.proofs.Lists.{drop-two, fill, get-behind}
 use Rattle.frame.specs.Stuffing.{Unstuffed, badEscape, bytes, prepend, unstuff}
-use Rattle.frame.specs.Steps.{nextAt, bytesOf}
+use Rattle.frame.specs.Private.{nextAt, unstuffedBytes}
 use Rattle.frame.specs.declared.candidate.Next.{Next}
 use Rattle.frame.specs.declared.candidate.Next.the-variants.{End, Bad, Byte}
 
@@ -114,37 +114,37 @@ module _ (s : List ℕ) (at : ℕ) (x : Next) (e : x ≡ nextAt s at) where
 
 -- ---- filling a list with unstuffed bytes
 
-bytes-prepend : (b : ℕ) (r : Unstuffed) → 0 < length (bytesOf (prepend b r)) → bytesOf (prepend b r) ≡ b ∷ bytesOf r
-unfolding bytesOf prepend
+bytes-prepend : (b : ℕ) (r : Unstuffed) → 0 < length (unstuffedBytes (prepend b r)) → unstuffedBytes (prepend b r) ≡ b ∷ unstuffedBytes r
+unfolding unstuffedBytes prepend
 bytes-prepend b badEscape h = absurd (not-suc-le-zero h)
 bytes-prepend b (bytes u) h = refl
 
 -- k of the bytes v are taken, and the next is unstuffed at an index of s
-module _ (s v : List ℕ) (at k : ℕ) (more : k < length v) (here : bytesOf (unstuff false (drop at s)) ≡ drop k v) (x : Next) (e : x ≡ nextAt s at) where
-  seen : (y : Next) → x ≡ y → drop k v ≡ bytesOf (afterNext s y)
-  seen y f = sym here ∙ ap bytesOf (told s at x e y f)
+module _ (s v : List ℕ) (at k : ℕ) (more : k < length v) (here : unstuffedBytes (unstuff false (drop at s)) ≡ drop k v) (x : Next) (e : x ≡ nextAt s at) where
+  seen : (y : Next) → x ≡ y → drop k v ≡ unstuffedBytes (afterNext s y)
+  seen y f = sym here ∙ ap unstuffedBytes (told s at x e y f)
 
   pub never-end : x ≡ End → ⊥
-  unfolding afterNext bytesOf
+  unfolding afterNext unstuffedBytes
   never-end f = omega (arith, length-drop k v, ap length (seen End f))
 
   pub never-bad : x ≡ Bad → ⊥
-  unfolding afterNext bytesOf
+  unfolding afterNext unstuffedBytes
   never-bad f = omega (arith, length-drop k v, ap length (seen Bad f))
 
-  next-byte : (b n : ℕ) → x ≡ Byte b n → drop k v ≡ b ∷ bytesOf (unstuff false (drop n s))
+  next-byte : (b n : ℕ) → x ≡ Byte b n → drop k v ≡ b ∷ unstuffedBytes (unstuff false (drop n s))
   unfolding afterNext
   next-byte b n f =
-      let q : drop k v ≡ bytesOf (prepend b (unstuff false (drop n s))) = seen (Byte b n) f in
+      let q : drop k v ≡ unstuffedBytes (prepend b (unstuff false (drop n s))) = seen (Byte b n) f in
       q ∙ bytes-prepend b (unstuff false (drop n s)) (omega (arith, length-drop k v, ap length q))
 
   pub fill-more : (d out : List ℕ) (b n : ℕ) → x ≡ Byte b n → k < length d → out ≡ take k v ++ drop k d
-      → (bytesOf (unstuff false (drop n s)) ≡ drop (k + 1) v) × (set out k b ≡ take (k + 1) v ++ drop (k + 1) d)
+      → (unstuffedBytes (unstuff false (drop n s)) ≡ drop (k + 1) v) × (set out k b ≡ take (k + 1) v ++ drop (k + 1) d)
   fill-more d out b n f h o =
-      let z = fill v d k b (bytesOf (unstuff false (drop n s))) (next-byte b n f) h in
+      let z = fill v d k b (unstuffedBytes (unstuff false (drop n s))) (next-byte b n f) h in
       (z .0, ap (λ (l : List ℕ). set l k b) o ∙ z .1)
 
--- ---- reading behind the place where is written
+-- ---- reading behind the index where is written
 
 next-behind : (s s₀ p : List ℕ) (k : ℕ) → s ≡ p ++ drop k s₀ → length p ≡ k → (at : ℕ) → k ≤ at → length s ≡ length s₀ → nextAt s at ≡ nextAt s₀ at
 unfolding nextAt
@@ -155,7 +155,7 @@ next-behind s s₀ p k e l at h q =
 
 -- k of the bytes v are brought to the front of s₀, and the next is unstuffed at an index of it
 abbrev pub Fronted : (s₀ v : List ℕ) (at k : ℕ) (s : List ℕ) → Type 0
-Fronted s₀ v at k s = (k ≤ at) × (length s ≡ length s₀) × (bytesOf (unstuff false (drop at s₀)) ≡ drop k v) × (s ≡ take k v ++ drop k s₀)
+Fronted s₀ v at k s = (k ≤ at) × (length s ≡ length s₀) × (unstuffedBytes (unstuff false (drop at s₀)) ≡ drop k v) × (s ≡ take k v ++ drop k s₀)
 
 module _ (s₀ v : List ℕ) (at k : ℕ) (s : List ℕ) (f : Fronted s₀ v at k s) (more : k < length v) (x : Next) (e : x ≡ nextAt s at) where
   same : x ≡ nextAt s₀ at

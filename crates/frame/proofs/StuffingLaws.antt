@@ -16,7 +16,7 @@ use Rattle.lists.proofs.Cases.{by-bool}
 use Rattle.lists.proofs.Tests.{within-yes, within-true, none-append}
 use Rattle.lists.proofs.Splices.{splice-nil, splice-splice, length-splice}
 use Rattle.frame.specs.Stuffing.{isFlag, isStuffed, stuffByte, stuff, Unstuffed, badEscape, bytes, prepend, unstuff, flagless}
-use Rattle.frame.specs.Steps.{bytesOf}
+use Rattle.frame.specs.Private.{unstuffedBytes}
 
 -- ---- one byte
 
@@ -216,14 +216,14 @@ unstuff-plain (b ∷ s) h =
     (λ y. let w = within-true 0xF3 0xF3 b y in absurd (eqb-false b 0xF3 n (omega arith)))
     (λ m. simp (n, unstuff-plain s (simp m at h))))
 
-prepend-length : (b : ℕ) (r : Unstuffed) → length (bytesOf (prepend b r)) ≤ suc (length (bytesOf r))
-unfolding bytesOf prepend
+prepend-length : (b : ℕ) (r : Unstuffed) → length (unstuffedBytes (prepend b r)) ≤ suc (length (unstuffedBytes r))
+unfolding unstuffedBytes prepend
 prepend-length b badEscape = omega arith
 prepend-length b (bytes u) = omega arith
 
 -- unstuffing makes a list no longer
-pub unstuff-shrinks : (t : Bool) (s : List ℕ) → length (bytesOf (unstuff t s)) ≤ length s
-unfolding unstuff bytesOf
+pub unstuff-shrinks : (t : Bool) (s : List ℕ) → length (unstuffedBytes (unstuff t s)) ≤ length s
+unfolding unstuff unstuffedBytes
 unstuff-shrinks false [] = omega arith
 unstuff-shrinks true [] = omega arith
 unstuff-shrinks false (b ∷ s) =
@@ -232,14 +232,14 @@ unstuff-shrinks true (b ∷ s) =
     by-bool (leb b 3) (λ y. simp y (omega (arith, prepend-length (0xF0 + b) (unstuff false s), unstuff-shrinks false s))) (λ n. simp n (omega arith))
 
 -- and a list that it makes no shorter has no escape
-pub unstuff-same : (s : List ℕ) → length (bytesOf (unstuff false s)) ≡ length s → bytesOf (unstuff false s) ≡ s
-unfolding unstuff bytesOf prepend
+pub unstuff-same : (s : List ℕ) → length (unstuffedBytes (unstuff false s)) ≡ length s → unstuffedBytes (unstuff false s) ≡ s
+unfolding unstuff unstuffedBytes prepend
 unstuff-same [] e = refl
 unstuff-same (b ∷ s) e =
     by-bool (eqb b 0xF3)
-    (λ y. let q : length (bytesOf (unstuff true s)) ≡ suc (length s) = simp y at e in absurd (omega (arith, unstuff-shrinks true s)))
-    (λ n. let q : length (bytesOf (prepend b (unstuff false s))) ≡ suc (length s) = simp n at e in simp n (keeps (unstuff false s) q (unstuff-same s)))
+    (λ y. let q : length (unstuffedBytes (unstuff true s)) ≡ suc (length s) = simp y at e in absurd (omega (arith, unstuff-shrinks true s)))
+    (λ n. let q : length (unstuffedBytes (prepend b (unstuff false s))) ≡ suc (length s) = simp n at e in simp n (keeps (unstuff false s) q (unstuff-same s)))
   where
-    keeps : (r : Unstuffed) → length (bytesOf (prepend b r)) ≡ suc (length s) → (length (bytesOf r) ≡ length s → bytesOf r ≡ s) → bytesOf (prepend b r) ≡ b ∷ s
+    keeps : (r : Unstuffed) → length (unstuffedBytes (prepend b r)) ≡ suc (length s) → (length (unstuffedBytes r) ≡ length s → unstuffedBytes r ≡ s) → unstuffedBytes (prepend b r) ≡ b ∷ s
     keeps badEscape q f = absurd (omega arith)
     keeps (bytes u) q f = ap (λ (l : List ℕ). b ∷ l) (f (omega arith))

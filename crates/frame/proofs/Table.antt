@@ -1,7 +1,7 @@
 -- Which verdict is given exactly when: document 01's table of refusals, and demand 2's "accepted exactly when".
 use Rattle.frame.specs.Frame.{contentsOf, Frame}
 use Rattle.frame.specs.Answers.{readAnswer, FrameOutline}
-use Rattle.frame.specs.Conditions.{ReadJudged, refusedBy, noRoom, fits, FlagFree, Terminated, WithinLimit, EscapesSound, Unstuffs, none, plain, escape, fewest, Sound, Judged, truncated, long, badEscape as badEscapes, short, badSum, sound}
+use Rattle.frame.specs.Conditions.{ReadJudged, refusedBy, noRoom, fits, FlagFree, Terminated, WithinLimit, EscapesSound, Unstuffs, none, plain, escape, fewest, SoundFrame, Judged, truncated, long, badEscape as badEscapes, short, badSum, sound}
 use Prim.Native.Nat.{ℕ, zero, suc, _+_, _≤_, _<_}
 use mathlib.Core.Path.{_≡_, refl, sym, ap, _∙_, subst}
 use mathlib.Core.Logic.{_⊎_, inl, inr}
@@ -175,16 +175,16 @@ verdict-by-table w v = (
 )
 
 -- Accepted exactly when every condition holds, and then as that frame.
-pub accepted-exactly : (w : List ℕ) (f : Frame) → (verdict w ≡ result f → Sound w f) × (Sound w f → verdict w ≡ result f)
+pub accepted-exactly : (w : List ℕ) (f : Frame) → (verdict w ≡ result f → SoundFrame w f) × (SoundFrame w f → verdict w ≡ result f)
 accepted-exactly w f = ((λ e. found (result f) (verdict-by-table w (result f) .0 e) f refl), (λ s. table-verdict w (result f) (sound f s)))
   where
-    found : (v : Verdict) → Judged w v → (f : Frame) → v ≡ result f → Sound w f
+    found : (v : Verdict) → Judged w v → (f : Frame) → v ≡ result f → SoundFrame w f
     found v (truncated n) f e = let z : _≡_ {A = ℕ} 0 1 = cc in absurd (omega arith)
     found v (long t n) f e = let z : _≡_ {A = ℕ} 0 1 = cc in absurd (omega arith)
     found v (badEscapes t l n) f e = let z : _≡_ {A = ℕ} 0 1 = cc in absurd (omega arith)
     found v (short t u l g x n) f e = let z : _≡_ {A = ℕ} 0 1 = cc in absurd (omega arith)
     found v (badSum t u l g x k n) f e = let z : _≡_ {A = ℕ} 0 1 = cc in absurd (omega arith)
-    found v (sound h s) f e = let q : h ≡ f = cc in subst (λ (x : Frame). Sound w x) q s
+    found v (sound h s) f e = let q : h ≡ f = cc in subst (λ (x : Frame). SoundFrame w x) q s
 
 -- ---- with the room of an output
 

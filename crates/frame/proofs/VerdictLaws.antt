@@ -21,7 +21,7 @@ use Rattle.answer.specs.Answer.{result, refused}
 use Rattle.answer.specs.Draft.{draftOut}
 use Rattle.frame.specs.Conditions.{startFlag}
 use Rattle.frame.specs.Answers.{outlineOf, judgeAnswer, readAnswer, readOut}
-use Rattle.frame.specs.Steps.{isBounded, frameOf, kindIn, headed, readAs, scanFrom, bytesOf, SoundAt, Unescaped, UnescapedAfter, Examines, judgeWhole, ExaminesWhole}
+use Rattle.frame.specs.Private.{isBounded, frameOf, headerKind, headed, readAs, scanFrom, unstuffedBytes, SoundAt, Unescaped, UnescapedAfter, Examines, judgeWhole, ExaminesWhole}
 use Rattle.frame.specs.declared.Kind.{Kind}
 use Rattle.frame.specs.declared.Kind.the-variants.{Standard, Extended}
 use Rattle.frame.specs.declared.Header.{Header}
@@ -168,24 +168,24 @@ unfolding prepend
 headed-bad Plain = refl
 headed-bad (Addressed to from) = refl
 
-under-length : (h : Header) (v : List ℕ) → length (under h v) ≡ addressCount (kindIn h) + length v
+under-length : (h : Header) (v : List ℕ) → length (under h v) ≡ addressCount (headerKind h) + length v
 under-length Plain v = omega arith
 under-length (Addressed to from) v = omega arith
 
-under-drop : (h : Header) (v : List ℕ) → drop (addressCount (kindIn h)) (under h v) ≡ v
+under-drop : (h : Header) (v : List ℕ) → drop (addressCount (headerKind h)) (under h v) ≡ v
 under-drop Plain v = refl
 under-drop (Addressed to from) v = refl
 
 -- the frame of a header's addresses, contents and a checksum
-under-frame : (h : Header) (v : List ℕ) → 1 ≤ length v → frameIn (kindIn h) (under h v) ≡ frameOf h (contentsIn (addressCount (kindIn h)) (under h v))
+under-frame : (h : Header) (v : List ℕ) → 1 ≤ length v → frameIn (headerKind h) (under h v) ≡ frameOf h (contentsIn (addressCount (headerKind h)) (under h v))
 unfolding frameIn
 under-frame Plain v l = refl
 under-frame (Addressed to from) v l = refl
 
 module _ (h : Header) (body : List ℕ) (next : ℕ) (limit : length body ≤ 118) (here : unstuff false body ≡ headed h (unstuff false (drop next body))) where
-  pub rest-escape : scanFrom 0 0 (unstuff false (drop next body)) ≡ Fault → judge (kindIn h) body ≡ refused 3
+  pub rest-escape : scanFrom 0 0 (unstuff false (drop next body)) ≡ Fault → judge (headerKind h) body ≡ refused 3
   unfolding scanFrom
-  rest-escape e = judge-escape (kindIn h) body limit (here ∙ bad (unstuff false (drop next body)) e)
+  rest-escape e = judge-escape (headerKind h) body limit (here ∙ bad (unstuff false (drop next body)) e)
     where
       bad : (r : Unstuffed) → scanFrom 0 0 r ≡ Fault → headed h r ≡ badEscape
       bad badEscape e = headed-bad h
@@ -194,13 +194,13 @@ module _ (h : Header) (body : List ℕ) (next : ℕ) (limit : length body ≤ 11
   module _ (len sum : ℕ) (e : Good len sum ≡ scanFrom 0 0 (unstuff false (drop next body))) where
     -- the contents and the checksum
     rest : List ℕ
-    rest = bytesOf (unstuff false (drop next body))
+    rest = unstuffedBytes (unstuff false (drop next body))
 
     scanned : (unstuff false (drop next body) ≡ bytes rest) × (len ≡ length rest) × (sum ≡ checksum rest)
-    unfolding rest scanFrom bytesOf
+    unfolding rest scanFrom unstuffedBytes
     scanned = split (unstuff false (drop next body)) e
       where
-        split : (r : Unstuffed) → Good len sum ≡ scanFrom 0 0 r → (r ≡ bytes (bytesOf r)) × (len ≡ length (bytesOf r)) × (sum ≡ checksum (bytesOf r))
+        split : (r : Unstuffed) → Good len sum ≡ scanFrom 0 0 r → (r ≡ bytes (unstuffedBytes r)) × (len ≡ length (unstuffedBytes r)) × (sum ≡ checksum (unstuffedBytes r))
         split badEscape e = let z : _≡_ {A = ℕ} 0 1 = cc in absurd (omega arith)
         split (bytes u) e =
             let l : len ≡ 0 + length u = cc in
@@ -210,12 +210,12 @@ module _ (h : Header) (body : List ℕ) (next : ℕ) (limit : length body ≤ 11
     all : unstuff false body ≡ bytes (under h rest)
     all = here ∙ ap (headed h) (scanned .0) ∙ headed-bytes h rest
 
-    pub rest-short : len < 1 → judge (kindIn h) body ≡ refused 4
-    rest-short k = judge-short (kindIn h) body limit (under h rest) all (omega (arith, under-length h rest, scanned .1))
+    pub rest-short : len < 1 → judge (headerKind h) body ≡ refused 4
+    rest-short k = judge-short (headerKind h) body limit (under h rest) all (omega (arith, under-length h rest, scanned .1))
 
     module _ (k : 1 ≤ len) where
       abbrev skip : ℕ
-      skip = addressCount (kindIn h)
+      skip = addressCount (headerKind h)
 
       long : skip < length (under h rest)
       long = omega (arith, under-length h rest, scanned .1)
@@ -223,10 +223,10 @@ module _ (h : Header) (body : List ℕ) (next : ℕ) (limit : length body ≤ 11
       summed : sum ≡ checksum (drop skip (under h rest))
       summed = scanned .2 ∙ ap checksum (sym (under-drop h rest))
 
-      pub rest-sum : (sum ≡ 0 → ⊥) → judge (kindIn h) body ≡ refused 5
-      rest-sum n = judge-sum (kindIn h) body limit (under h rest) all (omega (arith, long)) (sum-wrong skip (under h rest) long (λ q. n (summed ∙ q)))
+      pub rest-sum : (sum ≡ 0 → ⊥) → judge (headerKind h) body ≡ refused 5
+      rest-sum n = judge-sum (headerKind h) body limit (under h rest) all (omega (arith, long)) (sum-wrong skip (under h rest) long (λ q. n (summed ∙ q)))
 
-      pub rest-sound : sum ≡ 0 → next ≤ length body → SoundAt (kindIn h) body h next (len - 1)
+      pub rest-sound : sum ≡ 0 → next ≤ length body → SoundAt (headerKind h) body h next (len - 1)
       unfolding frameIn
       rest-sound z inside =
           let right = sum-right skip (under h rest) long (sym summed ∙ z) in
@@ -235,7 +235,7 @@ module _ (h : Header) (body : List ℕ) (next : ℕ) (limit : length body ≤ 11
           sym (under-drop h rest) ∙ contents-last skip (under h rest) long ∙ ap (λ (b : ℕ). c ++ (b ∷ [])) right in
           record {
             contents = c;
-            judged = judge-sound (kindIn h) body limit (under h rest) all (omega (arith, long)) right ∙ ap result (under-frame h rest (omega (arith, scanned .1)));
+            judged = judge-sound (headerKind h) body limit (under h rest) all (omega (arith, long)) right ∙ ap result (under-frame h rest (omega (arith, scanned .1)));
             counted = omega (arith, ap length parts, length-append c (checksum c ∷ []), scanned .1);
             follows = scanned .0 ∙ ap bytes parts;
             inside = inside;
@@ -285,20 +285,20 @@ module _ (header : Header) (body : List ℕ) (start sum : ℕ) (p : UnescapedAft
   after-scan : Good (length body - start) sum ≡ scanFrom 0 0 (unstuff false (drop start body))
   after-scan = scan-as-is (drop start body) (none-drop (within 0xF3 0xF3) start body (p .clear)) (length body - start) sum (sym (length-drop start body)) (p .summed)
 
-  pub after-short : length body ≤ start → judge (kindIn header) body ≡ refused 4
+  pub after-short : length body ≤ start → judge (headerKind header) body ≡ refused 4
   after-short h = rest-short header body start (p .limit) (p .addressed) (length body - start) sum after-scan (omega arith)
 
   module _ (h : start < length body) where
-    pub after-sum : (sum ≡ 0 → ⊥) → judge (kindIn header) body ≡ refused 5
+    pub after-sum : (sum ≡ 0 → ⊥) → judge (headerKind header) body ≡ refused 5
     after-sum n = rest-sum header body start (p .limit) (p .addressed) (length body - start) sum after-scan (omega arith) n
 
-    pub after-sound : sum ≡ 0 → SoundAt (kindIn header) body header start (length body - start - 1)
+    pub after-sound : sum ≡ 0 → SoundAt (headerKind header) body header start (length body - start - 1)
     after-sound z = rest-sound header body start (p .limit) (p .addressed) (length body - start) sum after-scan (omega arith) z (p .inside)
 
     -- the contents are the bytes after the addresses, without the last
-    pub after-length : length (bytesOf (unstuff false (drop start body))) ≡ length body - start - 1 + 1
-    unfolding bytesOf
-    after-length = ap (λ (r : Unstuffed). length (bytesOf r)) (unstuff-plain (drop start body) (none-drop (within 0xF3 0xF3) start body (p .clear))) ∙ omega (arith, length-drop start body)
+    pub after-length : length (unstuffedBytes (unstuff false (drop start body))) ≡ length body - start - 1 + 1
+    unfolding unstuffedBytes
+    after-length = ap (λ (r : Unstuffed). length (unstuffedBytes r)) (unstuff-plain (drop start body) (none-drop (within 0xF3 0xF3) start body (p .clear))) ∙ omega (arith, length-drop start body)
 
 -- ---- the answers of a reader and of a judge
 

@@ -12,7 +12,7 @@ use Rattle.frame.specs.Checksum.{checksum}
 use Rattle.frame.specs.Frame.{Frame, contentsOf, startOf, addressesOf, payload, wireOf}
 use Rattle.frame.specs.Answers.{frameDraft}
 use Rattle.answer.specs.Answer.{result, refused}
-use Rattle.frame.specs.Steps.{frameOf, headerWire}
+use Rattle.frame.specs.Private.{frameOf, headerWire}
 use Rattle.frame.specs.declared.Header.{Header}
 use Rattle.frame.specs.declared.Header.the-variants.{Plain, Addressed}
 use Rattle.frame.proofs.StuffingLaws.{stuff-append, stuff-one, stuffByte-between}

@@ -56,7 +56,7 @@ abbrev pub ChecksumRight : Kind → List ℕ → Type 0
 ChecksumRight kind u = lastOf u ≡ checksum (contentsIn (addressCount kind) u)
 
 -- What demand 2 asks of a slice that is accepted as a frame.
-pub record Sound (w : List ℕ) (f : Frame) : Type 0 where
+pub record SoundFrame (w : List ℕ) (f : Frame) : Type 0 where
   pub candidate : Terminated w
   pub limit : WithinLimit w
   pub escapes : EscapesSound (candidate .body)
@@ -74,10 +74,10 @@ pub data Judged (w : List ℕ) : Verdict → Type 0 where
   short : (t : Terminated w) (u : List ℕ) → WithinLimit w → EscapesSound (t .body) → Unstuffs (t .body) u → (LongEnough (t .kind) u → ⊥) → Judged w (refused 4)
   badSum : (t : Terminated w) (u : List ℕ) → WithinLimit w → EscapesSound (t .body) → Unstuffs (t .body) u → LongEnough (t .kind) u
       → (ChecksumRight (t .kind) u → ⊥) → Judged w (refused 5)
-  sound : (f : Frame) → Sound w f → Judged w (result f)
+  sound : (f : Frame) → SoundFrame w f → Judged w (result f)
 
 -- The same with the output's room, which is asked for last.
 pub data ReadJudged (w : List ℕ) (room : ℕ) : Answer FrameOutline → Type 0 where
   refusedBy : {n : ℕ} → Judged w (refused n) → ReadJudged w room (refused n)
-  noRoom : {f : Frame} → Sound w f → room < length (contentsOf f) → ReadJudged w room (refused 1)
-  fits : {f : Frame} → Sound w f → length (contentsOf f) ≤ room → ReadJudged w room (result (outlineOf f))
+  noRoom : {f : Frame} → SoundFrame w f → room < length (contentsOf f) → ReadJudged w room (refused 1)
+  fits : {f : Frame} → SoundFrame w f → length (contentsOf f) ≤ room → ReadJudged w room (result (outlineOf f))

@@ -4,4 +4,4 @@ pub mod Frame
 pub mod Verdict
 pub mod Answers
 pub mod Conditions
-pub mod Steps
+pub mod Private

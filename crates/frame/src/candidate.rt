@@ -11,7 +11,7 @@ ghost use lib.ListN.{length, getD, take, drop};
 ghost use Rattle.lists.specs.Choice.{pick, within, countOf};
 ghost use Rattle.frame.specs.Stuffing.{unstuff, prepend};
 ghost use Rattle.frame.specs.Checksum.{checksum};
-ghost use Rattle.frame.specs.Steps.{isBounded, nextAt, scanFrom, isSound, goodPair, lowerByte, lowered, bytesOf, kindIn, AddressesIn, Unescaped, Examines, ExaminesWhole};
+ghost use Rattle.frame.specs.Private.{isBounded, nextAt, scanFrom, isSound, goodPair, lowerByte, lowered, unstuffedBytes, headerKind, AddressesIn, Unescaped, Examines, ExaminesWhole};
 
 // The most bytes that may stand between the flags.
 const BODY_LIMIT: usize = 118;
@@ -35,7 +35,7 @@ pub(crate) enum Scan {
 }
 
 // What one pass over stuffed bytes finds.
-struct Tally {
+struct Escapes {
     escapes: u8,
     sum: u8,
 }
@@ -152,7 +152,7 @@ fn unsound(b: u8, after: u8) -> u8
 }
 
 // How many bytes are escapes, and the exclusive or of all with an escape taken as F0.
-fn tally_escapes(s: &[u8]) -> Tally
+fn tally_escapes(s: &[u8]) -> Escapes
     requires { ⌜ length (now s) ≤ 255 ⌝ }
     ensures { λ r. ⌜ r .escapes ≡ countOf (within 0xF3 0xF3) (now (s .entry)) ⌝ }
     ensures { λ r. ⌜ r .sum ≡ checksum (lowered (now (s .entry))) ⌝ }
@@ -165,7 +165,7 @@ fn tally_escapes(s: &[u8]) -> Tally
         sum = sum ^ lower(s[i]);
         i += 1;
     }
-    Tally { escapes, sum }
+    Escapes { escapes, sum }
 }
 
 fn lower(b: u8) -> u8
@@ -273,8 +273,8 @@ pub(crate) fn examine(kind: Kind, body: &[u8]) -> Examined
 // The same once the addresses are known: what follows is the contents and the checksum, whose exclusive or is 0.
 fn examine_rest(header: Header, body: &[u8], next: usize) -> Examined
     requires { ⌜ length (now body) ≤ 118 ⌝ }
-    requires { ⌜ AddressesIn (kindIn header) (now body) (Addresses.Found header next) ⌝ }
-    ensures { λ r. ⌜ Examines (kindIn header) (now (body .entry)) r ⌝ }
+    requires { ⌜ AddressesIn (headerKind header) (now body) (Addresses.Found header next) ⌝ }
+    ensures { λ r. ⌜ Examines (headerKind header) (now (body .entry)) r ⌝ }
 {
     let scanned = scan_bytes(&body[next..]);
     match scanned {
@@ -321,9 +321,9 @@ fn unit_at(s: &[u8], at: usize) -> Unit
 
 // Puts the first `count` unstuffed bytes first in the output.
 pub(crate) fn unstuff_into(s: &[u8], count: usize, out: &mut [u8])
-    requires { ⌜ count ≤ length (bytesOf (unstuff false (now s))) ⌝ }
+    requires { ⌜ count ≤ length (unstuffedBytes (unstuff false (now s))) ⌝ }
     requires { ⌜ count ≤ length (now out) ⌝ }
-    ensures { λ r. ⌜ now (out .exit) ≡ take count (bytesOf (unstuff false (now (s .entry)))) ++ drop count (now (out .entry)) ⌝ }
+    ensures { λ r. ⌜ now (out .exit) ≡ take count (unstuffedBytes (unstuff false (now (s .entry)))) ++ drop count (now (out .entry)) ⌝ }
 {
     let mut at: usize = 0;
     let mut k: usize = 0;
@@ -337,8 +337,8 @@ pub(crate) fn unstuff_into(s: &[u8], count: usize, out: &mut [u8])
 
 // Brings the first `count` unstuffed bytes, from an index of the stuffed bytes on, to the front.
 pub(crate) fn unstuff_front(s: &mut [u8], from: usize, count: usize)
-    requires { ⌜ count ≤ length (bytesOf (unstuff false (drop from (now s)))) ⌝ }
-    ensures { λ r. ⌜ now (s .exit) ≡ take count (bytesOf (unstuff false (drop from (now (s .entry))))) ++ drop count (now (s .entry)) ⌝ }
+    requires { ⌜ count ≤ length (unstuffedBytes (unstuff false (drop from (now s)))) ⌝ }
+    ensures { λ r. ⌜ now (s .exit) ≡ take count (unstuffedBytes (unstuff false (drop from (now (s .entry))))) ++ drop count (now (s .entry)) ⌝ }
 {
     let mut at = from;
     let mut k: usize = 0;

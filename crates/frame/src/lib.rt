@@ -17,7 +17,7 @@ ghost use Rattle.frame.specs.Stuffing.{unstuff};
 ghost use Rattle.frame.specs.Frame.{standard, extended};
 ghost use Rattle.frame.specs.Verdict.{kindOf, judge, verdict};
 ghost use Rattle.frame.specs.Answers.{frameDraft, readMeans, judgeAnswer, readAnswer, readOut, leftIn};
-ghost use Rattle.frame.specs.Steps.{frameOf, kindIn, readAs, bytesOf, Unescaped, UnescapedAfter};
+ghost use Rattle.frame.specs.Private.{frameOf, headerKind, readAs, unstuffedBytes, Unescaped, UnescapedAfter};
 
 const STANDARD_START: u8 = 0xF1;
 
@@ -162,8 +162,8 @@ fn read_plain(kind: Kind, body: &[u8], sum: u8, out: &mut [u8]) -> Read
 // The same once the addresses are known, with the exclusive or of what follows them.
 fn read_after(header: Header, body: &[u8], start: usize, sum: u8, out: &mut [u8]) -> Read
     requires { ⌜ UnescapedAfter header (now body) start sum ⌝ }
-    ensures { λ r. ⌜ readMeans r ≡ readAnswer (judge (kindIn header) (now (body .entry))) (length (now (out .entry))) ⌝ }
-    ensures { λ r. ⌜ now (out .exit) ≡ readOut (judge (kindIn header) (now (body .entry))) (now (out .entry)) ⌝ }
+    ensures { λ r. ⌜ readMeans r ≡ readAnswer (judge (headerKind header) (now (body .entry))) (length (now (out .entry))) ⌝ }
+    ensures { λ r. ⌜ now (out .exit) ≡ readOut (judge (headerKind header) (now (body .entry))) (now (out .entry)) ⌝ }
 {
     let n = body.len();
     if n <= start {
@@ -201,9 +201,9 @@ fn read_as(header: Header, len: usize) -> Read
 // Puts the first `len` bytes, unstuffed, first in the output; `rest` holds one byte more. Where it is as long as its
 // unstuffed bytes no escape stands in it, and it is copied as it is.
 fn copy_contents(rest: &[u8], len: usize, out: &mut [u8])
-    requires { ⌜ length (bytesOf (unstuff false (now rest))) ≡ len + 1 ⌝ }
+    requires { ⌜ length (unstuffedBytes (unstuff false (now rest))) ≡ len + 1 ⌝ }
     requires { ⌜ len ≤ length (now out) ⌝ }
-    ensures { λ r. ⌜ now (out .exit) ≡ take len (bytesOf (unstuff false (now (rest .entry)))) ++ drop len (now (out .entry)) ⌝ }
+    ensures { λ r. ⌜ now (out .exit) ≡ take len (unstuffedBytes (unstuff false (now (rest .entry)))) ++ drop len (now (out .entry)) ⌝ }
 {
     if rest.len() == len + 1 {
         bytes::copy(&rest[..len], out, 0);
@@ -214,9 +214,9 @@ fn copy_contents(rest: &[u8], len: usize, out: &mut [u8])
 
 // Brings the first `len` unstuffed bytes after an index to the front; one more stands after them.
 fn bring_contents(s: &mut [u8], start: usize, len: usize)
-    requires { ⌜ length (bytesOf (unstuff false (drop start (now s)))) ≡ len + 1 ⌝ }
+    requires { ⌜ length (unstuffedBytes (unstuff false (drop start (now s)))) ≡ len + 1 ⌝ }
     requires { ⌜ start ≤ length (now s) ⌝ }
-    ensures { λ r. ⌜ now (s .exit) ≡ take len (bytesOf (unstuff false (drop start (now (s .entry))))) ++ drop len (now (s .entry)) ⌝ }
+    ensures { λ r. ⌜ now (s .exit) ≡ take len (unstuffedBytes (unstuff false (drop start (now (s .entry))))) ++ drop len (now (s .entry)) ⌝ }
 {
     if s.len() - start == len + 1 {
         bytes::shift(s, start, len);

@@ -7,7 +7,7 @@ ghost use lib.ListN.{length};
 ghost use Rattle.lists.specs.Choice.{noneOf};
 ghost use Rattle.lists.specs.Splice.{splice};
 ghost use Rattle.frame.specs.Stuffing.{isStuffed, stuff, stuffByte};
-ghost use Rattle.frame.specs.Steps.{headerWire};
+ghost use Rattle.frame.specs.Private.{headerWire};
 
 // Whether a byte is sent as two: F0, F1, F2 or F3.
 pub(crate) fn is_stuffed(b: u8) -> bool

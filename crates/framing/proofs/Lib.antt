@@ -1,2 +1,1 @@
-pub mod Machines
 pub mod Restart

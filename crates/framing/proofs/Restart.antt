@@ -4,30 +4,31 @@ use mathlib.Core.Logic.{_⊎_, inl, inr}
 use mathlib.Core.List.{List, [], _∷_, _++_}
 use native.Mathlib.Omega.{arith}
 use Prim.Native.Nat.{ℕ}
-use Rattle.framing.specs.Reference.{Call, byte, Role, starts, stops, plain, Candidate, none, opened, Protocol, byteAnswer, byteAfter, answerTo, after, Reference, run}
+use Rattle.framing.specs.Reference.{Call, byte, Role, starts, stops, plain, Candidate, none, opened, Protocol, byteAnswer, byteAfter, answerTo, candidateAfter, Reference}
+use Rattle.lists.specs.Machine.{run}
 use Rattle.framing.specs.Demand3.{feed, FlagFree, LeftOpen, Restarts, Follows}
-use Rattle.framing.proofs.Machines.{simulates}
+use Rattle.lists.proofs.Machines.{simulates}
 
 module _ {A : Type 0} (P : Protocol A) where
   -- the answers from any open candidate on
   abbrev from : Candidate → List Call → List A
-  from k calls = run (answerTo P) (after P) k calls
+  from k calls = run (answerTo P) (candidateAfter P) k calls
 
   -- the candidate that is open after bytes
   abbrev fed : Candidate → List ℕ → Candidate
   fed k [] = k
-  fed k (b ∷ bytes) = fed (after P k (byte b)) bytes
+  fed k (b ∷ bytes) = fed (candidateAfter P k (byte b)) bytes
 
   fed-answers : (k : Candidate) (bytes : List ℕ) (calls : List Call) → from k (feed bytes ++ calls) ≡ from k (feed bytes) ++ from (fed k bytes) calls
   fed-answers k [] calls = refl
-  fed-answers k (b ∷ bytes) calls = ap (λ l. answerTo P k (byte b) ∷ l) (fed-answers (after P k (byte b)) bytes calls)
+  fed-answers k (b ∷ bytes) calls = ap (λ l. answerTo P k (byte b) ∷ l) (fed-answers (candidateAfter P k (byte b)) bytes calls)
 
   fed-append : (k : Candidate) (xs ys : List ℕ) → fed k (xs ++ ys) ≡ fed (fed k xs) ys
   fed-append k [] ys = refl
-  fed-append k (x ∷ xs) ys = fed-append (after P k (byte x)) xs ys
+  fed-append k (x ∷ xs) ys = fed-append (candidateAfter P k (byte x)) xs ys
 
   -- a start flag opens a candidate, whatever was open
-  opens : (k : Candidate) (w : ℕ) → P .role w ≡ starts → after P k (byte w) ≡ opened (w ∷ [])
+  opens : (k : Candidate) (w : ℕ) → P .role w ≡ starts → candidateAfter P k (byte w) ≡ opened (w ∷ [])
   opens k w e = rw e
 
   -- ---- bytes that leave a candidate open
@@ -112,10 +113,10 @@ module _ {A : Type 0} (P : Protocol A) where
 
   -- ---- after a candidate that was terminated, and after a finish
 
-  module _ (c : Call) (ends : (k : Candidate) → after P k c ≡ none) where
+  module _ (c : Call) (ends : (k : Candidate) → candidateAfter P k c ≡ none) where
     from-as-new : (k : Candidate) (calls rest : List Call) → from k (calls ++ c ∷ rest) ≡ from k (calls ++ c ∷ []) ++ from none rest
     from-as-new k [] rest = ap (λ x. answerTo P k c ∷ from x rest) (ends k)
-    from-as-new k (x ∷ calls) rest = ap (λ l. answerTo P k x ∷ l) (from-as-new (after P k x) calls rest)
+    from-as-new k (x ∷ calls) rest = ap (λ l. answerTo P k x ∷ l) (from-as-new (candidateAfter P k x) calls rest)
 
     -- A call that leaves none open leaves the decoder as new; so does everything that answers as it does.
     pub as-new : (f : List Call → List A) → ((calls : List Call) → f calls ≡ Reference P calls) → (calls rest : List Call)
@@ -129,8 +130,8 @@ module _ {A : Type 0} (P : Protocol A) where
 
   -- Demand 3 of any machine, from a relation that each of its calls keeps.
   pub follows : {S : Type 0} (answer : S → Call → A) (next : S → Call → S) (R : S → Candidate → Type 0)
-      → ((s : S) (k : Candidate) (c : Call) → R s k → (answer s c ≡ answerTo P k c) × R (next s c) (after P k c))
+      → ((s : S) (k : Candidate) (c : Call) → R s k → (answer s c ≡ answerTo P k c) × R (next s c) (candidateAfter P k c))
       → (s : S) → R s none → Follows P (run answer next s)
   follows answer next R step s r =
-      let e : (calls : List Call) → run answer next s calls ≡ Reference P calls = simulates answer next (answerTo P) (after P) R step s none r in
+      let e : (calls : List Call) → run answer next s calls ≡ Reference P calls = simulates answer next (answerTo P) (candidateAfter P) R step s none r in
       record { same = e; restarts = λ D w W L q. restarts-alike (run answer next s) (Reference P) e D w W L (reference-restarts D w W L q) }

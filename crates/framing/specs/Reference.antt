@@ -2,6 +2,7 @@
 -- It is fed a list of calls alone, and keeps the open candidate as a list that grows without limit, or none.
 use mathlib.Core.List.{List, [], _∷_, _++_}
 use Prim.Native.Nat.{ℕ}
+use Rattle.lists.specs.Machine.{run}
 
 -- A call on a line reader: one byte is fed, or the input ends.
 pub data Call : Type 0 where
@@ -25,11 +26,6 @@ pub record Protocol (A : Type 0) : Type 0 where
   pub nothing : A
   pub truncated : A
   pub judge : List ℕ → A
-
--- A machine with a state of any kind, run on a list of calls: each call gets the state as the last one left it.
-abbrev pub run : {A S : Type 0} → (S → Call → A) → (S → Call → S) → S → List Call → List A
-run answer next s [] = []
-run answer next s (c ∷ cs) = answer s c ∷ run answer next (next s c) cs
 
 module _ {A : Type 0} (P : Protocol A) where
   -- The answer to a byte of a role.
@@ -56,10 +52,10 @@ module _ {A : Type 0} (P : Protocol A) where
   answerTo k (byte b) = byteAnswer (P .role b) k b
   answerTo k finish = endAnswer k
 
-  abbrev pub after : Candidate → Call → Candidate
-  after k (byte b) = byteAfter (P .role b) k b
-  after k finish = none
+  abbrev pub candidateAfter : Candidate → Call → Candidate
+  candidateAfter k (byte b) = byteAfter (P .role b) k b
+  candidateAfter k finish = none
 
   -- The reference decoder: an answer for each call of a list.
   abbrev pub Reference : List Call → List A
-  Reference calls = run answerTo after none calls
+  Reference calls = run answerTo candidateAfter none calls

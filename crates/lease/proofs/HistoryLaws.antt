@@ -11,7 +11,7 @@ use lib.Seq.{getD-set-same, getD-set-other, set-out}
 use borrow.Author.Tests.{ltb-true, ltb-false, eqb-true, eqb-false, eq-eqb, ne-eqb}
 use Rattle.lists.specs.Choice.{pick}
 use Rattle.lists.proofs.Cases.{by-bool}
-use Rattle.lease.specs.Lease.{Call, hold, release, stop, addressOf, inRange, answerOf, ifAccepted, heldAfter, tableAfter}
+use Rattle.lease.specs.Lease.{LeaseCall, hold, release, stop, addressOf, inRange, answerOf, ifAccepted, heldAfter, tableAfter}
 use Rattle.answer.specs.Answer.{result, refused, Answer}
 use Rattle.lease.specs.History.{newTable, tableOn, both, isToken, takes, frees, holderFrom, holder, releasedIn, HeldBy}
 use Rattle.lease.proofs.LeaseLaws.{range-means}
@@ -19,7 +19,7 @@ use Rattle.lease.proofs.LeaseLaws.{range-means}
 -- ---- one call at one address
 
 -- outside the range nothing is accepted
-outside-kept : (c : Call) (h : ℕ) → inRange (addressOf c) ≡ false → heldAfter c h ≡ h
+outside-kept : (c : LeaseCall) (h : ℕ) → inRange (addressOf c) ≡ false → heldAfter c h ≡ h
 unfolding answerOf heldAfter
 outside-kept (hold a t) h n = simp n
 outside-kept (release a t) h n = simp n
@@ -30,7 +30,7 @@ not-inside a h =
     by-bool (inRange a) (λ y. let m = range-means a y in absurd (omega arith)) (λ n. n)
 
 -- the token at an address after one call
-pub token-after : (c : Call) (ts : List ℕ) (a : ℕ) → length ts ≡ 256
+pub token-after : (c : LeaseCall) (ts : List ℕ) (a : ℕ) → length ts ≡ 256
     → getD (tableAfter c ts) a 0 ≡ pick (eqb (addressOf c) a) (heldAfter c (getD ts a 0)) (getD ts a 0)
 token-after c ts a l =
     by-bool (eqb (addressOf c) a)
@@ -46,7 +46,7 @@ token-after c ts a l =
         ap (λ (us : List ℕ). getD us a 0) (set-out ts a (heldAfter c (getD ts a 0)) (omega arith))
         ∙ sym (outside-kept c (getD ts a 0) (ap inRange e ∙ not-inside a (omega arith))))
 
-pub length-after : (c : Call) (ts : List ℕ) → length (tableAfter c ts) ≡ length ts
+pub length-after : (c : LeaseCall) (ts : List ℕ) → length (tableAfter c ts) ≡ length ts
 length-after c ts = length-set ts (addressOf c) (heldAfter c (getD ts (addressOf c) 0))
 
 -- the same, by the calls alone
@@ -68,7 +68,7 @@ same-answer : (r : Answer (List ℕ)) (h : ℕ) → ifAccepted r h h ≡ h
 same-answer (result w) h = refl
 same-answer (refused n) h = refl
 
-holder-step : (a h : ℕ) (c : Call) (cs : List Call) → holderFrom a h (c ∷ cs) ≡ holderFrom a (pick (eqb (addressOf c) a) (heldAfter c h) h) cs
+holder-step : (a h : ℕ) (c : LeaseCall) (cs : List LeaseCall) → holderFrom a h (c ∷ cs) ≡ holderFrom a (pick (eqb (addressOf c) a) (heldAfter c h) h) cs
 unfolding holderFrom heldAfter answerOf
 holder-step a h (hold b t) cs =
     ap (λ (k : ℕ). holderFrom a k cs)
@@ -90,7 +90,7 @@ holder-step a h (stop b t room) cs =
 
 -- ---- history
 
-pub history-from : (a : ℕ) (ts : List ℕ) (cs : List Call) → length ts ≡ 256 → getD (tableOn ts cs) a 0 ≡ holderFrom a (getD ts a 0) cs
+pub history-from : (a : ℕ) (ts : List ℕ) (cs : List LeaseCall) → length ts ≡ 256 → getD (tableOn ts cs) a 0 ≡ holderFrom a (getD ts a 0) cs
 unfolding tableOn holderFrom
 history-from a ts [] l = refl
 history-from a ts (c ∷ cs) l =
@@ -108,12 +108,12 @@ new-free a =
     (λ n. let k : length newTable ≤ a = omega (arith, ltb-false a 256 n, new-length) in
     List·getD-eq-default newTable 0 k)
 
-pub history : (a : ℕ) (cs : List Call) → getD (tableOn newTable cs) a 0 ≡ holder a cs
+pub history : (a : ℕ) (cs : List LeaseCall) → getD (tableOn newTable cs) a 0 ≡ holder a cs
 history a cs = history-from a newTable cs new-length ∙ ap (λ (h : ℕ). holderFrom a h cs) (new-free a)
 
 -- ---- the holder, said without steps
 
-pub holder-append : (a h : ℕ) (cs ds : List Call) → holderFrom a h (cs ++ ds) ≡ holderFrom a (holderFrom a h cs) ds
+pub holder-append : (a h : ℕ) (cs ds : List LeaseCall) → holderFrom a h (cs ++ ds) ≡ holderFrom a (holderFrom a h cs) ds
 unfolding holderFrom
 holder-append a h [] ds = refl
 holder-append a h (hold b t ∷ cs) ds = holder-append a (pick (takes a h b t) t h) cs ds
@@ -150,7 +150,7 @@ no-release true s e = absurd (true≢false e)
 no-release false s e = (refl, e)
 
 -- what is held stays, until it is released
-stays : (a t : ℕ) (cs : List Call) → (t ≡ 0 → ⊥) → releasedIn a t cs ≡ false → holderFrom a t cs ≡ t
+stays : (a t : ℕ) (cs : List LeaseCall) → (t ≡ 0 → ⊥) → releasedIn a t cs ≡ false → holderFrom a t cs ≡ t
 unfolding holderFrom releasedIn
 stays a t [] n k = refl
 stays a t (hold b u ∷ cs) n k =
@@ -163,21 +163,21 @@ stays a t (release b u ∷ cs) n k =
 stays a t (stop b u room ∷ cs) n k = stays a t cs n k
 
 -- where the token comes from, with h before the calls
-record From (a h t : ℕ) (cs : List Call) : Type 0 where
-  before : List Call
-  after : List Call
+record From (a h t : ℕ) (cs : List LeaseCall) : Type 0 where
+  before : List LeaseCall
+  after : List LeaseCall
   calls : cs ≡ before ++ (hold a t ∷ after)
   free : holderFrom a h before ≡ 0
   range : inRange a ≡ true
   kept : releasedIn a t after ≡ false
 
 -- one call more in front
-further : (a h k t : ℕ) (c : Call) (cs : List Call) → ((ds : List Call) → holderFrom a h (c ∷ ds) ≡ holderFrom a k ds) → From a k t cs → From a h t (c ∷ cs)
+further : (a h k t : ℕ) (c : LeaseCall) (cs : List LeaseCall) → ((ds : List LeaseCall) → holderFrom a h (c ∷ ds) ≡ holderFrom a k ds) → From a k t cs → From a h t (c ∷ cs)
 further a h k t c cs e f =
     record {
       before = c ∷ f .before;
       after = f .after;
-      calls = ap (λ (l : List Call). c ∷ l) (f .calls);
+      calls = ap (λ (l : List LeaseCall). c ∷ l) (f .calls);
       free = e (f .before) ∙ f .free;
       range = f .range;
       kept = f .kept;
@@ -189,19 +189,19 @@ token-is t h e = true≢false (sym h ∙ simp (eq-eqb t 0 e))
 is-token : (t : ℕ) → (t ≡ 0 → ⊥) → isToken t ≡ true
 is-token t n = simp (ne-eqb t 0 n)
 
-traced : (a h t : ℕ) (cs : List Call) → ((h ≡ 0 → ⊥) → inRange a ≡ true) → (t ≡ 0 → ⊥) → holderFrom a h cs ≡ t
+traced : (a h t : ℕ) (cs : List LeaseCall) → ((h ≡ 0 → ⊥) → inRange a ≡ true) → (t ≡ 0 → ⊥) → holderFrom a h cs ≡ t
     → ((h ≡ t) × (releasedIn a t cs ≡ false)) ⊎ From a h t cs
 unfolding holderFrom releasedIn
 traced a h t [] ok n e = inl (e, refl)
 traced a h t (hold b u ∷ cs) ok n e =
     by-bool (takes a h b u)
     (λ y. let m = all-four (eqb b a) (inRange a) (isToken u) (eqb h 0) y in
-    let s : (ds : List Call) → holderFrom a h (hold b u ∷ ds) ≡ holderFrom a u ds = λ ds. ap (λ (x : Bool). holderFrom a (pick x u h) ds) y in
+    let s : (ds : List LeaseCall) → holderFrom a h (hold b u ∷ ds) ≡ holderFrom a u ds = λ ds. ap (λ (x : Bool). holderFrom a (pick x u h) ds) y in
     taken (m .0) (m .1) (m .3) s (traced a u t cs (λ z. m .1) n (sym (s cs) ∙ e)))
-    (λ y. let s : (ds : List Call) → holderFrom a h (hold b u ∷ ds) ≡ holderFrom a h ds = λ ds. ap (λ (x : Bool). holderFrom a (pick x u h) ds) y in
+    (λ y. let s : (ds : List LeaseCall) → holderFrom a h (hold b u ∷ ds) ≡ holderFrom a h ds = λ ds. ap (λ (x : Bool). holderFrom a (pick x u h) ds) y in
     left s (traced a h t cs ok n (sym (s cs) ∙ e)))
   where
-    taken : eqb b a ≡ true → inRange a ≡ true → eqb h 0 ≡ true → ((ds : List Call) → holderFrom a h (hold b u ∷ ds) ≡ holderFrom a u ds)
+    taken : eqb b a ≡ true → inRange a ≡ true → eqb h 0 ≡ true → ((ds : List LeaseCall) → holderFrom a h (hold b u ∷ ds) ≡ holderFrom a u ds)
         → ((u ≡ t) × (releasedIn a t cs ≡ false)) ⊎ From a u t cs → ((h ≡ t) × (releasedIn a t cs ≡ false)) ⊎ From a h t (hold b u ∷ cs)
     taken p r f s (inl g) =
         inr
@@ -215,18 +215,18 @@ traced a h t (hold b u ∷ cs) ok n e =
         })
     taken p r f s (inr g) = inr (further a h u t (hold b u) cs s g)
 
-    left : ((ds : List Call) → holderFrom a h (hold b u ∷ ds) ≡ holderFrom a h ds)
+    left : ((ds : List LeaseCall) → holderFrom a h (hold b u ∷ ds) ≡ holderFrom a h ds)
         → ((h ≡ t) × (releasedIn a t cs ≡ false)) ⊎ From a h t cs → ((h ≡ t) × (releasedIn a t cs ≡ false)) ⊎ From a h t (hold b u ∷ cs)
     left s (inl g) = inl g
     left s (inr g) = inr (further a h h t (hold b u) cs s g)
 traced a h t (release b u ∷ cs) ok n e =
     by-bool (frees a h b u)
-    (λ y. let s : (ds : List Call) → holderFrom a h (release b u ∷ ds) ≡ holderFrom a 0 ds = λ ds. ap (λ (x : Bool). holderFrom a (pick x 0 h) ds) y in
+    (λ y. let s : (ds : List LeaseCall) → holderFrom a h (release b u ∷ ds) ≡ holderFrom a 0 ds = λ ds. ap (λ (x : Bool). holderFrom a (pick x 0 h) ds) y in
     freed s (traced a 0 t cs (λ z. absurd (z refl)) n (sym (s cs) ∙ e)))
-    (λ y. let s : (ds : List Call) → holderFrom a h (release b u ∷ ds) ≡ holderFrom a h ds = λ ds. ap (λ (x : Bool). holderFrom a (pick x 0 h) ds) y in
+    (λ y. let s : (ds : List LeaseCall) → holderFrom a h (release b u ∷ ds) ≡ holderFrom a h ds = λ ds. ap (λ (x : Bool). holderFrom a (pick x 0 h) ds) y in
     left y s (traced a h t cs ok n (sym (s cs) ∙ e)))
   where
-    freed : ((ds : List Call) → holderFrom a h (release b u ∷ ds) ≡ holderFrom a 0 ds)
+    freed : ((ds : List LeaseCall) → holderFrom a h (release b u ∷ ds) ≡ holderFrom a 0 ds)
         → ((0 ≡ t) × (releasedIn a t cs ≡ false)) ⊎ From a 0 t cs
         → ((h ≡ t) × (pick (both (eqb b a) (eqb u t)) true (releasedIn a t cs) ≡ false)) ⊎ From a h t (release b u ∷ cs)
     freed s (inl g) = absurd (n (sym (g .0)))
@@ -243,7 +243,7 @@ traced a h t (release b u ∷ cs) ok n e =
         last true = refl
         last false = refl
 
-    left : frees a h b u ≡ false → ((ds : List Call) → holderFrom a h (release b u ∷ ds) ≡ holderFrom a h ds)
+    left : frees a h b u ≡ false → ((ds : List LeaseCall) → holderFrom a h (release b u ∷ ds) ≡ holderFrom a h ds)
         → ((h ≡ t) × (releasedIn a t cs ≡ false)) ⊎ From a h t cs
         → ((h ≡ t) × (pick (both (eqb b a) (eqb u t)) true (releasedIn a t cs) ≡ false)) ⊎ From a h t (release b u ∷ cs)
     left y s (inl g) = inl (g .0, (simp (other (g .0) y)) ∙ g .1)
@@ -255,7 +255,7 @@ traced a h t (stop b u room ∷ cs) ok n e = left (traced a h t cs ok n e)
     left (inr g) = inr (further a h h t (stop b u room) cs (λ ds. refl) g)
 
 -- The token of an address is that of the last accepted hold not released since.
-pub held-exactly : (a t : ℕ) (cs : List Call) → (t ≡ 0 → ⊥) → (holder a cs ≡ t → HeldBy a t cs) × (HeldBy a t cs → holder a cs ≡ t)
+pub held-exactly : (a t : ℕ) (cs : List LeaseCall) → (t ≡ 0 → ⊥) → (holder a cs ≡ t → HeldBy a t cs) × (HeldBy a t cs → holder a cs ≡ t)
 unfolding holderFrom
 held-exactly a t cs n = (λ e. there (traced a 0 t cs (λ z. absurd (z refl)) n e), back)
   where

@@ -20,9 +20,10 @@ use Rattle.frame.specs.Checksum.{sumFrom}
 use Rattle.frame.specs.Frame.{wireOf, payload, startOf, addressesOf, contentsOf, extended}
 use Rattle.frame.specs.Answers.{frameDraft}
 use Rattle.frame.proofs.WireLaws.{draft-fits}
-use Rattle.lease.specs.Lease.{Call, hold, release, stop, addressOf, tokenOf, inRange, owns, stopFrame, answerOf, leaves, ifAccepted, heldAfter, answerTo, tableAfter, tableOf, lentAnswer, lentAfter}
-use Rattle.lease.specs.Answers.{told, outAfter}
-use Rattle.lease.specs.Contracts.{TableCall, Real, LentCall, Settles, settled, settledLent}
+use Rattle.lease.specs.Lease.{LeaseCall, hold, release, stop, addressOf, tokenOf, inRange, owns, stopFrame, answerOf, leaves, ifAccepted, heldAfter, tableAnswer, tableAfter, tableOf, lentAnswer, lentAfter}
+use Rattle.lease.specs.Answers.{writtenLength, outAfter}
+use Rattle.lease.specs.Contracts.{TableCall, Real, LentCall}
+use Rattle.lease.specs.Private.{Settles, settled, settledLent}
 
 -- ---- the range
 
@@ -30,40 +31,40 @@ pub range-means : (a : ℕ) → inRange a ≡ true → (1 ≤ a) × (a ≤ 252)
 range-means a h = within-true 1 252 a h
 
 -- an accepted call has an address in range
-pub accepted-range : (c : Call) (h : ℕ) (w : List ℕ) → answerOf c h ≡ result w → inRange (addressOf c) ≡ true
+pub accepted-range : (c : LeaseCall) (h : ℕ) (w : List ℕ) → answerOf c h ≡ result w → inRange (addressOf c) ≡ true
 unfolding answerOf
 accepted-range c h w e = by-bool (inRange (addressOf c)) (λ y. y) (λ n. absurd (outside c n e))
   where
-    outside : (c : Call) → inRange (addressOf c) ≡ false → answerOf c h ≡ result w → ⊥
+    outside : (c : LeaseCall) → inRange (addressOf c) ≡ false → answerOf c h ≡ result w → ⊥
     outside (hold a t) n e = let q : refused 9 ≡ result w = simp n at e in let z : _≡_ {A = ℕ} 0 1 = cc in omega arith
     outside (release a t) n e = let q : refused 9 ≡ result w = simp n at e in let z : _≡_ {A = ℕ} 0 1 = cc in omega arith
     outside (stop a t room) n e = let q : refused 9 ≡ result w = simp n at e in let z : _≡_ {A = ℕ} 0 1 = cc in omega arith
 
-pub settles : (c : Call) (h : ℕ) (x : Answer (List ℕ)) → x ≡ answerOf c h → Settles (addressOf c) x
+pub settles : (c : LeaseCall) (h : ℕ) (x : Answer (List ℕ)) → x ≡ answerOf c h → Settles (addressOf c) x
 settles c h (result w) e = range-means (addressOf c) (accepted-range c h w (sym e))
 settles c h (refused n) e = tt
 
 -- ---- the token afterwards
 
-pub after-accepted : (c : Call) (h : ℕ) (w : List ℕ) → answerOf c h ≡ result w → heldAfter c h ≡ leaves c h
+pub after-accepted : (c : LeaseCall) (h : ℕ) (w : List ℕ) → answerOf c h ≡ result w → heldAfter c h ≡ leaves c h
 unfolding heldAfter
 after-accepted c h w e = ap (λ (r : Answer (List ℕ)). ifAccepted r (leaves c h) h) e
 
-pub after-refused : (c : Call) (h n : ℕ) → answerOf c h ≡ refused n → heldAfter c h ≡ h
+pub after-refused : (c : LeaseCall) (h n : ℕ) → answerOf c h ≡ refused n → heldAfter c h ≡ h
 unfolding heldAfter
 after-refused c h n e = ap (λ (r : Answer (List ℕ)). ifAccepted r (leaves c h) h) e
 
 -- ---- a call on a table
 
-pub keeps-table : (c : Call) (ts : List ℕ) → heldAfter c (getD ts (addressOf c) 0) ≡ getD ts (addressOf c) 0 → tableAfter c ts ≡ ts
+pub keeps-table : (c : LeaseCall) (ts : List ℕ) → heldAfter c (getD ts (addressOf c) 0) ≡ getD ts (addressOf c) 0 → tableAfter c ts ≡ ts
 keeps-table c ts e = ap (set ts (addressOf c)) e ∙ set-getD ts (addressOf c) 0
 
 -- what was judged and stored is the call
-settled-table : (c : Call) (ts : List ℕ) (h : ℕ) (x : Answer (List ℕ)) → h ≡ getD ts (addressOf c) 0 → x ≡ answerOf c h → settled x (addressOf c) (leaves c h) ts ≡ tableAfter c ts
+settled-table : (c : LeaseCall) (ts : List ℕ) (h : ℕ) (x : Answer (List ℕ)) → h ≡ getD ts (addressOf c) 0 → x ≡ answerOf c h → settled x (addressOf c) (leaves c h) ts ≡ tableAfter c ts
 settled-table c ts h (result w) held e = ap (set ts (addressOf c)) (sym (after-accepted c h w (sym e)) ∙ ap (heldAfter c) held)
 settled-table c ts h (refused n) held e = sym (keeps-table c ts (ap (heldAfter c) (sym held) ∙ after-refused c h n (sym e) ∙ held))
 
-pub table-call : (c : Call) (ts : List ℕ) (h : ℕ) (x a : Answer (List ℕ)) (after : List ℕ) → h ≡ getD ts (addressOf c) 0 → x ≡ answerOf c h
+pub table-call : (c : LeaseCall) (ts : List ℕ) (h : ℕ) (x a : Answer (List ℕ)) (after : List ℕ) → h ≡ getD ts (addressOf c) 0 → x ≡ answerOf c h
     → (a ≡ x) × (after ≡ settled x (addressOf c) (leaves c h) ts) → TableCall c ts a after
 table-call c ts h x a after held e s =
     record { answered = s .0 ∙ e ∙ ap (answerOf c) held; left = s .1 ∙ settled-table c ts h x held e }
@@ -77,12 +78,12 @@ token-lent s a h = numbers-at 8 256 0 s a h ∙ ap (λ (k : ℕ). number 8 k s) 
 pub token-none : (s : List ℕ) (a : ℕ) → 255 < a → getD (tableOf s) a 0 ≡ 0
 token-none s a h = List·getD-eq-default (tableOf s) 0 (omega (arith, length-numbers 8 256 0 s))
 
-pub lent-size : (c : Call) (s : List ℕ) → (length s ≡ 2048 → ⊥) → (refused 18 ≡ lentAnswer c s) × (s ≡ lentAfter c s)
+pub lent-size : (c : LeaseCall) (s : List ℕ) → (length s ≡ 2048 → ⊥) → (refused 18 ≡ lentAnswer c s) × (s ≡ lentAfter c s)
 unfolding lentAnswer lentAfter
 lent-size c s n = (simp (ne-eqb (length s) 2048 n), simp (ne-eqb (length s) 2048 n))
 
-module _ (c : Call) (s : List ℕ) (size : length s ≡ 2048) where
-  pub lent-answer : lentAnswer c s ≡ answerTo c (tableOf s)
+module _ (c : LeaseCall) (s : List ℕ) (size : length s ≡ 2048) where
+  pub lent-answer : lentAnswer c s ≡ tableAnswer c (tableOf s)
   unfolding lentAnswer
   lent-answer = simp (eq-eqb (length s) 2048 size)
 
@@ -121,7 +122,7 @@ stop-short a = by-bool (isStuffed a) (λ y. simp y (omega arith)) (λ n. simp n 
 
 -- an answer and an output are those of a stop, where its answer is x
 abbrev pub Stops : Answer (List ℕ) → List ℕ → Answer ℕ → List ℕ → Type 0
-Stops x out a last = (a ≡ told x) × (last ≡ outAfter x out)
+Stops x out a last = (a ≡ writtenLength x) × (last ≡ outAfter x out)
 
 module _ (a t h : ℕ) (out : List ℕ) where
   pub stop-outside : inRange a ≡ false → Stops (answerOf (stop a t (length out)) h) out (refused 9) out
@@ -147,4 +148,4 @@ module _ (a t h : ℕ) (out : List ℕ) where
 
 -- a stop does what its answer says, whatever that answer is called
 pub stop-by : (x y : Answer (List ℕ)) (out : List ℕ) (a : Answer ℕ) (last : List ℕ) → x ≡ y → Stops x out a last → Stops y out a last
-stop-by x y out a last e d = (d .0 ∙ ap told e, d .1 ∙ ap (λ (r : Answer (List ℕ)). outAfter r out) e)
+stop-by x y out a last e d = (d .0 ∙ ap writtenLength e, d .1 ∙ ap (λ (r : Answer (List ℕ)). outAfter r out) e)

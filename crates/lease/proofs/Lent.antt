@@ -12,10 +12,10 @@ use lib.ListN.{length, getD, set, replicate}
 use lib.Seq.{getD-set-same, set-out, take-all}
 use borrow.Author.Tests.{ltb-true, ltb-false, eqb-true, eqb-false}
 use Rattle.lists.specs.Choice.{pick}
-use Rattle.numbers.specs.Number.{number, numbers, put, pack, Bytes}
+use Rattle.numbers.specs.Number.{number, numbers, put, bytesOfAll, Bytes}
 use Rattle.lists.proofs.Cases.{by-bool}
-use Rattle.numbers.proofs.Numbers.{length-numbers, numbers-put, number-bound, put-out, length-put, put-bytes, pack-numbers, put-before, put-after}
-use Rattle.lease.specs.Lease.{Call, hold, release, stop, addressOf, tokenOf, answerOf, leaves, ifAccepted, heldAfter, answerTo, tableAfter, tableOf, lentAnswer, lentAfter}
+use Rattle.numbers.proofs.Numbers.{length-numbers, numbers-put, number-bound, put-out, length-put, put-bytes, bytes-numbers, put-before, put-after}
+use Rattle.lease.specs.Lease.{LeaseCall, hold, release, stop, addressOf, tokenOf, answerOf, leaves, ifAccepted, heldAfter, tableAnswer, tableAfter, tableOf, lentAnswer, lentAfter}
 use Rattle.answer.specs.Answer.{result, refused, Answer}
 use Rattle.lease.specs.History.{newTable, newBytes, tableOn, answersOn, answersAt, lentOn, lentAnswersOn, lentAnswersAt, Tokens, callsAt, holder}
 use Rattle.lease.proofs.LeaseLaws.{after-refused, token-lent, lent-answer, lent-bytes, lent-size, keeps-table, keeps-lent}
@@ -23,11 +23,11 @@ use Rattle.lease.proofs.Isolation.{isolation}
 
 -- ---- one call
 
-after-bound : (c : Call) (h : ℕ) → tokenOf c < 2 ^ 64 → h < 2 ^ 64 → heldAfter c h < 2 ^ 64
+after-bound : (c : LeaseCall) (h : ℕ) → tokenOf c < 2 ^ 64 → h < 2 ^ 64 → heldAfter c h < 2 ^ 64
 unfolding heldAfter
 after-bound c h b k = by (answerOf c h) (left c b)
   where
-    left : (c : Call) → tokenOf c < 2 ^ 64 → leaves c h < 2 ^ 64
+    left : (c : LeaseCall) → tokenOf c < 2 ^ 64 → leaves c h < 2 ^ 64
     left (hold a t) b = b
     left (release a t) b = omega arith
     left (stop a t room) b = k
@@ -36,7 +36,7 @@ after-bound c h b k = by (answerOf c h) (left c b)
     by (result w) l = l
     by (refused n) l = k
 
-module _ (c : Call) (s : List ℕ) (size : length s ≡ 2048) (bytes : Bytes s) where
+module _ (c : LeaseCall) (s : List ℕ) (size : length s ≡ 2048) (bytes : Bytes s) where
   length-lent : length (lentAfter c s) ≡ 2048
   length-lent =
       ap length (lent-bytes c s size) ∙ length-put 8 (8 * addressOf c) (getD (tableAfter c (tableOf s)) (addressOf c) 0) s ∙ size
@@ -61,14 +61,14 @@ module _ (c : Call) (s : List ℕ) (size : length s ≡ 2048) (bytes : Bytes s) 
       ∙ sym (set-out (tableOf s) a v (omega (arith, length-numbers 8 256 0 s))))
 
 -- whatever the length, bytes stay bytes
-pub bytes-after : (c : Call) (s : List ℕ) → Bytes s → Bytes (lentAfter c s)
+pub bytes-after : (c : LeaseCall) (s : List ℕ) → Bytes s → Bytes (lentAfter c s)
 bytes-after c s b =
     by-bool (eqb (length s) 2048)
     (λ y. bytes-lent c s (eqb-true (length s) 2048 y) b)
     (λ n. subst Bytes (lent-size c s (eqb-false (length s) 2048 n) .1) b)
 
 -- bytes of other addresses are untouched, by any call on any bytes
-pub others-untouched : (c : Call) (s : List ℕ) (i : ℕ) → (i < 8 * addressOf c) ⊎ (8 * addressOf c + 8 ≤ i) → getD (lentAfter c s) i 0 ≡ getD s i 0
+pub others-untouched : (c : LeaseCall) (s : List ℕ) (i : ℕ) → (i < 8 * addressOf c) ⊎ (8 * addressOf c + 8 ≤ i) → getD (lentAfter c s) i 0 ≡ getD s i 0
 unfolding lentAfter
 others-untouched c s i o =
     by-bool (eqb (length s) 2048)
@@ -81,16 +81,16 @@ others-untouched c s i o =
     apart (inr h) = put-after 8 (8 * addressOf c) (getD (tableAfter c (tableOf s)) (addressOf c) 0) s i h
 
 -- bytes packed from the table that they are
-pub packed : (s : List ℕ) → length s ≡ 2048 → Bytes s → pack 8 (tableOf s) ≡ s
-packed s size b = pack-numbers 8 256 0 s b (omega arith) ∙ take-all 2048 s (omega arith)
+pub table-bytes : (s : List ℕ) → length s ≡ 2048 → Bytes s → bytesOfAll 8 (tableOf s) ≡ s
+table-bytes s size b = bytes-numbers 8 256 0 s b (omega arith) ∙ take-all 2048 s (omega arith)
 
 -- One call: the bytes are read as a table, called, and packed again.
-pub lent-one : (c : Call) (s : List ℕ) → length s ≡ 2048 → Bytes s → tokenOf c < 2 ^ 64 → lentAfter c s ≡ pack 8 (tableAfter c (tableOf s))
-lent-one c s size b t = sym (packed (lentAfter c s) (length-lent c s size b) (bytes-lent c s size b)) ∙ ap (pack 8) (table-lent c s size b t)
+pub lent-one : (c : LeaseCall) (s : List ℕ) → length s ≡ 2048 → Bytes s → tokenOf c < 2 ^ 64 → lentAfter c s ≡ bytesOfAll 8 (tableAfter c (tableOf s))
+lent-one c s size b t = sym (table-bytes (lentAfter c s) (length-lent c s size b) (bytes-lent c s size b)) ∙ ap (bytesOfAll 8) (table-lent c s size b t)
 
 -- ---- any list of calls
 
-pub lent-answers : (s : List ℕ) (cs : List Call) → length s ≡ 2048 → Bytes s → Tokens cs → lentAnswersOn s cs ≡ answersOn (tableOf s) cs
+pub lent-answers : (s : List ℕ) (cs : List LeaseCall) → length s ≡ 2048 → Bytes s → Tokens cs → lentAnswersOn s cs ≡ answersOn (tableOf s) cs
 unfolding lentAnswersOn answersOn Tokens
 lent-answers s [] size b ts = refl
 lent-answers s (c ∷ cs) size b ts =
@@ -98,7 +98,7 @@ lent-answers s (c ∷ cs) size b ts =
     (lent-answers (lentAfter c s) cs (length-lent c s size b) (bytes-lent c s size b) (ts .1)
     ∙ ap (λ (us : List ℕ). answersOn us cs) (table-lent c s size b (ts .0)))
 
-pub lent-answers-at : (a : ℕ) (s : List ℕ) (cs : List Call) → length s ≡ 2048 → Bytes s → Tokens cs → lentAnswersAt a s cs ≡ answersAt a (tableOf s) cs
+pub lent-answers-at : (a : ℕ) (s : List ℕ) (cs : List LeaseCall) → length s ≡ 2048 → Bytes s → Tokens cs → lentAnswersAt a s cs ≡ answersAt a (tableOf s) cs
 unfolding lentAnswersAt answersAt Tokens
 lent-answers-at a s [] size b ts = refl
 lent-answers-at a s (c ∷ cs) size b ts =
@@ -107,12 +107,12 @@ lent-answers-at a s (c ∷ cs) size b ts =
     ∙ ap (λ (us : List ℕ). answersAt a us cs) (table-lent c s size b (ts .0)) in
     ap₂ (λ (r : Answer (List ℕ)) (rs : List (Answer (List ℕ))). pick (eqb (addressOf c) a) (r ∷ rs) rs) (lent-answer c s size) rest
 
-pub lent-bytes-on : (s : List ℕ) (cs : List Call) → length s ≡ 2048 → Bytes s → Tokens cs → lentOn s cs ≡ pack 8 (tableOn (tableOf s) cs)
+pub lent-bytes-on : (s : List ℕ) (cs : List LeaseCall) → length s ≡ 2048 → Bytes s → Tokens cs → lentOn s cs ≡ bytesOfAll 8 (tableOn (tableOf s) cs)
 unfolding lentOn tableOn Tokens
-lent-bytes-on s [] size b ts = sym (packed s size b)
+lent-bytes-on s [] size b ts = sym (table-bytes s size b)
 lent-bytes-on s (c ∷ cs) size b ts =
     lent-bytes-on (lentAfter c s) cs (length-lent c s size b) (bytes-lent c s size b) (ts .1)
-    ∙ ap (λ (us : List ℕ). pack 8 (tableOn us cs)) (table-lent c s size b (ts .0))
+    ∙ ap (λ (us : List ℕ). bytesOfAll 8 (tableOn us cs)) (table-lent c s size b (ts .0))
 
 -- ---- all 00 at the start
 
@@ -148,13 +148,13 @@ unfolding heldAfter
 stop-held a t room h = same-answer (answerOf (stop a t room) h) h
 
 -- a refusal, of any call, changes no token and no byte; a stop never does
-pub refused-table : (c : Call) (ts : List ℕ) (n : ℕ) → answerTo c ts ≡ refused n → tableAfter c ts ≡ ts
+pub refused-table : (c : LeaseCall) (ts : List ℕ) (n : ℕ) → tableAnswer c ts ≡ refused n → tableAfter c ts ≡ ts
 refused-table c ts n e = keeps-table c ts (after-refused c (getD ts (addressOf c) 0) n e)
 
 pub stop-table : (a t room : ℕ) (ts : List ℕ) → tableAfter (stop a t room) ts ≡ ts
 stop-table a t room ts = keeps-table (stop a t room) ts (stop-held a t room (getD ts a 0))
 
-pub refused-lent : (c : Call) (s : List ℕ) (n : ℕ) → Bytes s → lentAnswer c s ≡ refused n → lentAfter c s ≡ s
+pub refused-lent : (c : LeaseCall) (s : List ℕ) (n : ℕ) → Bytes s → lentAnswer c s ≡ refused n → lentAfter c s ≡ s
 refused-lent c s n b e =
     by-bool (eqb (length s) 2048)
     (λ y. keeps-lent c s (eqb-true (length s) 2048 y) b (after-refused c (getD (tableOf s) (addressOf c) 0) n (sym (lent-answer c s (eqb-true (length s) 2048 y)) ∙ e)))
@@ -167,7 +167,7 @@ stop-lent a t room s b =
     (λ n. sym (lent-size (stop a t room) s (eqb-false (length s) 2048 n) .1))
 
 -- 18, and nothing else, for bytes of another length
-pub wrong-size : (s : List ℕ) (cs : List Call) → (length s ≡ 2048 → ⊥) → (lentAnswersOn s cs ≡ map (λ c. refused 18) cs) × (lentOn s cs ≡ s)
+pub wrong-size : (s : List ℕ) (cs : List LeaseCall) → (length s ≡ 2048 → ⊥) → (lentAnswersOn s cs ≡ map (λ c. refused 18) cs) × (lentOn s cs ≡ s)
 unfolding lentAnswersOn lentOn
 wrong-size s [] n = (refl, refl)
 wrong-size s (c ∷ cs) n =
@@ -179,7 +179,7 @@ wrong-size s (c ∷ cs) n =
 
 -- ---- the bytes of a new table
 
-table-on : (s : List ℕ) (cs : List Call) → length s ≡ 2048 → Bytes s → Tokens cs → (tableOf (lentOn s cs) ≡ tableOn (tableOf s) cs) × (length (lentOn s cs) ≡ 2048)
+table-on : (s : List ℕ) (cs : List LeaseCall) → length s ≡ 2048 → Bytes s → Tokens cs → (tableOf (lentOn s cs) ≡ tableOn (tableOf s) cs) × (length (lentOn s cs) ≡ 2048)
 unfolding lentOn tableOn Tokens
 table-on s [] size b ts = (refl, size)
 table-on s (c ∷ cs) size b ts =
@@ -187,18 +187,18 @@ table-on s (c ∷ cs) size b ts =
     (k .0 ∙ ap (λ (us : List ℕ). tableOn us cs) (table-lent c s size b (ts .0)), k .1)
 
 -- After any calls on the bytes of a new table, every call is answered as a new table answers it after those calls.
-pub lent-as-table : (c : Call) (cs : List Call) → Tokens cs → lentAnswer c (lentOn newBytes cs) ≡ answerTo c (tableOn newTable cs)
+pub lent-as-table : (c : LeaseCall) (cs : List LeaseCall) → Tokens cs → lentAnswer c (lentOn newBytes cs) ≡ tableAnswer c (tableOn newTable cs)
 lent-as-table c cs ts =
     let k = table-on newBytes cs refl new-bytes ts in
-    lent-answer c (lentOn newBytes cs) (k .1) ∙ ap (answerTo c) (k .0 ∙ ap (λ (us : List ℕ). tableOn us cs) new-table)
+    lent-answer c (lentOn newBytes cs) (k .1) ∙ ap (tableAnswer c) (k .0 ∙ ap (λ (us : List ℕ). tableOn us cs) new-table)
 
 -- The token in an address's bytes is that of the last accepted hold not released since.
-pub lent-history : (a : ℕ) (cs : List Call) → Tokens cs → getD (tableOf (lentOn newBytes cs)) a 0 ≡ holder a cs
+pub lent-history : (a : ℕ) (cs : List LeaseCall) → Tokens cs → getD (tableOf (lentOn newBytes cs)) a 0 ≡ holder a cs
 lent-history a cs ts =
     ap (λ (us : List ℕ). getD us a 0) (table-on newBytes cs refl new-bytes ts .0 ∙ ap (λ (us : List ℕ). tableOn us cs) new-table) ∙ history a cs
 
 -- A stop writes exactly for the holder.
-pub lent-stop-exactly : (cs : List Call) (a t room : ℕ) (w : List ℕ) → Tokens cs
+pub lent-stop-exactly : (cs : List LeaseCall) (a t room : ℕ) (w : List ℕ) → Tokens cs
     → (lentAnswer (stop a t room) (lentOn newBytes cs) ≡ result w → Sends a t room (holder a cs) w)
     × (Sends a t room (holder a cs) w → lentAnswer (stop a t room) (lentOn newBytes cs) ≡ result w)
 lent-stop-exactly cs a t room w ts =
@@ -207,7 +207,7 @@ lent-stop-exactly cs a t room w ts =
     ((λ q. k .0 (sym e ∙ q)), (λ s. e ∙ k .1 s))
 
 -- Nothing tells a wrong token from a free address.
-pub lent-wrong-or-free : (a t room : ℕ) (cs ds : List Call) → Tokens cs → Tokens ds → (holder a cs ≡ t → ⊥) → holder a ds ≡ 0
+pub lent-wrong-or-free : (a t room : ℕ) (cs ds : List LeaseCall) → Tokens cs → Tokens ds → (holder a cs ≡ t → ⊥) → holder a ds ≡ 0
     → (lentAnswer (release a t) (lentOn newBytes cs) ≡ lentAnswer (release a t) (lentOn newBytes ds))
     × (lentAnswer (stop a t room) (lentOn newBytes cs) ≡ lentAnswer (stop a t room) (lentOn newBytes ds))
 lent-wrong-or-free a t room cs ds ts us n f =
@@ -219,10 +219,10 @@ lent-wrong-or-free a t room cs ds ts us n f =
 -- ---- isolation
 
 -- Two lists of calls on the bytes of a new table that agree on one address's calls give that address equal answers.
-pub lent-isolation : (a : ℕ) (cs ds : List Call) → Tokens cs → Tokens ds → callsAt a cs ≡ callsAt a ds
+pub lent-isolation : (a : ℕ) (cs ds : List LeaseCall) → Tokens cs → Tokens ds → callsAt a cs ≡ callsAt a ds
     → lentAnswersAt a newBytes cs ≡ lentAnswersAt a newBytes ds
 lent-isolation a cs ds t u e =
     at cs t ∙ isolation a cs ds e ∙ sym (at ds u)
   where
-    at : (l : List Call) → Tokens l → lentAnswersAt a newBytes l ≡ answersAt a newTable l
+    at : (l : List LeaseCall) → Tokens l → lentAnswersAt a newBytes l ≡ answersAt a newTable l
     at l t = lent-answers-at a newBytes l refl new-bytes t ∙ ap (λ (us : List ℕ). answersAt a us l) new-table

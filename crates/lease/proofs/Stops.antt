@@ -9,7 +9,7 @@ use lib.ListN.{length, getD}
 use borrow.Author.Tests.{leb-true, eqb-true, eqb-false, le-leb, eq-eqb, ne-eqb}
 use Rattle.lists.specs.Choice.{pick}
 use Rattle.lists.proofs.Cases.{by-bool}
-use Rattle.lease.specs.Lease.{Call, hold, release, stop, inRange, owns, stopFrame, answerOf, answerTo}
+use Rattle.lease.specs.Lease.{LeaseCall, hold, release, stop, inRange, owns, stopFrame, answerOf, tableAnswer}
 use Rattle.answer.specs.Answer.{result, refused}
 use Rattle.lease.specs.History.{newTable, tableOn, takes, frees, holderFrom, holder}
 use Rattle.lease.proofs.HistoryLaws.{history, holder-append, held-exactly}
@@ -51,9 +51,9 @@ sent a t room h w y s =
     (simp (y, means-owner t h (s .token) (s .holder-is), le-leb (length (stopFrame a)) room (s .room-is))) ∙ ap result (sym (s .frame))
 
 -- after any calls on a new table a stop writes w exactly when w is the address's stop frame, there is room, and the token is the holder's
-pub stop-exactly : (cs : List Call) (a t room : ℕ) (w : List ℕ)
-    → (answerTo (stop a t room) (tableOn newTable cs) ≡ result w → Sends a t room (holder a cs) w)
-    × (Sends a t room (holder a cs) w → answerTo (stop a t room) (tableOn newTable cs) ≡ result w)
+pub stop-exactly : (cs : List LeaseCall) (a t room : ℕ) (w : List ℕ)
+    → (tableAnswer (stop a t room) (tableOn newTable cs) ≡ result w → Sends a t room (holder a cs) w)
+    × (Sends a t room (holder a cs) w → tableAnswer (stop a t room) (tableOn newTable cs) ≡ result w)
 stop-exactly cs a t room w = (
   (λ e. sends a t room (holder a cs) w (sym (ap (answerOf (stop a t room)) (history a cs)) ∙ e)),
   (λ s. let f = held-exactly a t cs (s .token) .0 (s .holder-is) in
@@ -77,9 +77,9 @@ unfolding answerOf
 stop-alike a t room h n = simp (not-owner t h n, free-owner t)
 
 -- after any calls at which t is not the holder's token, and after any at which the address is free, release and stop answer the same
-pub wrong-or-free : (a t room : ℕ) (cs ds : List Call) → (holder a cs ≡ t → ⊥) → holder a ds ≡ 0
-    → (answerTo (release a t) (tableOn newTable cs) ≡ answerTo (release a t) (tableOn newTable ds))
-    × (answerTo (stop a t room) (tableOn newTable cs) ≡ answerTo (stop a t room) (tableOn newTable ds))
+pub wrong-or-free : (a t room : ℕ) (cs ds : List LeaseCall) → (holder a cs ≡ t → ⊥) → holder a ds ≡ 0
+    → (tableAnswer (release a t) (tableOn newTable cs) ≡ tableAnswer (release a t) (tableOn newTable ds))
+    × (tableAnswer (stop a t room) (tableOn newTable cs) ≡ tableAnswer (stop a t room) (tableOn newTable ds))
 wrong-or-free a t room cs ds n f =
     let wrong : getD (tableOn newTable cs) a 0 ≡ t → ⊥ = λ q. n (sym (history a cs) ∙ q) in
     let free : getD (tableOn newTable ds) a 0 ≡ 0 = history a ds ∙ f in (
@@ -102,7 +102,7 @@ held-holder a u r n =
     ap (λ (x : Bool). pick x u 0) q
 
 -- the holders after the release and after the hold
-holders-again : (a t u : ℕ) (cs : List Call) → (t ≡ 0 → ⊥) → (u ≡ 0 → ⊥) → holder a cs ≡ t
+holders-again : (a t u : ℕ) (cs : List LeaseCall) → (t ≡ 0 → ⊥) → (u ≡ 0 → ⊥) → holder a cs ≡ t
     → (inRange a ≡ true) × (holder a (cs ++ (release a t ∷ [])) ≡ 0) × (holder a (cs ++ (release a t ∷ hold a u ∷ [])) ≡ u)
 unfolding holderFrom
 holders-again a t u cs n m e =
@@ -117,14 +117,14 @@ holders-again a t u cs n m e =
     )
 
 -- The holder t releases and any token u then holds: both calls are accepted, and after them a stop is written exactly for u.
-pub record HeldAgain (a t u : ℕ) (cs : List Call) : Type 0 where
-  pub releases : answerTo (release a t) (tableOn newTable cs) ≡ result []
-  pub holds : answerTo (hold a u) (tableOn newTable (cs ++ (release a t ∷ []))) ≡ result []
+pub record HeldAgain (a t u : ℕ) (cs : List LeaseCall) : Type 0 where
+  pub releases : tableAnswer (release a t) (tableOn newTable cs) ≡ result []
+  pub holds : tableAnswer (hold a u) (tableOn newTable (cs ++ (release a t ∷ []))) ≡ result []
   pub stops : (v room : ℕ) (w : List ℕ)
-      → (answerTo (stop a v room) (tableOn newTable (cs ++ (release a t ∷ hold a u ∷ []))) ≡ result w → Sends a v room u w)
-      × (Sends a v room u w → answerTo (stop a v room) (tableOn newTable (cs ++ (release a t ∷ hold a u ∷ []))) ≡ result w)
+      → (tableAnswer (stop a v room) (tableOn newTable (cs ++ (release a t ∷ hold a u ∷ []))) ≡ result w → Sends a v room u w)
+      × (Sends a v room u w → tableAnswer (stop a v room) (tableOn newTable (cs ++ (release a t ∷ hold a u ∷ []))) ≡ result w)
 
-pub held-again : (a t u : ℕ) (cs : List Call) → (t ≡ 0 → ⊥) → (u ≡ 0 → ⊥) → holder a cs ≡ t → HeldAgain a t u cs
+pub held-again : (a t u : ℕ) (cs : List LeaseCall) → (t ≡ 0 → ⊥) → (u ≡ 0 → ⊥) → holder a cs ≡ t → HeldAgain a t u cs
 unfolding answerOf
 held-again a t u cs n m e =
     let k = holders-again a t u cs n m e in
@@ -132,5 +132,5 @@ held-again a t u cs n m e =
     record {
       releases = ap (answerOf (release a t)) (history a cs ∙ e) ∙ simp (k .0, means-owner t t n refl);
       holds = ap (answerOf (hold a u)) (history a (cs ++ (release a t ∷ [])) ∙ k .1) ∙ simp (k .0, ne-eqb u 0 m);
-      stops = λ v room w. subst (λ (h : ℕ). (answerTo (stop a v room) (tableOn newTable all) ≡ result w → Sends a v room h w) × (Sends a v room h w → answerTo (stop a v room) (tableOn newTable all) ≡ result w)) (k .2) (stop-exactly all a v room w);
+      stops = λ v room w. subst (λ (h : ℕ). (tableAnswer (stop a v room) (tableOn newTable all) ≡ result w → Sends a v room h w) × (Sends a v room h w → tableAnswer (stop a v room) (tableOn newTable all) ≡ result w)) (k .2) (stop-exactly all a v room w);
     }

@@ -4,17 +4,17 @@ use mathlib.Core.List.{List, [], _++_}
 use lib.ListN.{length, drop}
 use Rattle.answer.specs.Answer.{Answer, result, refused, through}
 use Rattle.answer.specs.Refusals.{numberOf}
-use Rattle.lease.specs.declared.Outcome.{Outcome}
-use Rattle.lease.specs.declared.Outcome.the-variants.{Done, Refused}
+use Rattle.lease.specs.declared.LeaseAnswer.{LeaseAnswer}
+use Rattle.lease.specs.declared.LeaseAnswer.the-variants.{Done, Refused}
 
 -- Hold and release write nothing.
-abbrev pub outcomeMeans : Outcome → Answer (List ℕ)
-outcomeMeans Done = result []
-outcomeMeans (Refused why) = refused (numberOf why)
+abbrev pub leaseMeans : LeaseAnswer → Answer (List ℕ)
+leaseMeans Done = result []
+leaseMeans (Refused why) = refused (numberOf why)
 
 -- A stop tells the length of what it wrote.
-abbrev pub told : Answer (List ℕ) → Answer ℕ
-told a = through length a
+abbrev pub writtenLength : Answer (List ℕ) → Answer ℕ
+writtenLength a = through length a
 
 abbrev pub writtenIn : Answer (List ℕ) → List ℕ
 writtenIn (result w) = w

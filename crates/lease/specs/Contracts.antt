@@ -4,19 +4,19 @@ use mathlib.Core.Path.{_≡_}
 use mathlib.Core.List.{List}
 use lib.ListN.{length, set}
 use Rattle.numbers.specs.Number.{Bytes, put}
-use Rattle.lease.specs.Lease.{Call, stop, tokenOf, answerTo, tableAfter, lentAnswer, lentAfter}
+use Rattle.lease.specs.Lease.{LeaseCall, stop, tokenOf, tableAnswer, tableAfter, lentAnswer, lentAfter}
 use Rattle.answer.specs.Answer.{result, refused, Answer}
-use Rattle.lease.specs.Answers.{told, outAfter}
+use Rattle.lease.specs.Answers.{writtenLength, outAfter}
 
 -- Hold and release on a table: the answer, and the table afterwards.
-pub record TableCall (c : Call) (tokens : List ℕ) (answer : Answer (List ℕ)) (after : List ℕ) : Type 0 where
-  pub answered : answer ≡ answerTo c tokens
+pub record TableCall (c : LeaseCall) (tokens : List ℕ) (answer : Answer (List ℕ)) (after : List ℕ) : Type 0 where
+  pub answered : answer ≡ tableAnswer c tokens
   pub left : after ≡ tableAfter c tokens
 
 -- Stop on a table: the answer, and the output afterwards.
 pub record TableStop (address token : ℕ) (tokens out : List ℕ) (answer : Answer ℕ) (last : List ℕ) : Type 0 where
-  pub answered : answer ≡ told (answerTo (stop address token (length out)) tokens)
-  pub written : last ≡ outAfter (answerTo (stop address token (length out)) tokens) out
+  pub answered : answer ≡ writtenLength (tableAnswer (stop address token (length out)) tokens)
+  pub written : last ≡ outAfter (tableAnswer (stop address token (length out)) tokens) out
 
 -- What every real call on lent bytes gives by itself: the elements are bytes, and the token has 64 bits.
 pub record Real (token : ℕ) (table : List ℕ) : Type 0 where
@@ -24,28 +24,13 @@ pub record Real (token : ℕ) (table : List ℕ) : Type 0 where
   pub fits : token < 2 ^ 64
 
 -- Hold and release on lent bytes: the answer, and all bytes afterwards.
-pub record LentCall (c : Call) (table : List ℕ) (answer : Answer (List ℕ)) (after : List ℕ) : Type 0 where
+pub record LentCall (c : LeaseCall) (table : List ℕ) (answer : Answer (List ℕ)) (after : List ℕ) : Type 0 where
   pub answered : answer ≡ lentAnswer c table
   pub left : after ≡ lentAfter c table
   pub real : Real (tokenOf c) table
 
 -- Stop on lent bytes, which stay as they were: the answer, and the output afterwards.
 pub record LentStop (address token : ℕ) (table out : List ℕ) (answer : Answer ℕ) (last : List ℕ) : Type 0 where
-  pub answered : answer ≡ told (lentAnswer (stop address token (length out)) table)
+  pub answered : answer ≡ writtenLength (lentAnswer (stop address token (length out)) table)
   pub written : last ≡ outAfter (lentAnswer (stop address token (length out)) table) out
   pub real : Real token table
-
--- ---- the store of hold and release
-
--- An accepted call has an address of a machine or a console.
-abbrev pub Settles : ℕ → Answer (List ℕ) → Type 0
-Settles address (result w) = (1 ≤ address) × (address ≤ 252)
-Settles address (refused n) = Unit {0}
-
-abbrev pub settled : Answer (List ℕ) → (address token : ℕ) → List ℕ → List ℕ
-settled (result w) address token tokens = set tokens address token
-settled (refused n) address token tokens = tokens
-
-abbrev pub settledLent : Answer (List ℕ) → (address token : ℕ) → List ℕ → List ℕ
-settledLent (result w) address token table = put 8 (8 * address) token table
-settledLent (refused n) address token table = table

@@ -10,17 +10,17 @@ use Rattle.frame.specs.Frame.{wireOf, extended}
 use Rattle.numbers.specs.Number.{numbers, put}
 
 -- A call, with the length of the output that a stop is lent.
-pub data Call : Type 0 where
-  hold : (address token : ℕ) → Call
-  release : (address token : ℕ) → Call
-  stop : (address token room : ℕ) → Call
+pub data LeaseCall : Type 0 where
+  hold : (address token : ℕ) → LeaseCall
+  release : (address token : ℕ) → LeaseCall
+  stop : (address token room : ℕ) → LeaseCall
 
-abbrev pub addressOf : Call → ℕ
+abbrev pub addressOf : LeaseCall → ℕ
 addressOf (hold a t) = a
 addressOf (release a t) = a
 addressOf (stop a t room) = a
 
-abbrev pub tokenOf : Call → ℕ
+abbrev pub tokenOf : LeaseCall → ℕ
 tokenOf (hold a t) = t
 tokenOf (release a t) = t
 tokenOf (stop a t room) = t
@@ -39,7 +39,7 @@ stopFrame a = wireOf (extended a 0x00 (0x76 ∷ 0x04 ∷ 0x13 ∷ 0x02 ∷ 0x01 
 
 -- The answer, where `held` is the token at the call's address, 0 for free: the bytes that are written, which only a stop has, or a refusal.
 -- Hold 9, 14, 10; release 9, 11; stop 9, 11, 1.
-unfoldable pub answerOf : Call → (held : ℕ) → Answer (List ℕ)
+unfoldable pub answerOf : LeaseCall → (held : ℕ) → Answer (List ℕ)
 answerOf (hold a t) held = pick (inRange a) (pick (eqb t 0) (refused 14) (pick (eqb held 0) (result []) (refused 10))) (refused 9)
 answerOf (release a t) held = pick (inRange a) (pick (owns t held) (result []) (refused 11)) (refused 9)
 answerOf (stop a t room) held =
@@ -48,7 +48,7 @@ answerOf (stop a t room) held =
     (refused 9)
 
 -- What an accepted call leaves at its address.
-abbrev pub leaves : Call → (held : ℕ) → ℕ
+abbrev pub leaves : LeaseCall → (held : ℕ) → ℕ
 leaves (hold a t) held = t
 leaves (release a t) held = 0
 leaves (stop a t room) held = held
@@ -58,16 +58,16 @@ ifAccepted (result w) new old = new
 ifAccepted (refused n) new old = old
 
 -- The token at the call's address afterwards.
-unfoldable pub heldAfter : Call → (held : ℕ) → ℕ
+unfoldable pub heldAfter : LeaseCall → (held : ℕ) → ℕ
 heldAfter c held = ifAccepted (answerOf c held) (leaves c held) held
 
 -- ---- a table: a list of 256 tokens
 
-abbrev pub answerTo : Call → List ℕ → Answer (List ℕ)
-answerTo c tokens = answerOf c (getD tokens (addressOf c) 0)
+abbrev pub tableAnswer : LeaseCall → List ℕ → Answer (List ℕ)
+tableAnswer c tokens = answerOf c (getD tokens (addressOf c) 0)
 
 -- The table afterwards: only the call's address may have changed.
-abbrev pub tableAfter : Call → List ℕ → List ℕ
+abbrev pub tableAfter : LeaseCall → List ℕ → List ℕ
 tableAfter c tokens = set tokens (addressOf c) (heldAfter c (getD tokens (addressOf c) 0))
 
 -- ---- lent bytes: eight for each address in order, lowest first
@@ -76,10 +76,10 @@ abbrev pub tableOf : List ℕ → List ℕ
 tableOf bytes = numbers 8 256 0 bytes
 
 -- 18 before everything else, then as the table that the bytes are.
-unfoldable pub lentAnswer : Call → List ℕ → Answer (List ℕ)
-lentAnswer c bytes = pick (eqb (length bytes) 2048) (answerTo c (tableOf bytes)) (refused 18)
+unfoldable pub lentAnswer : LeaseCall → List ℕ → Answer (List ℕ)
+lentAnswer c bytes = pick (eqb (length bytes) 2048) (tableAnswer c (tableOf bytes)) (refused 18)
 
 -- The address's own eight bytes are those of its token in the table afterwards.
-unfoldable pub lentAfter : Call → List ℕ → List ℕ
+unfoldable pub lentAfter : LeaseCall → List ℕ → List ℕ
 lentAfter c bytes =
     pick (eqb (length bytes) 2048) (put 8 (8 * addressOf c) (getD (tableAfter c (tableOf bytes)) (addressOf c) 0) bytes) bytes

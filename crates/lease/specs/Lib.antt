@@ -1,4 +1,5 @@
 pub mod Lease
 pub mod Answers
 pub mod Contracts
+pub mod Private
 pub mod History

@@ -9,8 +9,9 @@ ghost use lib.ListN.{length, replicate};
 ghost use Prim.Native.Nat.{_≤_};
 ghost use Rattle.answer.specs.Draft.{writtenMeans};
 ghost use Rattle.lease.specs.Lease.{hold, release, stop, answerOf, inRange, owns};
-ghost use Rattle.lease.specs.Answers.{outcomeMeans, told, outAfter};
-ghost use Rattle.lease.specs.Contracts.{TableCall, TableStop, LentCall, LentStop, Settles, settled, settledLent};
+ghost use Rattle.lease.specs.Answers.{leaseMeans, writtenLength, outAfter};
+ghost use Rattle.lease.specs.Contracts.{TableCall, TableStop, LentCall, LentStop};
+ghost use Rattle.lease.specs.Private.{Settles, settled, settledLent};
 
 // The lowest and the highest address of a machine or a console.
 const FIRST: u32 = 0x01;
@@ -24,7 +25,7 @@ const TABLE_BYTES: usize = 2048;
 const FREE: u64 = 0;
 
 // What hold and release answer.
-pub enum Outcome {
+pub enum LeaseAnswer {
     Done,
     Refused(Refusal),
 }
@@ -36,7 +37,7 @@ pub struct LeaseTable {
 
 // An answer, and the table afterwards.
 pub struct Leased {
-    pub outcome: Outcome,
+    pub outcome: LeaseAnswer,
     pub table: LeaseTable,
 }
 
@@ -52,7 +53,7 @@ impl LeaseTable {
 
     // Takes a free address. Refusals 9, 14 and 10.
     pub fn hold(self, address: u32, token: u64) -> Leased
-        ensures { λ r. ⌜ TableCall (hold address token) (self .tokens) (outcomeMeans (r .outcome)) (r .table .tokens) ⌝ }
+        ensures { λ r. ⌜ TableCall (hold address token) (self .tokens) (leaseMeans (r .outcome)) (r .table .tokens) ⌝ }
     {
         let held = tokens::token_at(&self.tokens, address);
         let outcome = judge_hold(address, token, held);
@@ -61,7 +62,7 @@ impl LeaseTable {
 
     // Frees an address for its holder. Refusals 9 and 11.
     pub fn release(self, address: u32, token: u64) -> Leased
-        ensures { λ r. ⌜ TableCall (release address token) (self .tokens) (outcomeMeans (r .outcome)) (r .table .tokens) ⌝ }
+        ensures { λ r. ⌜ TableCall (release address token) (self .tokens) (leaseMeans (r .outcome)) (r .table .tokens) ⌝ }
     {
         let held = tokens::token_at(&self.tokens, address);
         let outcome = judge_release(address, token, held);
@@ -78,11 +79,11 @@ impl LeaseTable {
 }
 
 // As `LeaseTable::hold`, on the bytes of a table. Refusal 18 comes first.
-pub fn hold_lent(table: &mut [u8], address: u32, token: u64) -> Outcome
-    ensures { λ r. ⌜ LentCall (hold address token) (now (table .entry)) (outcomeMeans r) (now (table .exit)) ⌝ }
+pub fn hold_lent(table: &mut [u8], address: u32, token: u64) -> LeaseAnswer
+    ensures { λ r. ⌜ LentCall (hold address token) (now (table .entry)) (leaseMeans r) (now (table .exit)) ⌝ }
 {
     if table.len() != TABLE_BYTES {
-        return Outcome::Refused(Refusal::BadTable);
+        return LeaseAnswer::Refused(Refusal::BadTable);
     }
     let held = tokens::token_in(table, address);
     let outcome = judge_hold(address, token, held);
@@ -90,11 +91,11 @@ pub fn hold_lent(table: &mut [u8], address: u32, token: u64) -> Outcome
 }
 
 // As `LeaseTable::release`, on the bytes of a table. Refusal 18 comes first.
-pub fn release_lent(table: &mut [u8], address: u32, token: u64) -> Outcome
-    ensures { λ r. ⌜ LentCall (release address token) (now (table .entry)) (outcomeMeans r) (now (table .exit)) ⌝ }
+pub fn release_lent(table: &mut [u8], address: u32, token: u64) -> LeaseAnswer
+    ensures { λ r. ⌜ LentCall (release address token) (now (table .entry)) (leaseMeans r) (now (table .exit)) ⌝ }
 {
     if table.len() != TABLE_BYTES {
-        return Outcome::Refused(Refusal::BadTable);
+        return LeaseAnswer::Refused(Refusal::BadTable);
     }
     let held = tokens::token_in(table, address);
     let outcome = judge_release(address, token, held);
@@ -131,37 +132,37 @@ fn is_holder(token: u64, held: u64) -> bool
 }
 
 // What hold answers where `held` is the address's token.
-fn judge_hold(address: u32, token: u64, held: u64) -> Outcome
-    ensures { λ r. ⌜ outcomeMeans r ≡ answerOf (hold address token) held ⌝ }
+fn judge_hold(address: u32, token: u64, held: u64) -> LeaseAnswer
+    ensures { λ r. ⌜ leaseMeans r ≡ answerOf (hold address token) held ⌝ }
 {
     if !in_range(address) {
-        return Outcome::Refused(Refusal::BadAddress);
+        return LeaseAnswer::Refused(Refusal::BadAddress);
     }
     if token == FREE {
-        return Outcome::Refused(Refusal::ZeroToken);
+        return LeaseAnswer::Refused(Refusal::ZeroToken);
     }
     if held != FREE {
-        return Outcome::Refused(Refusal::AlreadyHeld);
+        return LeaseAnswer::Refused(Refusal::AlreadyHeld);
     }
-    Outcome::Done
+    LeaseAnswer::Done
 }
 
 // What release answers where `held` is the address's token.
-fn judge_release(address: u32, token: u64, held: u64) -> Outcome
-    ensures { λ r. ⌜ outcomeMeans r ≡ answerOf (release address token) held ⌝ }
+fn judge_release(address: u32, token: u64, held: u64) -> LeaseAnswer
+    ensures { λ r. ⌜ leaseMeans r ≡ answerOf (release address token) held ⌝ }
 {
     if !in_range(address) {
-        return Outcome::Refused(Refusal::BadAddress);
+        return LeaseAnswer::Refused(Refusal::BadAddress);
     }
     if !is_holder(token, held) {
-        return Outcome::Refused(Refusal::NotHolder);
+        return LeaseAnswer::Refused(Refusal::NotHolder);
     }
-    Outcome::Done
+    LeaseAnswer::Done
 }
 
 // Writes the stop frame where `held` is the address's token and the caller has it.
 fn write_stop(address: u32, token: u64, held: u64, out: &mut [u8]) -> Written
-    ensures { λ r. ⌜ writtenMeans r ≡ told (answerOf (stop address token (length (now (out .entry)))) held) ⌝ }
+    ensures { λ r. ⌜ writtenMeans r ≡ writtenLength (answerOf (stop address token (length (now (out .entry)))) held) ⌝ }
     ensures { λ r. ⌜ now (out .exit) ≡ outAfter (answerOf (stop address token (length (now (out .entry)))) held) (now (out .entry)) ⌝ }
 {
     if !in_range(address) {
@@ -175,39 +176,39 @@ fn write_stop(address: u32, token: u64, held: u64, out: &mut [u8]) -> Written
 }
 
 // The store of hold and of release: an accepted call leaves `token` at the address.
-fn settle(mut table: LeaseTable, outcome: Outcome, address: u32, token: u64) -> Leased
-    requires { ⌜ Settles address (outcomeMeans outcome) ⌝ }
-    ensures { λ r. ⌜ (outcomeMeans (r .outcome) ≡ outcomeMeans outcome) × (r .table .tokens ≡ settled (outcomeMeans outcome) address token (table .tokens)) ⌝ }
+fn settle(mut table: LeaseTable, outcome: LeaseAnswer, address: u32, token: u64) -> Leased
+    requires { ⌜ Settles address (leaseMeans outcome) ⌝ }
+    ensures { λ r. ⌜ (leaseMeans (r .outcome) ≡ leaseMeans outcome) × (r .table .tokens ≡ settled (leaseMeans outcome) address token (table .tokens)) ⌝ }
 {
     match outcome {
-        Outcome::Done => {
+        LeaseAnswer::Done => {
             let at = address as usize;
             table.tokens[at] = token;
             Leased {
-                outcome: Outcome::Done,
+                outcome: LeaseAnswer::Done,
                 table,
             }
         }
-        Outcome::Refused(why) => Leased {
-            outcome: Outcome::Refused(why),
+        LeaseAnswer::Refused(why) => Leased {
+            outcome: LeaseAnswer::Refused(why),
             table,
         },
     }
 }
 
 // The same on the bytes of a table.
-fn settle_lent(table: &mut [u8], outcome: Outcome, address: u32, token: u64) -> Outcome
+fn settle_lent(table: &mut [u8], outcome: LeaseAnswer, address: u32, token: u64) -> LeaseAnswer
     requires { ⌜ length (now table) ≡ 2048 ⌝ }
-    requires { ⌜ Settles address (outcomeMeans outcome) ⌝ }
-    ensures { λ r. ⌜ outcomeMeans r ≡ outcomeMeans outcome ⌝ }
-    ensures { λ r. ⌜ now (table .exit) ≡ settledLent (outcomeMeans outcome) address token (now (table .entry)) ⌝ }
+    requires { ⌜ Settles address (leaseMeans outcome) ⌝ }
+    ensures { λ r. ⌜ leaseMeans r ≡ leaseMeans outcome ⌝ }
+    ensures { λ r. ⌜ now (table .exit) ≡ settledLent (leaseMeans outcome) address token (now (table .entry)) ⌝ }
 {
     match outcome {
-        Outcome::Done => {
+        LeaseAnswer::Done => {
             let at = address as usize;
             tokens::put_token(table, 8 * at, token);
-            Outcome::Done
+            LeaseAnswer::Done
         }
-        Outcome::Refused(why) => Outcome::Refused(why),
+        LeaseAnswer::Refused(why) => LeaseAnswer::Refused(why),
     }
 }

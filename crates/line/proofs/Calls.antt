@@ -10,7 +10,8 @@ use lib.ListN.{take, drop}
 use contract.Lifetimes.{Lfts}
 use denote.Ref.{RefT}
 use Rattle.lists.specs.Choice.{pick}
-use Rattle.framing.specs.Reference.{Call, byte, finish, Reference, run, starts}
+use Rattle.framing.specs.Reference.{Call, byte, finish, Reference, starts}
+use Rattle.lists.specs.Machine.{run}
 use Rattle.answer.specs.Answer.{result, refused}
 use Rattle.frame.specs.Verdict.{judge}
 use Rattle.frame.specs.Answers.{standardOutline, extendedOutline, judgeAnswer, frameRead}

@@ -6,7 +6,8 @@ use native.Mathlib.Omega.{arith}
 use lib.ListN.{length, drop}
 use Prim.Native.Nat.{ℕ, suc, _+_}
 use Rattle.lists.specs.Choice.{pick}
-use Rattle.framing.specs.Reference.{Reference, run}
+use Rattle.framing.specs.Reference.{Reference}
+use Rattle.lists.specs.Machine.{run}
 use Rattle.framing.specs.Demand3.{feed}
 use Rattle.line.specs.Outcome.{Outcome}
 use Rattle.line.specs.Reader.{Turn, reader, stepOf}

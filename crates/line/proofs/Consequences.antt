@@ -3,7 +3,8 @@ use mathlib.Core.Path.{_≡_, refl, sym, subst}
 use mathlib.Core.List.{List, [], _∷_, _++_}
 use native.Mathlib.Omega.{arith}
 use Prim.Native.Nat.{ℕ, _+_}
-use Rattle.framing.specs.Reference.{Call, byte, finish, Role, starts, stops, plain, Candidate, none, opened, byteAnswer, answerTo, after, run}
+use Rattle.framing.specs.Reference.{Call, byte, finish, Role, starts, stops, plain, Candidate, none, opened, byteAnswer, answerTo, candidateAfter}
+use Rattle.lists.specs.Machine.{run}
 use Rattle.framing.proofs.Restart.{as-new}
 use Rattle.frame.specs.Verdict.{Verdict, verdict}
 use Rattle.answer.specs.Answer.{refused}
@@ -57,9 +58,9 @@ call-not-1 k (byte b) = byte-not-1 (roleOf b) k b
 call-not-1 none finish = silence
 call-not-1 (opened s) finish = other 6 (λ q. omega arith)
 
-from-never-1 : (k : Candidate) (calls : List Call) → Never1 (run (answerTo rowing) (after rowing) k calls)
+from-never-1 : (k : Candidate) (calls : List Call) → Never1 (run (answerTo rowing) (candidateAfter rowing) k calls)
 from-never-1 k [] = tt
-from-never-1 k (c ∷ calls) = (call-not-1 k c, from-never-1 (after rowing k c) calls)
+from-never-1 k (c ∷ calls) = (call-not-1 k c, from-never-1 (candidateAfter rowing k c) calls)
 
 pub never-1 : (calls : List Call) → Never1 (readerAnswers calls)
 never-1 calls = subst Never1 (sym (reader-follows .same calls)) (from-never-1 none calls)

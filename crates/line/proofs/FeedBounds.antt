@@ -19,7 +19,7 @@ use Rattle.frame.specs.declared.Kind.the-variants.{Standard, Extended}
 use Rattle.frame.proofs.VerdictLaws.{judge-long}
 use Rattle.frame.proofs.ContentsLaws.{left-length}
 use Rattle.line.specs.Outcome.{summaryOf, tells}
-use Rattle.line.specs.Within.{Within}
+use Rattle.line.specs.Within.{ContentsFit}
 use Rattle.line.specs.Reader.{Turn, truncatedIn, terminatedIn, withByte, grownIn, restartOf, stopOf, growOf, stepOf}
 use Rattle.line.specs.Feed.{isAnswer, Feeding, feeding, plus, feedOf}
 use Rattle.line.specs.declared.LineReader.{LineReader}
@@ -39,21 +39,21 @@ judged-short kind body f e =
     ap (λ (v : Verdict). length (leftIn v body)) (sym (ap (judge kind) (take-all (length body) body (omega arith)) ∙ e)) ∙ left-length kind (length body) body in
     omega (arith, k, ltb-false 118 (length body) y, length-append (contentsOf f) (drop (length (contentsOf f)) body)))
 
-verdict-within : (v : Verdict) → ((f : Frame) → v ≡ result f → length (contentsOf f) ≤ 118) → Within 118 (tells (judgeAnswer v))
+verdict-within : (v : Verdict) → ((f : Frame) → v ≡ result f → length (contentsOf f) ≤ 118) → ContentsFit 118 (tells (judgeAnswer v))
 unfolding judgeAnswer contentsOf
 verdict-within (refused n) h = tt
 verdict-within (result (standard c)) h = h (standard c) refl
 verdict-within (result (extended to from c)) h = h (extended to from c) refl
 
 -- Truncation tells of no contents.
-pub truncated-within : (m : Mode) → Within 118 (summaryOf (truncatedIn m))
+pub truncated-within : (m : Mode) → ContentsFit 118 (summaryOf (truncatedIn m))
 unfolding judgeAnswer
 truncated-within Outside = tt
 truncated-within InStandard = tt
 truncated-within InExtended = tt
 truncated-within Overlong = tt
 
-terminated-within : (m : Mode) (bytes : List ℕ) (len : ℕ) → Within 118 (summaryOf (terminatedIn m bytes len))
+terminated-within : (m : Mode) (bytes : List ℕ) (len : ℕ) → ContentsFit 118 (summaryOf (terminatedIn m bytes len))
 unfolding judgeAnswer
 terminated-within Outside bytes len = tt
 terminated-within InStandard bytes len = verdict-within (judge Standard (take len bytes)) (judged-short Standard (take len bytes))
@@ -61,21 +61,21 @@ terminated-within InExtended bytes len = verdict-within (judge Extended (take le
 terminated-within Overlong bytes len = tt
 
 byte-within : (r : LineReader) (b : ℕ) (t₀ t₁ t₂ : Bool)
-    → Within 118 (summaryOf (pick t₀ (restartOf r InExtended) (pick t₁ (restartOf r InStandard) (pick t₂ (stopOf r) (growOf r b))) .outcome))
+    → ContentsFit 118 (summaryOf (pick t₀ (restartOf r InExtended) (pick t₁ (restartOf r InStandard) (pick t₂ (stopOf r) (growOf r b))) .outcome))
 byte-within r b true t₁ t₂ = truncated-within (r .mode)
 byte-within r b false true t₂ = truncated-within (r .mode)
 byte-within r b false false true = terminated-within (r .mode) (r .bytes) (r .len)
 byte-within r b false false false = tt
 
 -- The contents of a frame that is told are at most 118 bytes.
-pub feed-within : (r : LineReader) (s : List ℕ) → Within 118 (summaryOf (feedOf r s .outcome))
+pub feed-within : (r : LineReader) (s : List ℕ) → ContentsFit 118 (summaryOf (feedOf r s .outcome))
 unfolding feedOf
 feed-within r [] = tt
 feed-within r (b ∷ s) =
     by-answer (isAnswer (stepOf r b .outcome)) (stepOf r b) (byte-within r b (eqb b 0xF0) (eqb b 0xF1) (eqb b 0xF2)) (feedOf (stepOf r b .next) s) (feed-within (stepOf r b .next) s)
   where
-    by-answer : (q : Bool) (t : Turn) → Within 118 (summaryOf (t .outcome)) → (f : Feeding) → Within 118 (summaryOf (f .outcome))
-        → Within 118 (summaryOf (pick q (feeding (t .outcome) (t .next) 1) (plus 1 f) .outcome))
+    by-answer : (q : Bool) (t : Turn) → ContentsFit 118 (summaryOf (t .outcome)) → (f : Feeding) → ContentsFit 118 (summaryOf (f .outcome))
+        → ContentsFit 118 (summaryOf (pick q (feeding (t .outcome) (t .next) 1) (plus 1 f) .outcome))
     by-answer true t h f k = h
     by-answer false t h f k = k
 

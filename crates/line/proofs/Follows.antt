@@ -13,7 +13,8 @@ use borrow.Author.Tests.{ltb-true, ltb-false, eqb-true, eqb-false}
 use Rattle.lists.specs.Choice.{pick, noneOf}
 use Rattle.lists.proofs.Cases.{by-bool}
 use Rattle.lists.proofs.Tests.{within-true, none-append}
-use Rattle.framing.specs.Reference.{Call, byte, finish, Role, starts, stops, plain, Candidate, none, opened, byteAnswer, byteAfter, endAnswer, answerTo, after, run}
+use Rattle.framing.specs.Reference.{Call, byte, finish, Role, starts, stops, plain, Candidate, none, opened, byteAnswer, byteAfter, endAnswer, answerTo, candidateAfter}
+use Rattle.lists.specs.Machine.{run}
 use Rattle.framing.specs.Demand3.{Follows}
 use Rattle.framing.proofs.Restart.{follows}
 use Rattle.frame.specs.Stuffing.{isFlag, flagless}
@@ -134,7 +135,7 @@ byte-at r k b s false false true q₀ q₁ q₂ =
     (terminated-at (r .mode) (r .bytes) (r .len) k b (eqb-true b 0xF2 q₂) (s .1), (kept (r .mode) (r .bytes) (r .len) ∙ s .0, refl))
 byte-at r k b s false false false q₀ q₁ q₂ = (refl, grown-at (r .mode) (r .bytes) (r .len) k b (s .0) (no-flag b q₀ q₁ q₂) (s .1))
 
-call-at : (r : LineReader) (k : Candidate) (c : Call) → StandsFor r k → (outcomeAt r c ≡ answerTo rowing k c) × StandsFor (nextAfter r c) (after rowing k c)
+call-at : (r : LineReader) (k : Candidate) (c : Call) → StandsFor r k → (outcomeAt r c ≡ answerTo rowing k c) × StandsFor (nextAfter r c) (candidateAfter rowing k c)
 call-at r k (byte b) s = byte-at r k b s (eqb b 0xF0) (eqb b 0xF1) (eqb b 0xF2) refl refl refl
 call-at r k finish s = (truncated-at (r .mode) (r .bytes) (r .len) k 0 (s .1) .1, (s .0, refl))
 

@@ -81,7 +81,7 @@ held-more s from r k len bytes m p =
 pub clear-block : (s : List ℕ) (i : ℕ) (clear : Bool) → clear ≡ noneOf isFlag (take (i + 32 - i) (drop i s)) → clear ≡ true → noneOf isFlag (take 32 (drop i s)) ≡ true
 clear-block s i clear e y = let n : i + 32 - i ≡ 32 = omega arith in ap (λ (k : ℕ). noneOf isFlag (take k (drop i s))) (sym n) ∙ sym e ∙ y
 
--- a block without a flag has none at each of its places
+-- a block without a flag has none at each of its indices
 pub in-block : (s : List ℕ) (from n k : ℕ) → from + n ≤ length s → noneOf isFlag (take n (drop from s)) ≡ true → k < n → isFlag (getD s (from + k) 0) ≡ false
 in-block s from n k h none l =
     ap isFlag (sym (getD-take n (drop from s) k 0 l ∙ getD-drop from s k 0))

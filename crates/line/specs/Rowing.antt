@@ -3,7 +3,8 @@ use mathlib.Core.List.{List}
 use lib.Dec.{eqb}
 use Prim.Native.Nat.{ℕ}
 use Rattle.lists.specs.Choice.{pick}
-use Rattle.framing.specs.Reference.{Call, byte, finish, Role, starts, stops, plain, Protocol, run}
+use Rattle.framing.specs.Reference.{Call, byte, finish, Role, starts, stops, plain, Protocol}
+use Rattle.lists.specs.Machine.{run}
 use Rattle.answer.specs.Answer.{refused}
 use Rattle.frame.specs.Verdict.{verdict}
 use Rattle.line.specs.Outcome.{Outcome, nothing, judged}

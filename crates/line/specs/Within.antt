@@ -5,8 +5,8 @@ use Rattle.answer.specs.Answer.{result, refused}
 use Rattle.line.specs.Outcome.{Summary, silent, tells}
 
 -- A frame's contents are at most so many bytes.
-abbrev pub Within : ℕ → Summary → Type 0
-Within room silent = Unit {0}
-Within room (tells (result (standardOutline len))) = len ≤ room
-Within room (tells (result (extendedOutline to from len))) = len ≤ room
-Within room (tells (refused n)) = Unit {0}
+abbrev pub ContentsFit : ℕ → Summary → Type 0
+ContentsFit room silent = Unit {0}
+ContentsFit room (tells (result (standardOutline len))) = len ≤ room
+ContentsFit room (tells (result (extendedOutline to from len))) = len ≤ room
+ContentsFit room (tells (refused n)) = Unit {0}

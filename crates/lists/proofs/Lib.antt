@@ -3,3 +3,4 @@ pub mod Splices
 pub mod Lists
 pub mod Tests
 pub mod Before
+pub mod Machines

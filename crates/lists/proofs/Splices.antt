@@ -1,4 +1,4 @@
--- The laws of a list put into another at a place.
+-- The laws of a list put into another at an index.
 use Prim.Native.Nat.{ℕ, _+_, _≤_, _<_, _-_}
 use mathlib.Core.Path.{_≡_, sym, ap, _∙_}
 use mathlib.Core.List.{List, [], _∷_, _++_, append-assoc, append-nil}

@@ -1,4 +1,4 @@
--- A list put into another at a place: what a writer leaves in a lent slice.
+-- A list put into another at an index: what a writer leaves in a lent slice.
 use Prim.Native.Nat.{ℕ, _+_}
 use mathlib.Core.List.{List, _++_}
 use lib.ListN.{length, take, drop}

@@ -1,4 +1,4 @@
--- The laws of a number of several bytes in a list, each over every width and place.
+-- The laws of a number of several bytes in a list, each over every width and index.
 use Prim.Native.Nat.{ℕ, zero, suc, _+_, _-_, _*_, _/_, _%_, _^_, _≤_, _<_}
 use mathlib.Core.Path.{_≡_, refl, sym, ap, ap₂, _∙_}
 use mathlib.Core.Logic.{_⊎_, inl, inr}
@@ -7,7 +7,7 @@ use native.Mathlib.Omega.{arith}
 use native.Mathlib.Nat.{pow-suc, pow-zero, add-zero, mul-suc, mul-zero, pow-le-pow-right}
 use lib.ListN.{length, getD, set, take, drop, length-set, length-append, take-append-drop}
 use lib.Seq.{getD-set-same, getD-set-other, set-getD, set-out, drop-set-lt, take-suc-set, drop-cons, getD-at, drop-drop, take-add}
-use Rattle.numbers.specs.Number.{number, put, bytesOf, Bytes, numbers, pack}
+use Rattle.numbers.specs.Number.{number, put, bytesOf, Bytes, numbers, bytesOfAll}
 
 -- ---- lengths and bounds
 
@@ -96,7 +96,7 @@ put-number (suc w) at s b =
     let r : (getD s at 0 + 256 * m) % 256 ≡ getD s at 0 = omega (arith, b at) in
     ap₂ (λ (x y : ℕ). put w (suc at) x (set s at y)) q r ∙ ap (put w (suc at) m) (set-getD s at 0) ∙ put-number w (suc at) s b
 
--- ---- a number's bytes at a place
+-- ---- a number's bytes at an index
 
 -- the bytes of n, wherever they stand, are n
 pub number-bytesOf : (w n : ℕ) (p q : List ℕ) (at : ℕ) → length p ≡ at → n < 256 ^ w → number w at (p ++ (bytesOf w n ++ q)) ≡ n
@@ -111,7 +111,7 @@ number-bytesOf (suc w) n p q at l b =
     let high′ : number w (suc at) (p ++ (v ∷ rest)) ≡ n / 256 = ap (number w (suc at)) (sym (append-assoc p (v ∷ []) rest)) ∙ high in
     omega arith
 
--- the bytes of the number that stands at a place are those that stand there
+-- the bytes of the number that stands at an index are those that stand there
 pub bytesOf-number : (w at : ℕ) (s : List ℕ) → Bytes s → at + w ≤ length s → bytesOf w (number w at s) ≡ take w (drop at s)
 unfolding number bytesOf
 bytesOf-number zero at s b h = refl
@@ -160,13 +160,13 @@ numbers-put w (suc c) at n s (suc i) h l b =
     (numbers-put w c (at + w) n s i (omega arith) (omega (arith, mul-suc w c)) b)
 
 -- packed again they are the bytes that they were read from
-pub pack-numbers : (w c at : ℕ) (s : List ℕ) → Bytes s → at + w * c ≤ length s → pack w (numbers w c at s) ≡ take (w * c) (drop at s)
-unfolding numbers pack
-pack-numbers w zero at s b h = ap (λ (k : ℕ). take k (drop at s)) (sym (mul-zero w))
-pack-numbers w (suc c) at s b h =
+pub bytes-numbers : (w c at : ℕ) (s : List ℕ) → Bytes s → at + w * c ≤ length s → bytesOfAll w (numbers w c at s) ≡ take (w * c) (drop at s)
+unfolding numbers bytesOfAll
+bytes-numbers w zero at s b h = ap (λ (k : ℕ). take k (drop at s)) (sym (mul-zero w))
+bytes-numbers w (suc c) at s b h =
     let e : w + w * c ≡ w * suc c = omega (arith, mul-suc w c) in
     ap₂ (λ (x y : List ℕ). x ++ y) (bytesOf-number w at s b (omega (arith, mul-suc w c)))
-    (pack-numbers w c (at + w) s b (omega (arith, mul-suc w c)) ∙ ap (take (w * c)) (sym (drop-drop w at s)))
+    (bytes-numbers w c (at + w) s b (omega (arith, mul-suc w c)) ∙ ap (take (w * c)) (sym (drop-drop w at s)))
     ∙ sym (take-add w (w * c) (drop at s)) ∙ ap (λ (k : ℕ). take k (drop at s)) e
 
 -- ---- one byte at a time, for loops

@@ -1,4 +1,4 @@
--- A number of several bytes in a list, lowest byte first: read and written, at any width and place.
+-- A number of several bytes in a list, lowest byte first: read and written, at any width and index.
 use Prim.Native.Nat.{ℕ, zero, suc, _+_, _*_, _/_, _%_, _<_}
 use mathlib.Core.List.{List, [], _∷_, _++_}
 use lib.ListN.{getD, set}
@@ -28,6 +28,6 @@ numbers width zero at s = []
 numbers width (suc c) at s = number width at s ∷ numbers width c (at + width) s
 
 -- The bytes of a list of numbers, one after the other.
-unfoldable pub pack : (width : ℕ) → List ℕ → List ℕ
-pack width [] = []
-pack width (n ∷ ns) = bytesOf width n ++ pack width ns
+unfoldable pub bytesOfAll : (width : ℕ) → List ℕ → List ℕ
+bytesOfAll width [] = []
+bytesOfAll width (n ∷ ns) = bytesOf width n ++ bytesOfAll width ns

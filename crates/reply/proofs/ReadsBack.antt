@@ -10,9 +10,9 @@ use lib.ListN.{length, take}
 use Rattle.answer.specs.Draft.{Draft, draftAnswer, draftOut}
 use Rattle.answer.specs.Answer.{result, refused, Answer}
 use Rattle.lists.proofs.Cases.{by-bool}
-use Rattle.command.specs.Entries.{Entry, entry, items, bytesOf, Formed, Parsed, unsound, sound, parse, found, nthOf}
+use Rattle.command.specs.Entries.{Entry, entry, items, entryBytes, WellFormed, Parsed, unsound, sound, parse, found, nthOf}
 use Rattle.command.specs.Answers.{partOf}
-use Rattle.command.proofs.Places.{parse-last, nth-earlier, data-at}
+use Rattle.command.proofs.Extents.{parse-last, nth-earlier, data-at}
 use Rattle.reply.specs.Status.{status, soundStatus, statusIn, StatusParts}
 use Rattle.reply.specs.Replies.{reply, headIn, afterStatus, replyIn, itemOf, nthItem, statusDraft, withItem, afterReply, itemDraft, Reply}
 
@@ -46,12 +46,12 @@ status-reads-back b w h =
     (leb 128 b, b / 16 % 4, b % 16, e, ap replyIn (sym i) ∙ reply-of b [] (leb 128 b) (b / 16 % 4) (b % 16) [] e refl))
     (λ y. let q : refused 8 ≡ result w = simp y at h in let z : _≡_ {A = ℕ} 0 1 = cc in absurd (omega arith))
 
-with-item-means : (s : List ℕ) (b : ℕ) (d w : List ℕ) → withItem s b d ≡ result w → w ≡ s ++ bytesOf items (entry b d)
+with-item-means : (s : List ℕ) (b : ℕ) (d w : List ℕ) → withItem s b d ≡ result w → w ≡ s ++ entryBytes items (entry b d)
 unfolding withItem
 with-item-means s b d w h =
     by-bool (leb (length d) 255)
-    (λ x. by-bool (leb (length (s ++ bytesOf items (entry b d))) 117)
-    (λ y. let q : result (s ++ bytesOf items (entry b d)) ≡ result w = simp (x, y) at h in let i : w ≡ s ++ bytesOf items (entry b d) = cc in i)
+    (λ x. by-bool (leb (length (s ++ entryBytes items (entry b d))) 117)
+    (λ y. let q : result (s ++ entryBytes items (entry b d)) ≡ result w = simp (x, y) at h in let i : w ≡ s ++ entryBytes items (entry b d) = cc in i)
     (λ y. let q : refused 2 ≡ result w = simp (x, y) at h in let z : _≡_ {A = ℕ} 0 1 = cc in absurd (omega arith)))
     (λ x. let q : refused 7 ≡ result w = simp x at h in let z : _≡_ {A = ℕ} 0 1 = cc in absurd (omega arith))
 
@@ -68,9 +68,9 @@ item-reads-back s b d w g h = case (replyIn s) refl h
         let m = reply-means s t p x es e in
         let c = m .0 in
         let v = m .1 in
-        let formed : Formed items (entry b d) = λ k. absurd (omega arith) in
+        let formed : WellFormed items (entry b d) = λ k. absurd (omega arith) in
         let last = parse-last items v es (entry b d) (m .4) formed in
-        (t, p, x, es, e, ap replyIn (with-item-means s b d w f ∙ ap (λ (l : List ℕ). l ++ bytesOf items (entry b d)) (m .2)) ∙ reply-of c (v ++ bytesOf items (entry b d)) t p x (es ++ (entry b d ∷ [])) (m .3) last)
+        (t, p, x, es, e, ap replyIn (with-item-means s b d w f ∙ ap (λ (l : List ℕ). l ++ entryBytes items (entry b d)) (m .2)) ∙ reply-of c (v ++ entryBytes items (entry b d)) t p x (es ++ (entry b d ∷ [])) (m .3) last)
 
 -- Every earlier item is found as it was.
 pub earlier-items : (s w : List ℕ) (t : Bool) (p x : ℕ) (es : List Entry) (e : Entry) (n : ℕ) → replyIn s ≡ result (reply t p x es) → replyIn w ≡ result (reply t p x (es ++ (e ∷ []))) → n < length es
@@ -99,9 +99,9 @@ unfoldable pub writeAll : Draft → List Entry → Draft
 writeAll d [] = d
 writeAll d (e ∷ es) = writeAll (withNext d e) es
 
-unfoldable pub Bytes : List Entry → Type 0
-Bytes [] = Unit {0}
-Bytes (e ∷ es) = (e .byte < 256) × Bytes es
+unfoldable pub ItemBytes : List Entry → Type 0
+ItemBytes [] = Unit {0}
+ItemBytes (e ∷ es) = (e .byte < 256) × ItemBytes es
 
 refused-stays : (k : ℕ) (es : List Entry) → writeAll (refused k) es ≡ refused k
 unfolding writeAll
@@ -109,9 +109,9 @@ refused-stays k [] = refl
 refused-stays k (e ∷ es) = refused-stays k es
 
 -- Items written one by one read back as the items so far and then those, in order.
-pub all-read-back : (u w : List ℕ) (t : Bool) (p x : ℕ) (fs es : List Entry) → Bytes es → replyIn u ≡ result (reply t p x fs) → writeAll (result u) es ≡ result w
+pub all-read-back : (u w : List ℕ) (t : Bool) (p x : ℕ) (fs es : List Entry) → ItemBytes es → replyIn u ≡ result (reply t p x fs) → writeAll (result u) es ≡ result w
     → replyIn w ≡ result (reply t p x (fs ++ es))
-unfolding writeAll Bytes
+unfolding writeAll ItemBytes
 all-read-back u w t p x fs [] g h k =
     let i : u ≡ w = cc in ap replyIn (sym i) ∙ h ∙ ap (λ (gs : List Entry). result (reply t p x gs)) (sym (append-nil fs))
 all-read-back u w t p x fs (e ∷ es) g h k = case (itemDraft u (e .byte) (e .body)) refl k (λ v q r. all-read-back v w t p x (fs ++ (e ∷ [])) es (g .1) q r)

@@ -11,7 +11,7 @@ use Rattle.answer.specs.Answer.{result, refused, Answer}
 use Rattle.lists.specs.Splice.{splice}
 use Rattle.lists.proofs.Cases.{by-bool}
 use Rattle.lists.proofs.Splices.{length-splice, splice-next, set-splice}
-use Rattle.command.specs.Entries.{entry, items, bytesOf, Parsed, unsound, sound, parse, nthIn, Extent}
+use Rattle.command.specs.Entries.{entry, items, entryBytes, Parsed, unsound, sound, parse, nthIn, Extent}
 use Rattle.command.specs.Answers.{counted}
 use Rattle.reply.specs.Status.{status, soundStatus, statusIn, statusMeans, StatusParts}
 use Rattle.reply.specs.Replies.{reply, headIn, afterStatus, replyIn, replyOutline, replyAnswer, itemOf, nthItem, statusDraft, withItem, afterReply, itemDraft, Reply}
@@ -30,9 +30,9 @@ head-is [] h e = absurd (h refl)
 head-is (b ∷ s) h e = e
 
 -- contents as a reply, where a call's result x is found to be y
-pub headed : (s : List ℕ) {x : StatusRead} (y : StatusRead) → statusMeans x ≡ headIn s → x ≡ y → replyIn s ≡ afterStatus (statusMeans y) (parse items (drop 1 s) 0)
+pub head-status : (s : List ℕ) {x : StatusRead} (y : StatusRead) → statusMeans x ≡ headIn s → x ≡ y → replyIn s ≡ afterStatus (statusMeans y) (parse items (drop 1 s) 0)
 unfolding replyIn
-headed s y d e = ap (λ (a : Answer StatusParts). afterStatus a (parse items (drop 1 s) 0)) (sym d ∙ ap statusMeans e)
+head-status s y d e = ap (λ (a : Answer StatusParts). afterStatus a (parse items (drop 1 s) 0)) (sym d ∙ ap statusMeans e)
 
 -- ---- reading
 
@@ -84,8 +84,8 @@ status-sound b t p s e =
 
 -- ---- the draft of an item
 
-pub item-bytes : (b : ℕ) (d : List ℕ) → b < 256 → bytesOf items (entry b d) ≡ b ∷ length d ∷ d
-unfolding bytesOf
+pub item-bytes : (b : ℕ) (d : List ℕ) → b < 256 → entryBytes items (entry b d) ≡ b ∷ length d ∷ d
+unfolding entryBytes
 item-bytes b d h = simp (lt-ltb b 256 h)
 
 module _ (s : List ℕ) (b : ℕ) (d : List ℕ) (byte : b < 256) where
@@ -95,7 +95,7 @@ module _ (s : List ℕ) (b : ℕ) (d : List ℕ) (byte : b < 256) where
   pub whole-length : length whole ≡ length s + 2 + length d
   whole-length = length-append s (b ∷ length d ∷ d) ∙ omega arith
 
-  is-whole : s ++ bytesOf items (entry b d) ≡ whole
+  is-whole : s ++ entryBytes items (entry b d) ≡ whole
   is-whole = ap (λ (l : List ℕ). s ++ l) (item-bytes b d byte)
 
   pub item-count : 255 < length d → withItem s b d ≡ refused 7

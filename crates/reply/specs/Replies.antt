@@ -8,7 +8,7 @@ use Rattle.lists.specs.Choice.{pick}
 use Rattle.answer.specs.Answer.{Answer, result, refused}
 use Rattle.answer.specs.Draft.{Draft}
 use Rattle.answer.specs.Refusals.{numberOf}
-use Rattle.command.specs.Entries.{Entry, entry, items, bytesOf, Parsed, unsound, sound, parse, nthOf, Extent}
+use Rattle.command.specs.Entries.{Entry, entry, items, entryBytes, Parsed, unsound, sound, parse, nthOf, Extent}
 use Rattle.reply.specs.Status.{status, soundStatus, statusIn, StatusParts}
 use Rattle.reply.specs.declared.ReplyRead.{ReplyRead}
 use Rattle.reply.specs.declared.ReplyRead.the-variants.{Reply as ReadReply, Refused}
@@ -63,7 +63,7 @@ statusDraft b = pick (soundStatus b) (result (b ∷ [])) (refused 8)
 -- Contents and an item after them: data over 255 is 7, contents over 117 are 2.
 unfoldable pub withItem : List ℕ → ℕ → List ℕ → Draft
 withItem s b d =
-    pick (leb (length d) 255) (pick (leb (length (s ++ bytesOf items (entry b d))) 117) (result (s ++ bytesOf items (entry b d))) (refused 2)) (refused 7)
+    pick (leb (length d) 255) (pick (leb (length (s ++ entryBytes items (entry b d))) 117) (result (s ++ entryBytes items (entry b d))) (refused 2)) (refused 7)
 
 -- The refusal of the contents so far comes first.
 unfoldable pub afterReply : Answer Reply → Draft → Draft

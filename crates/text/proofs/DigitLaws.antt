@@ -21,7 +21,7 @@ tenth n h = div-lt-self (omega arith) (omega arith)
 
 -- ---- the digits of a small number and of a large one
 
--- more places than digits change nothing
+-- more room than digits changes nothing
 enough : (k l n : ℕ) → n < k → n < l → decimalWithin k n ≡ decimalWithin l n
 enough zero l n h g = absurd (omega arith)
 enough (suc k) zero n h g = absurd (omega arith)

@@ -8,7 +8,7 @@ use lib.Dec.{eqb}
 use lib.ListN.{length, getD}
 use borrow.Author.Tests.{eq-eqb, ne-eqb}
 use Rattle.lists.specs.Choice.{pick}
-use Rattle.command.specs.Entries.{Entry, entry, Parsed, unsound, sound, put}
+use Rattle.command.specs.Entries.{Entry, entry, Parsed, unsound, sound, withEntry}
 use Rattle.text.specs.Stop.{anyOf, anyIn, isOneTwo}
 
 module _ (p : Entry → Bool) where
@@ -38,8 +38,8 @@ module _ (p : Entry → Bool) where
   either-way true u v = refl
   either-way false u v = refl
 
-  pub found-more : (t u v : Bool) (e : Entry) (q r : Parsed) → q ≡ put e r → v ≡ p e → u ≡ pick t true v → found u r ≡ found t q
-  unfolding found anyOf put
+  pub found-more : (t u v : Bool) (e : Entry) (q r : Parsed) → q ≡ withEntry e r → v ≡ p e → u ≡ pick t true v → found u r ≡ found t q
+  unfolding found anyOf withEntry
   found-more t u v e q unsound h k g = ap (found t) (sym h)
   found-more t u v e q (sound es) h k g =
       ap (λ (x : Bool). pick x true (anyOf p es)) (g ∙ ap (pick t true) k) ∙ either-way t (p e) (anyOf p es) ∙ ap (found t) (sym h)

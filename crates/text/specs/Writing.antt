@@ -1,4 +1,4 @@
--- A text put into an output at a place.
+-- A text put into an output at an index.
 use mathlib.Core.Path.{_≡_}
 use mathlib.Core.List.{List}
 use Prim.Native.Nat.{ℕ, _+_, _≤_, _<_}

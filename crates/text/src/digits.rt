@@ -1,4 +1,4 @@
-// Numbers written as text at a place of an output.
+// Numbers written as text at an index of an output.
 ghost use mathlib.Core.Path.{_≡_};
 ghost use Prim.Native.Nat.{_+_, _≤_, _<_};
 ghost use lib.ListN.{length};

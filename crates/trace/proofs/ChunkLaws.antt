@@ -12,21 +12,21 @@ use borrow.Author.Tests.{lt-ltb}
 use Rattle.lists.specs.Choice.{pick}
 use Rattle.text.specs.Writing.{lineRoom}
 use Rattle.text.proofs.Writing.{wrote-nothing, wrote-as, wrote-first, next}
-use Rattle.trace.specs.Chunk.{Going, Advances}
-use Rattle.trace.specs.Machine.{nextOf, textOf, after, texts, takenOf, Lists, listing, listedOf}
+use Rattle.trace.specs.Private.{Going, Advances, listing, listedOf}
+use Rattle.trace.specs.Machine.{nextOf, textOf, listingAfter, texts, takenOf, Lists}
 use Rattle.trace.specs.declared.Listing.{Listing}
 use Rattle.trace.specs.declared.Listed.{Listed}
 use Rattle.trace.specs.declared.Turn.{Turn}
 
-pub after-append : (s : Listing) (xs ys : List ℕ) → after s (xs ++ ys) ≡ after (after s xs) ys
+pub after-append : (s : Listing) (xs ys : List ℕ) → listingAfter s (xs ++ ys) ≡ listingAfter (listingAfter s xs) ys
 after-append s [] ys = refl
 after-append s (x ∷ xs) ys = after-append (nextOf s x) xs ys
 
-pub texts-append : (s : Listing) (xs ys : List ℕ) → texts s (xs ++ ys) ≡ texts s xs ++ texts (after s xs) ys
+pub texts-append : (s : Listing) (xs ys : List ℕ) → texts s (xs ++ ys) ≡ texts s xs ++ texts (listingAfter s xs) ys
 texts-append s [] ys = refl
 texts-append s (x ∷ xs) ys =
     ap (λ (l : List ℕ). textOf s x ++ l) (texts-append (nextOf s x) xs ys)
-    ∙ sym (append-assoc (textOf s x) (texts (nextOf s x) xs) (texts (after (nextOf s x) xs) ys))
+    ∙ sym (append-assoc (textOf s x) (texts (nextOf s x) xs) (texts (listingAfter (nextOf s x) xs) ys))
 
 pub going-start : (s : Listing) (chunk out : List ℕ) → Going s chunk out s out 0 0
 going-start s chunk out =
@@ -54,7 +54,7 @@ module _ (s₀ : Listing) (chunk out₀ : List ℕ) (s : Listing) (out : List �
       ∙ ap (texts s₀) (sym e) in
       let m : length out₀ - at - length (t .text) ≡ length out₀ - r .at = omega (arith, t .wrote .ends) in
       record {
-        state = t .leads .state ∙ ap (λ (u : Listing). after u (take n (drop i chunk))) (g .state) ∙ sym (after-append s₀ (take i chunk) (take n (drop i chunk))) ∙ ap (after s₀) (sym e);
+        state = t .leads .state ∙ ap (λ (u : Listing). listingAfter u (take n (drop i chunk))) (g .state) ∙ sym (after-append s₀ (take i chunk) (take n (drop i chunk))) ∙ ap (listingAfter s₀) (sym e);
         wrote = wrote-as tx (next (g .wrote) (t .wrote) k);
         taken = g .taken
             ∙ ap (λ (x : ℕ). i + x) (t .leads .taken (length out₀ - at) room)

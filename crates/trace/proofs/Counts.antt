@@ -8,7 +8,8 @@ use native.Mathlib.Omega.{arith}
 use lib.ListN.{length, set}
 use lib.Dec.{eqb, ltb}
 use Rattle.lists.specs.Choice.{pick}
-use Rattle.framing.specs.Reference.{finish, Role, starts, stops, plain, run}
+use Rattle.framing.specs.Reference.{finish, Role, starts, stops, plain}
+use Rattle.lists.specs.Machine.{run}
 use Rattle.framing.specs.Demand3.{feed}
 use Rattle.answer.specs.Answer.{result, refused}
 use Rattle.line.specs.Outcome.{Outcome, nothing, judged}
@@ -20,7 +21,7 @@ use Rattle.line.specs.declared.Mode.the-variants.{Outside, InStandard, InExtend
 use Rattle.text.specs.Lines.{line, totals}
 use Rattle.text.specs.Strays.{strayAt, openAfter, strays}
 use Rattle.text.specs.Text.{frameOne, refusedOne, frames, refusals, lines}
-use Rattle.trace.specs.Machine.{add64, isOpen, numberAfter, nextOf, textOf, after, texts, lastText}
+use Rattle.trace.specs.Machine.{add64, isOpen, numberAfter, nextOf, textOf, listingAfter, texts, lastText}
 use Rattle.trace.specs.declared.Listing.{Listing}
 
 add64-is : (a b : ℕ) → a + b < 2 ^ 64 → add64 a b ≡ a + b
@@ -141,7 +142,7 @@ module _ (s : Listing) (b : ℕ) (h : s .frames + s .refused + 1 < 2 ^ 64) (g : 
   told-next bytes = refl
 
 pub all-text : (s : Listing) (bytes : List ℕ) → s .frames + s .refused + length bytes + 1 < 2 ^ 64 → s .stray + length bytes < 2 ^ 64
-    → texts s bytes ++ lastText (after s bytes) ≡ Rest (s .frames) (s .refused) (s .stray) (isOpen (s .reader .mode)) (told (s .reader) bytes) bytes
+    → texts s bytes ++ lastText (listingAfter s bytes) ≡ Rest (s .frames) (s .refused) (s .stray) (isOpen (s .reader .mode)) (told (s .reader) bytes) bytes
 all-text s [] h g = last-is s (omega arith) (omega arith)
 all-text s (b ∷ bytes) h g =
     let h₁ : s .frames + s .refused + 1 < 2 ^ 64 = omega arith in
@@ -154,9 +155,9 @@ all-text s (b ∷ bytes) h g =
     let S = next-stray s b h₁ g₁ in
     let k = one-answer a in
     let u = one-stray (roleOf b) o in
-    let ih : texts n bytes ++ lastText (after n bytes) ≡ Rest (n .frames) (n .refused) (n .stray) (isOpen (n .reader .mode)) (told (n .reader) bytes) bytes =
+    let ih : texts n bytes ++ lastText (listingAfter n bytes) ≡ Rest (n .frames) (n .refused) (n .stray) (isOpen (n .reader .mode)) (told (n .reader) bytes) bytes =
     all-text n bytes (omega arith) (omega arith) in
-    append-assoc (textOf s b) (texts n bytes) (lastText (after n bytes))
+    append-assoc (textOf s b) (texts n bytes) (lastText (listingAfter n bytes))
     ∙ ap (λ (l : List ℕ). textOf s b ++ l) (ih ∙ same-rest _ _ _ _ _ _ _ _ (told (n .reader) bytes) bytes F R S (next-open s b h₁ g₁))
     ∙ ap (λ (l : List ℕ). l ++ Rest (s .frames + frameOne a) (s .refused + refusedOne a) (s .stray + strayAt (roleOf b) o) (openAfter (roleOf b) o) (told (n .reader) bytes) bytes) (text-line s b h₁ g₁)
     ∙ rest-step (s .frames) (s .refused) (s .stray) o b a (told (n .reader) bytes) bytes

@@ -17,7 +17,7 @@ use Rattle.text.specs.Lines.{totals}
 use Rattle.text.specs.Strays.{strays}
 use Rattle.text.specs.Text.{frames, refusals, lines, answersTo, text}
 use Rattle.text.specs.Writing.{lineRoom}
-use Rattle.trace.specs.Machine.{newListing, nextOf, textOf, after, texts, takenOf, lastText, Lists}
+use Rattle.trace.specs.Machine.{newListing, nextOf, textOf, listingAfter, texts, takenOf, lastText, Lists}
 use Rattle.trace.specs.Cutting.{Calls, none, call, longest, WritesText, TakesSome}
 use Rattle.trace.specs.declared.Listing.{Listing}
 use Rattle.trace.specs.declared.Listed.{Listed}
@@ -27,7 +27,7 @@ use Rattle.trace.proofs.Counts.{Rest, all-text}
 -- ---- calls in a row give what single bytes give
 
 one-call : (s : Listing) (chunk rest out out′ : List ℕ) (r : Listed) → Lists s chunk out out′ r
-    → (take (r .wrote) out′ ++ texts (r .next) (drop (r .taken) chunk ++ rest) ≡ texts s (chunk ++ rest)) × (after (r .next) (drop (r .taken) chunk ++ rest) ≡ after s (chunk ++ rest))
+    → (take (r .wrote) out′ ++ texts (r .next) (drop (r .taken) chunk ++ rest) ≡ texts s (chunk ++ rest)) × (listingAfter (r .next) (drop (r .taken) chunk ++ rest) ≡ listingAfter s (chunk ++ rest))
 one-call s chunk rest out out′ r l =
     let k = r .taken in
     let w : take (r .wrote) out′ ≡ texts s (take k chunk) = ap (take (r .wrote)) (l .out-is) ∙ take-at (texts s (take k chunk)) (drop (r .wrote) out) (r .wrote) (sym (l .wrote-is)) in
@@ -36,15 +36,15 @@ one-call s chunk rest out out′ r l =
           ∙ ap (λ (u : Listing). texts s (take k chunk) ++ texts u (drop k chunk ++ rest)) (l .next-is)
           ∙ sym (texts-append s (take k chunk) (drop k chunk ++ rest))
           ∙ ap (texts s) whole,
-      ap (λ (u : Listing). after u (drop k chunk ++ rest)) (l .next-is)
+      ap (λ (u : Listing). listingAfter u (drop k chunk ++ rest)) (l .next-is)
           ∙ sym (after-append s (take k chunk) (drop k chunk ++ rest))
-          ∙ ap (after s) whole,
+          ∙ ap (listingAfter s) whole,
     )
 
-calls-texts : {s s′ : Listing} {bytes written : List ℕ} → Calls s bytes written s′ → (written ≡ texts s bytes) × (s′ ≡ after s bytes)
+calls-texts : {s s′ : Listing} {bytes written : List ℕ} → Calls s bytes written s′ → (written ≡ texts s bytes) × (s′ ≡ listingAfter s bytes)
 calls-texts none = (refl, refl)
 calls-texts (call {s = s} chunk rest out out′ r l t) =
-    let k : (take (r .wrote) out′ ++ texts (r .next) (drop (r .taken) chunk ++ rest) ≡ texts s (chunk ++ rest)) × (after (r .next) (drop (r .taken) chunk ++ rest) ≡ after s (chunk ++ rest)) =
+    let k : (take (r .wrote) out′ ++ texts (r .next) (drop (r .taken) chunk ++ rest) ≡ texts s (chunk ++ rest)) × (listingAfter (r .next) (drop (r .taken) chunk ++ rest) ≡ listingAfter s (chunk ++ rest)) =
     one-call s chunk rest out out′ r l in
     (ap (λ (x : List ℕ). take (r .wrote) out′ ++ x) (calls-texts t .0) ∙ k .0, calls-texts t .1 ∙ k .1)
 
@@ -57,7 +57,7 @@ from-zero os bytes =
     let z : 0 + strays false bytes ≡ strays false bytes = omega arith in
     rw (x, y, z)
 
-new-text : (trace : List ℕ) → length trace ≤ longest → texts newListing trace ++ lastText (after newListing trace) ≡ text trace
+new-text : (trace : List ℕ) → length trace ≤ longest → texts newListing trace ++ lastText (listingAfter newListing trace) ≡ text trace
 new-text trace h =
     all-text newListing trace (omega arith) (omega arith)
     ∙ ap (λ (os : List Outcome). Rest 0 0 0 false os trace) (reader-follows .same (feed trace ++ finish ∷ []))
@@ -65,7 +65,7 @@ new-text trace h =
 
 pub writes-text : WritesText
 writes-text trace written h s =
-    let k : (s .before ≡ texts newListing trace) × (s .state ≡ after newListing trace) = calls-texts (s .calls) in
+    let k : (s .before ≡ texts newListing trace) × (s .state ≡ listingAfter newListing trace) = calls-texts (s .calls) in
     let e : (s .wrote ≡ length (lastText (s .state))) × (s .out′ ≡ lastText (s .state) ++ drop (s .wrote) (s .out)) = s .ends .whole (s .room) in
     let l : take (s .wrote) (s .out′) ≡ lastText (s .state) = ap (take (s .wrote)) (e .1) ∙ take-at (lastText (s .state)) (drop (s .wrote) (s .out)) (s .wrote) (sym (e .0)) in
     s .all

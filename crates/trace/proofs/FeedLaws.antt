@@ -21,8 +21,8 @@ use Rattle.text.specs.Strays.{strayAt, strays}
 use Rattle.text.specs.Text.{frameOne, refusedOne}
 use Rattle.text.specs.Writing.{Wrote, lineRoom}
 use Rattle.text.proofs.Writing.{wrote-as}
-use Rattle.trace.specs.Chunk.{Leads, Advances, strayCount}
-use Rattle.trace.specs.Machine.{frameCount, refusedCount, isOpen, add64, numberAfter, nextOf, textOf, after, texts, takenOf, listing}
+use Rattle.trace.specs.Private.{Leads, Advances, strayCount, listing}
+use Rattle.trace.specs.Machine.{frameCount, refusedCount, isOpen, add64, numberAfter, nextOf, textOf, listingAfter, texts, takenOf}
 use Rattle.trace.specs.declared.Listing.{Listing}
 use Rattle.trace.specs.declared.Tally.{Tally}
 use Rattle.trace.proofs.AnswerLaws.{frame-count, refused-count, add-none}
@@ -70,8 +70,8 @@ lead-on s b bytes n s′ w e l =
 -- ---- bytes up to an answer
 
 -- The counts are of 64 bits.
-abbrev pub Counted : Listing → Type 0
-Counted s = (s .frames < 2 ^ 64) × (s .refused < 2 ^ 64) × (s .stray < 2 ^ 64)
+abbrev pub CountsFit : Listing → Type 0
+CountsFit s = (s .frames < 2 ^ 64) × (s .refused < 2 ^ 64) × (s .stray < 2 ^ 64)
 
 -- The state after an answer and so many stray bytes, with the reader left.
 abbrev counting : Listing → Outcome → LineReader → ℕ → Listing
@@ -86,14 +86,14 @@ unanswered : (o : Outcome) → isAnswer o ≡ false → o ≡ nothing
 unanswered nothing e = refl
 unanswered (judged v) e = let z : _≡_ {A = ℕ} 0 1 = cc in absurd (omega arith)
 
-counting-none : (s : Listing) → Counted s → s ≡ counting s nothing (s .reader) 0
+counting-none : (s : Listing) → CountsFit s → s ≡ counting s nothing (s .reader) 0
 counting-none s h = λ i. record { reader = s .reader; frames = add-none (s .frames) (h .0) i; refused = add-none (s .refused) (h .1) i; stray = add-none (s .stray) (h .2) i }
 
 -- the state after a byte that is not answered
 abbrev quiet : Listing → ℕ → Listing
 quiet s b = record { reader = stepOf (s .reader) b .next; frames = s .frames; refused = s .refused; stray = add64 (s .stray) (strayAt (roleOf b) (isOpen (s .reader .mode))) }
 
-quiet-next : (s : Listing) (b : ℕ) → Counted s → stepOf (s .reader) b .outcome ≡ nothing → quiet s b ≡ nextOf s b
+quiet-next : (s : Listing) (b : ℕ) → CountsFit s → stepOf (s .reader) b .outcome ≡ nothing → quiet s b ≡ nextOf s b
 unfolding nextOf
 quiet-next s b h e =
     let f : s .frames ≡ add64 (s .frames) (frameOne (stepOf (s .reader) b .outcome)) = add-none (s .frames) (h .0) ∙ ap (λ (o : Outcome). add64 (s .frames) (frameOne o)) (sym e) in
@@ -107,7 +107,7 @@ quiet-text s b e = ap (line (numberAfter (s .frames) (s .refused))) e
 add64-add64 : (a b c : ℕ) → add64 (add64 a b) c ≡ add64 a (b + c)
 add64-add64 a b c = omega arith
 
-first-leads : (s : Listing) (b : ℕ) (bytes : List ℕ) (f : Feeding) (q : Bool) → Counted s → isAnswer (stepOf (s .reader) b .outcome) ≡ q → LeadsTo (quiet s b) bytes f
+first-leads : (s : Listing) (b : ℕ) (bytes : List ℕ) (f : Feeding) (q : Bool) → CountsFit s → isAnswer (stepOf (s .reader) b .outcome) ≡ q → LeadsTo (quiet s b) bytes f
     → LeadsTo s (b ∷ bytes) (pick q (feeding (stepOf (s .reader) b .outcome) (stepOf (s .reader) b .next) 1) (plus 1 f))
 unfolding nextOf textOf
 first-leads s b bytes f true h e l =
@@ -127,7 +127,7 @@ first-leads s b bytes f false h e l =
     (lead-on s b bytes (f .taken) _ w (quiet-text s b a)
     (subst (λ (x : Listing). Leads x bytes (f .taken) (counting u (f .outcome) (f .next) (strays (isOpen (u .reader .mode)) (take (f .taken) bytes))) w) (quiet-next s b h a) l))
 
-feed-leads : (s : Listing) (bytes : List ℕ) → Counted s → LeadsTo s bytes (feedOf (s .reader) bytes)
+feed-leads : (s : Listing) (bytes : List ℕ) → CountsFit s → LeadsTo s bytes (feedOf (s .reader) bytes)
 unfolding feedOf
 feed-leads s [] h = subst (λ (x : Listing). Leads s [] 0 x []) (counting-none s h) (lead-none s [])
 feed-leads s (b ∷ bytes) h =
@@ -145,7 +145,7 @@ feed-some r (b ∷ bytes) h = by-answer (isAnswer (stepOf r b .outcome)) (feedOf
 
 -- ---- a call on them
 
-module _ (bytes₀ : List ℕ) (t : Tally) (rest bytes : List ℕ) (f : Fed) (g : Feeds bytes f (feedOf (reader bytes₀ (t .len) (t .mode)) rest)) (h : Counted (listing bytes₀ t)) where
+module _ (bytes₀ : List ℕ) (t : Tally) (rest bytes : List ℕ) (f : Fed) (g : Feeds bytes f (feedOf (reader bytes₀ (t .len) (t .mode)) rest)) (h : CountsFit (listing bytes₀ t)) where
   pub fed-fits : f .taken ≤ length rest
   fed-fits = omega (arith, g .taken-is, feed-leads (listing bytes₀ t) rest h .fits)
 

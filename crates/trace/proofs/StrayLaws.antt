@@ -19,7 +19,7 @@ use Rattle.line.specs.declared.LineReader.{LineReader}
 use Rattle.line.specs.declared.Mode.{Mode}
 use Rattle.line.specs.declared.Mode.the-variants.{Outside, InStandard, InExtended, Overlong}
 use Rattle.text.specs.Strays.{strayAt, openAfter, strays}
-use Rattle.trace.specs.Chunk.{isStart, strayCount}
+use Rattle.trace.specs.Private.{isStart, strayCount}
 use Rattle.trace.specs.Machine.{isOpen}
 use Rattle.trace.proofs.Counts.{open-is}
 

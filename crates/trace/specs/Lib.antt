@@ -1,3 +1,3 @@
 pub mod Machine
-pub mod Chunk
+pub mod Private
 pub mod Cutting

@@ -71,9 +71,9 @@ textOf s b = line (numberAfter (s .frames) (s .refused)) (stepOf (s .reader) b .
 
 -- ---- bytes one after the other
 
-abbrev pub after : Listing → List ℕ → Listing
-after s [] = s
-after s (b ∷ bytes) = after (nextOf s b) bytes
+abbrev pub listingAfter : Listing → List ℕ → Listing
+listingAfter s [] = s
+listingAfter s (b ∷ bytes) = listingAfter (nextOf s b) bytes
 
 abbrev pub texts : Listing → List ℕ → List ℕ
 texts s [] = []
@@ -89,7 +89,7 @@ takenOf s (b ∷ bytes) room = pick (ltb room lineRoom) 0 (1 + takenOf (nextOf s
 -- A chunk: how many bytes are taken, the state afterwards, how many bytes are written, and the output. What stands past them stays.
 pub record Lists (s : Listing) (chunk out out′ : List ℕ) (r : Listed) : Type 0 where
   pub taken-is : r .taken ≡ takenOf s chunk (length out)
-  pub next-is : r .next ≡ after s (take (r .taken) chunk)
+  pub next-is : r .next ≡ listingAfter s (take (r .taken) chunk)
   pub wrote-is : r .wrote ≡ length (texts s (take (r .taken) chunk))
   pub out-is : out′ ≡ texts s (take (r .taken) chunk) ++ drop (r .wrote) out
   pub taken-fits : r .taken ≤ length chunk
@@ -110,12 +110,3 @@ pub record Ends (s : Listing) (out out′ : List ℕ) (wrote : ℕ) : Type 0 whe
   pub short : length out < lastRoom → (wrote ≡ 0) × (out′ ≡ out)
   pub whole : lastRoom ≤ length out → (wrote ≡ length (lastText s)) × (out′ ≡ lastText s ++ drop wrote out)
   pub fits : wrote ≤ length out
-
--- ---- the private functions
-
--- A state whose array stands apart.
-abbrev pub listing : List ℕ → Tally → Listing
-listing bytes t = record { reader = record { bytes = bytes; len = t .len; mode = t .mode }; frames = t .frames; refused = t .refused; stray = t .stray }
-
-abbrev pub listedOf : (taken wrote : ℕ) → Listing → Listed
-listedOf taken wrote s = record { taken = taken; wrote = wrote; next = s }

@@ -7,8 +7,8 @@ ghost use mathlib.Core.Path.{_≡_};
 ghost use Prim.Native.Nat.{_+_, _≤_};
 ghost use lib.ListN.{length};
 ghost use Rattle.line.specs.Outcome.{toldMeans};
-ghost use Rattle.trace.specs.Chunk.{strayCount, Advances};
-ghost use Rattle.trace.specs.Machine.{frameCount, refusedCount, isOpen, newListing, numberAfter, Lists, Ends, listing, listedOf};
+ghost use Rattle.trace.specs.Private.{strayCount, Advances, listing, listedOf};
+ghost use Rattle.trace.specs.Machine.{frameCount, refusedCount, isOpen, newListing, numberAfter, Lists, Ends};
 
 const EXTENDED_START: u8 = 0xF0;
 

@@ -71,7 +71,7 @@ fn print_inner(contents: &[u8], w: usize, n: usize) {
     }
 }
 
-// The byte of the n-th entry and the place of its data, with a comma between two entries.
+// The byte of the n-th entry and the index of its data, with a comma between two entries.
 fn print_place(n: usize, byte: u8, start: usize, len: usize) {
     if n != 0 {
         print::text(b",");

@@ -2,7 +2,7 @@
 use crate::print;
 use crate::wire;
 use crate::words;
-use lease::Outcome;
+use lease::LeaseAnswer;
 
 pub fn run_calls(calls: &[u8]) {
     let mut table = [0u8; 2048];
@@ -60,9 +60,9 @@ fn stop(table: &[u8], address: u32, token: u64) {
     wire::print_written(written, &room);
 }
 
-fn print_outcome(outcome: Outcome) {
+fn print_outcome(outcome: LeaseAnswer) {
     match outcome {
-        Outcome::Done => print::text(b"done"),
-        Outcome::Refused(why) => print::refusal(b"refused:", why),
+        LeaseAnswer::Done => print::text(b"done"),
+        LeaseAnswer::Refused(why) => print::refusal(b"refused:", why),
     }
 }

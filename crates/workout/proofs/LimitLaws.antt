@@ -10,7 +10,7 @@ use Rattle.lists.specs.Choice.{within}
 use Rattle.lists.proofs.Cases.{by-bool, both-true}
 use Rattle.lists.proofs.Tests.{within-yes, within-true}
 use Rattle.workout.specs.Limits.{GoalLimits, ceilDiv, RoundedUp, withinGoal}
-use Rattle.workout.specs.Conditions.{Within}
+use Rattle.workout.specs.Conditions.{GoalWithin}
 
 -- ---- rounding up
 
@@ -35,7 +35,7 @@ product-below a b h k = lt-of-le-of-lt (mul-le-mul-left a (le-of-lt k)) (mul-lt-
 -- ---- the tests, as facts
 
 module _ (limits : GoalLimits) (splits scale goal split : ℕ) where
-  pub within-goal : withinGoal limits splits scale goal split ≡ true → Within limits splits scale goal split
+  pub within-goal : withinGoal limits splits scale goal split ≡ true → GoalWithin limits splits scale goal split
   unfolding withinGoal
   within-goal e =
       let a = both-true (within (limits .least) (limits .most) goal) _ e in
@@ -45,11 +45,11 @@ module _ (limits : GoalLimits) (splits scale goal split : ℕ) where
       let s = within-true (limits .shortest) (limits .longest) split (b .0) in
       record { least = g .0; most = g .1; shortest = s .0; longest = s .1; inGoal = leb-true split (scale * goal) (c .0); few = leb-true (ceilDiv (scale * goal) split) splits (c .1) }
 
-  pub goal-within : Within limits splits scale goal split → withinGoal limits splits scale goal split ≡ true
+  pub goal-within : GoalWithin limits splits scale goal split → withinGoal limits splits scale goal split ≡ true
   unfolding withinGoal
   goal-within w =
       simp (within-yes (limits .least) (limits .most) goal (w .least) (w .most), within-yes (limits .shortest) (limits .longest) split (w .shortest) (w .longest), le-leb split (scale * goal) (w .inGoal), le-leb (ceilDiv (scale * goal) split) splits (w .few))
 
   -- where a limit is not kept
-  pub goal-outside : (Within limits splits scale goal split → ⊥) → withinGoal limits splits scale goal split ≡ false
+  pub goal-outside : (GoalWithin limits splits scale goal split → ⊥) → withinGoal limits splits scale goal split ≡ false
   goal-outside n = by-bool (withinGoal limits splits scale goal split) (λ y. absurd (n (within-goal y))) (λ y. y)

@@ -16,12 +16,12 @@ use Rattle.answer.proofs.Drafts.{written-first}
 use Rattle.numbers.proofs.Numbers.{number-bytesOf}
 use Rattle.lists.proofs.Cases.{by-bool}
 use Rattle.workout.specs.Limits.{Limits, pm3Limits}
-use Rattle.workout.specs.Workout.{Programmed, distance, time, wattsOf, withinLimits, layout, distanceBytes, timeBytes, contentsOf, Sendable}
+use Rattle.workout.specs.Workout.{Programmed, distance, time, wattsOf, withinLimits, layout, distanceBytes, timeBytes, workoutBytes, Sendable}
 use Rattle.workout.specs.Form.{bytesAt, laidOut}
-use Rattle.workout.specs.Answers.{readAnswer, workoutDraft}
-use Rattle.workout.specs.Steps.{limitedRead, distanceRead, timeRead}
-use Rattle.workout.specs.declared.layout.Kind.{Kind}
-use Rattle.workout.specs.declared.layout.Kind.the-variants.{Distance, Time}
+use Rattle.workout.specs.Answers.{workoutAnswer, workoutDraft}
+use Rattle.workout.specs.Private.{limitedRead, distanceRead, timeRead}
+use Rattle.workout.specs.declared.layout.GoalKind.{GoalKind}
+use Rattle.workout.specs.declared.layout.GoalKind.the-variants.{Distance, Time}
 use Rattle.workout.proofs.SameLaws.{same-refl}
 use Rattle.workout.proofs.ReadLaws.{read-distance-is, read-time-is}
 use Rattle.workout.proofs.WriteLaws.{draft-is}
@@ -29,16 +29,16 @@ use Rattle.workout.proofs.Table.{within-limits}
 
 -- ---- bytes that were laid out
 
-abbrev laid : Kind → (a b d split watts : ℕ) → List ℕ
+abbrev laid : GoalKind → (a b d split watts : ℕ) → List ℕ
 laid kind a b d split watts = layout kind (a ∷ b ∷ d ∷ []) (bytesOf 4 split) (bytesOf 2 watts)
 
-laid-out : (kind : Kind) (a b d split watts : ℕ) → laidOut (laid kind a b d split watts) ≡ true
+laid-out : (kind : GoalKind) (a b d split watts : ℕ) → laidOut (laid kind a b d split watts) ≡ true
 unfolding laidOut layout bytesOf bytesAt
 laid-out Distance a b d split watts = same-refl (laid Distance a b d split watts)
 laid-out Time a b d split watts = same-refl (laid Time a b d split watts)
 
 -- the split and the power in them
-module _ (kind : Kind) (a b d split watts : ℕ) where
+module _ (kind : GoalKind) (a b d split watts : ℕ) where
   laid-split : split < 256 ^ 4 → split ≡ number 4 10 (laid kind a b d split watts)
   unfolding layout bytesOf
   laid-split h = let l = laid kind a b d split watts in sym (number-bytesOf 4 split (take 10 l) (drop 14 l) 10 refl h)
@@ -50,7 +50,7 @@ module _ (kind : Kind) (a b d split watts : ℕ) where
 -- what they are read as, by the kind of goal
 module _ (limits : Limits) (split watts : ℕ) (s : split < 256 ^ 4) (p : watts < 256 ^ 2) where
   read-laid-distance : (amount unit : ℕ) → amount < 256 ^ 2
-      → readAnswer limits (layout Distance (bytesOf 2 amount ++ (unit ∷ [])) (bytesOf 4 split) (bytesOf 2 watts)) ≡ distanceRead limits amount unit split watts
+      → workoutAnswer limits (layout Distance (bytesOf 2 amount ++ (unit ∷ [])) (bytesOf 4 split) (bytesOf 2 watts)) ≡ distanceRead limits amount unit split watts
   unfolding layout bytesOf
   read-laid-distance amount unit h =
       let a = amount % 256 in
@@ -58,7 +58,7 @@ module _ (limits : Limits) (split watts : ℕ) (s : split < 256 ^ 4) (p : watts 
       let l = laid Distance a b unit split watts in
       sym (read-distance-is l refl (laid-split Distance a b unit split watts s) (laid-watts Distance a b unit split watts p) limits (laid-out Distance a b unit split watts) refl (sym (number-bytesOf 2 amount (take 2 l) (drop 4 l) 2 refl h)))
 
-  read-laid-time : (hours minutes seconds : ℕ) → readAnswer limits (laid Time hours minutes seconds split watts) ≡ timeRead limits hours minutes seconds split watts
+  read-laid-time : (hours minutes seconds : ℕ) → workoutAnswer limits (laid Time hours minutes seconds split watts) ≡ timeRead limits hours minutes seconds split watts
   unfolding layout bytesOf
   read-laid-time hours minutes seconds =
       sym (read-time-is (laid Time hours minutes seconds split watts) refl (laid-split Time hours minutes seconds split watts s) (laid-watts Time hours minutes seconds split watts p) limits (laid-out Time hours minutes seconds split watts) refl)
@@ -70,9 +70,9 @@ unfolding limitedRead
 limited-sound limits v w e h = ap (limitedRead limits) e ∙ simp h
 
 -- A workout within any limits, if its bytes can hold it, is read back as itself.
-pub reads-back : (limits : Limits) (w : Programmed) → withinLimits limits w ≡ true → Sendable w → readAnswer limits (contentsOf w) ≡ result w
-unfolding contentsOf distanceBytes timeBytes distanceRead timeRead bytesOf
-reads-back limits (distance goal split watts) h (g, p) =
+pub workout-reads-back : (limits : Limits) (w : Programmed) → withinLimits limits w ≡ true → Sendable w → workoutAnswer limits (workoutBytes w) ≡ result w
+unfolding workoutBytes distanceBytes timeBytes distanceRead timeRead bytesOf
+workout-reads-back limits (distance goal split watts) h (g, p) =
     let far : goal < 65536000 = farthest g in
     let s : split < 256 ^ 4 = omega (arith, within-limits limits (distance goal split watts) h .inGoal) in
     by-bool (eqb (goal % 1000) 0)
@@ -90,7 +90,7 @@ reads-back limits (distance goal split watts) h (g, p) =
     near : (goal < 65536) ⊎ ((goal % 1000 ≡ 0) × (goal < 65536000)) → (goal % 1000 ≡ 0 → ⊥) → goal < 256 ^ 2
     near (inl l) n = omega arith
     near (inr l) n = absurd (n (l .0))
-reads-back limits (time goal split watts) h (g, p) =
+workout-reads-back limits (time goal split watts) h (g, p) =
     let s : split < 256 ^ 4 = omega (arith, within-limits limits (time goal split watts) h .inGoal) in
     let minutes : goal / 60 % 60 ≤ 59 = omega arith in
     let seconds : goal % 60 ≤ 59 = omega arith in
@@ -105,15 +105,15 @@ pm3-sendable (distance goal split watts) h p = (inl (omega (arith, within-limits
 pm3-sendable (time goal split watts) h p = (omega (arith, within-limits pm3Limits (time goal split watts) h .most), p)
 
 -- What is written within document 01's limits is read back.
-pub pm3-reads-back : (w : Programmed) → withinLimits pm3Limits w ≡ true → wattsOf w < 65536 → readAnswer pm3Limits (contentsOf w) ≡ result w
-pm3-reads-back w h p = reads-back pm3Limits w h (pm3-sendable w h p)
+pub pm3-reads-back : (w : Programmed) → withinLimits pm3Limits w ≡ true → wattsOf w < 65536 → workoutAnswer pm3Limits (workoutBytes w) ≡ result w
+pm3-reads-back w h p = workout-reads-back pm3Limits w h (pm3-sendable w h p)
 
 -- ---- the same of the answer and the lent slice
 
 -- A workout that was written is read back from the bytes that were written, whatever the output held.
-pub written-reads-back : (limits : Limits) (w : Programmed) (out : List ℕ) (n : ℕ) → Sendable w → draftAnswer (workoutDraft limits w) (length out) ≡ result n
-    → readAnswer limits (take n (draftOut (workoutDraft limits w) out)) ≡ result w
-written-reads-back limits w out n g e =
+pub written-workout-reads-back : (limits : Limits) (w : Programmed) (out : List ℕ) (n : ℕ) → Sendable w → draftAnswer (workoutDraft limits w) (length out) ≡ result n
+    → workoutAnswer limits (take n (draftOut (workoutDraft limits w) out)) ≡ result w
+written-workout-reads-back limits w out n g e =
     let f = written-first (workoutDraft limits w) out n e in
     let i = draft-is limits w (f .0) (f .1) in
-    ap (readAnswer limits) (f .3 ∙ i .1) ∙ reads-back limits w (i .0) g
+    ap (workoutAnswer limits) (f .3 ∙ i .1) ∙ workout-reads-back limits w (i .0) g

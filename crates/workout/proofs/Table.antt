@@ -15,11 +15,11 @@ use Rattle.answer.specs.Answer.{result, refused, Answer}
 use Rattle.lists.proofs.Cases.{by-bool, both-true}
 use Rattle.workout.specs.Limits.{Limits}
 use Rattle.workout.specs.Workout.{Programmed, distance, time, commandOf, layout, withinLimits}
-use Rattle.workout.specs.Form.{kindFor, kindIn, sameBytes, bytesAt, laidOut, unitKnown, clockRight, workoutAs, hasForm, inLimits}
-use Rattle.workout.specs.Answers.{readAnswer, workoutDraft}
-use Rattle.workout.specs.Conditions.{UnitKnown, Formed, WithinLimits, ClockRight, Limited, Readable, Judged, formless, overLimit, readable, WriteJudged, outside, noRoom, fits}
-use Rattle.workout.specs.declared.layout.Kind.{Kind}
-use Rattle.workout.specs.declared.layout.Kind.the-variants.{Distance, Time}
+use Rattle.workout.specs.Form.{goalKindFor, goalKindIn, sameBytes, bytesAt, laidOut, unitKnown, clockRight, workoutAs, hasForm, inLimits}
+use Rattle.workout.specs.Answers.{workoutAnswer, workoutDraft}
+use Rattle.workout.specs.Conditions.{UnitKnown, Formed, WithinLimits, ClockRight, Limited, Readable, JudgedWorkout, formless, overLimit, readable, JudgedWriting, outside, noRoom, fits}
+use Rattle.workout.specs.declared.layout.GoalKind.{GoalKind}
+use Rattle.workout.specs.declared.layout.GoalKind.the-variants.{Distance, Time}
 use Rattle.workout.proofs.SameLaws.{same-refl, same-true}
 use Rattle.workout.proofs.LimitLaws.{within-goal, goal-within}
 use Rattle.workout.proofs.ReadLaws.{bytes-at-part}
@@ -27,55 +27,55 @@ use Rattle.workout.proofs.WriteLaws.{contents-length, draft-outside, dr
 
 -- ---- the form
 
-unit-known : (kind : Kind) (unit : ℕ) → unitKnown kind unit ≡ true → UnitKnown kind unit
+unit-known : (kind : GoalKind) (unit : ℕ) → unitKnown kind unit ≡ true → UnitKnown kind unit
 unit-known Distance unit e =
     by-bool (eqb unit 0x21)
     (λ y. inl (eqb-true unit 0x21 y))
     (λ n. inr (eqb-true unit 0x24 (simp n at e)))
 unit-known Time unit e = tt
 
-known-unit : (kind : Kind) (unit : ℕ) → UnitKnown kind unit → unitKnown kind unit ≡ true
+known-unit : (kind : GoalKind) (unit : ℕ) → UnitKnown kind unit → unitKnown kind unit ≡ true
 known-unit Distance unit (inl e) = simp (eq-eqb unit 0x21 e)
 known-unit Distance unit (inr e) = by-bool (eqb unit 0x21) (λ y. simp y) (λ n. simp (n, eq-eqb unit 0x24 e))
 known-unit Time unit e = refl
 
 -- the command byte tells the kind
-form-kind : (kind : Kind) (c : List ℕ) → Formed kind c → kindIn c ≡ kind
+form-kind : (kind : GoalKind) (c : List ℕ) → Formed kind c → goalKindIn c ≡ kind
 unfolding bytesAt
-form-kind kind c f = ap (λ (l : List ℕ). kindFor (getD l 0 0)) (f .goal) ∙ told kind
+form-kind kind c f = ap (λ (l : List ℕ). goalKindFor (getD l 0 0)) (f .goal) ∙ told kind
   where
-    told : (kind : Kind) → kindFor (commandOf kind) ≡ kind
+    told : (kind : GoalKind) → goalKindFor (commandOf kind) ≡ kind
     told Distance = refl
     told Time = refl
 
 -- bytes that have the form are those of the layout
-form-layout : (kind : Kind) (c : List ℕ) → Formed kind c → c ≡ layout kind (bytesAt 2 3 c) (bytesAt 10 4 c) (bytesAt 16 2 c)
+form-layout : (kind : GoalKind) (c : List ℕ) → Formed kind c → c ≡ layout kind (bytesAt 2 3 c) (bytesAt 10 4 c) (bytesAt 16 2 c)
 unfolding layout bytesAt
 form-layout kind c f =
     sym (bytes-at-part 0 23 c (omega (arith, f .long)) ∙ take-all 23 c (omega (arith, f .long)))
     ∙ (λ i. f .goal i ++ (bytesAt 2 3 c ++ (f .split i ++ (bytesAt 10 4 c ++ (f .power i ++ (bytesAt 16 2 c ++ (f .watts i ++ f .last i)))))))
 
-form-laid : (kind : Kind) (c : List ℕ) → Formed kind c → laidOut c ≡ true
+form-laid : (kind : GoalKind) (c : List ℕ) → Formed kind c → laidOut c ≡ true
 unfolding laidOut
 form-laid kind c f =
     simp (eq-eqb (length c) 23 (f .long))
-    (ap (λ (k : Kind). sameBytes c (layout k (bytesAt 2 3 c) (bytesAt 10 4 c) (bytesAt 16 2 c))) (form-kind kind c f)
+    (ap (λ (k : GoalKind). sameBytes c (layout k (bytesAt 2 3 c) (bytesAt 10 4 c) (bytesAt 16 2 c))) (form-kind kind c f)
     ∙ ap (sameBytes c) (sym (form-layout kind c f)) ∙ same-refl c)
 
-form-yes : (kind : Kind) (c : List ℕ) → Formed kind c → hasForm c ≡ true
+form-yes : (kind : GoalKind) (c : List ℕ) → Formed kind c → hasForm c ≡ true
 unfolding hasForm
-form-yes kind c f = simp (form-laid kind c f) (ap (λ (k : Kind). unitKnown k (getD c 4 0)) (form-kind kind c f) ∙ known-unit kind (getD c 4 0) (f .unit))
+form-yes kind c f = simp (form-laid kind c f) (ap (λ (k : GoalKind). unitKnown k (getD c 4 0)) (form-kind kind c f) ∙ known-unit kind (getD c 4 0) (f .unit))
 
-form-of : (c : List ℕ) → hasForm c ≡ true → Formed (kindIn c) c
+form-of : (c : List ℕ) → hasForm c ≡ true → Formed (goalKindIn c) c
 unfolding hasForm laidOut layout bytesAt
 form-of c h =
     let u = both-true (laidOut c) _ h in
     let l = both-true (eqb (length c) 23) _ (u .0) in
-    let e = same-true c (layout (kindIn c) (bytesAt 2 3 c) (bytesAt 10 4 c) (bytesAt 16 2 c)) (l .1) in
+    let e = same-true c (layout (goalKindIn c) (bytesAt 2 3 c) (bytesAt 10 4 c) (bytesAt 16 2 c)) (l .1) in
     record {
       long = eqb-true _ _ (l .0);
       goal = ap (bytesAt 0 2) e;
-      unit = unit-known (kindIn c) (getD c 4 0) (u .1);
+      unit = unit-known (goalKindIn c) (getD c 4 0) (u .1);
       split = ap (bytesAt 5 5) e;
       power = ap (bytesAt 14 2) e;
       watts = ap (bytesAt 18 1) e;
@@ -94,61 +94,61 @@ unfolding withinLimits
 limits-within limits (distance goal split watts) l = goal-within (limits .distance) (limits .splits) 1 goal split l
 limits-within limits (time goal split watts) l = goal-within (limits .time) (limits .splits) 100 goal split l
 
-clock-right : (kind : Kind) (c : List ℕ) → clockRight kind (getD c 3 0) (getD c 4 0) ≡ true → ClockRight kind c
+clock-right : (kind : GoalKind) (c : List ℕ) → clockRight kind (getD c 3 0) (getD c 4 0) ≡ true → ClockRight kind c
 clock-right Distance c e = tt
 clock-right Time c e = let p = both-true (leb (getD c 3 0) 59) _ e in (leb-true _ _ (p .0), leb-true _ _ (p .1))
 
-right-clock : (kind : Kind) (c : List ℕ) → ClockRight kind c → clockRight kind (getD c 3 0) (getD c 4 0) ≡ true
+right-clock : (kind : GoalKind) (c : List ℕ) → ClockRight kind c → clockRight kind (getD c 3 0) (getD c 4 0) ≡ true
 right-clock Distance c r = refl
 right-clock Time c r = simp (le-leb (getD c 3 0) 59 (r .0), le-leb (getD c 4 0) 59 (r .1))
 
-limited-of : (limits : Limits) (c : List ℕ) → inLimits limits c ≡ true → Limited limits (kindIn c) c
+limited-of : (limits : Limits) (c : List ℕ) → inLimits limits c ≡ true → Limited limits (goalKindIn c) c
 unfolding inLimits
 limited-of limits c e =
-    let p = both-true (clockRight (kindIn c) (getD c 3 0) (getD c 4 0)) _ e in
-    record { clock = clock-right (kindIn c) c (p .0); within = within-limits limits (workoutAs (kindIn c) c) (p .1) }
+    let p = both-true (clockRight (goalKindIn c) (getD c 3 0) (getD c 4 0)) _ e in
+    record { clock = clock-right (goalKindIn c) c (p .0); within = within-limits limits (workoutAs (goalKindIn c) c) (p .1) }
 
-limited-yes : (limits : Limits) (c : List ℕ) → Limited limits (kindIn c) c → inLimits limits c ≡ true
+limited-yes : (limits : Limits) (c : List ℕ) → Limited limits (goalKindIn c) c → inLimits limits c ≡ true
 unfolding inLimits
-limited-yes limits c l = simp (right-clock (kindIn c) c (l .clock)) (limits-within limits (workoutAs (kindIn c) c) (l .within))
+limited-yes limits c l = simp (right-clock (goalKindIn c) c (l .clock)) (limits-within limits (workoutAs (goalKindIn c) c) (l .within))
 
 -- ---- the table of reading
 
 module _ (limits : Limits) (c : List ℕ) where
   -- what the table says is the answer
-  table-answer : (a : Answer Programmed) → Judged limits c a → readAnswer limits c ≡ a
-  unfolding readAnswer
-  table-answer a (formless n) = by-bool (hasForm c) (λ y. absurd (n (kindIn c) (form-of c y))) (λ y. simp y)
+  table-answer : (a : Answer Programmed) → JudgedWorkout limits c a → workoutAnswer limits c ≡ a
+  unfolding workoutAnswer
+  table-answer a (formless n) = by-bool (hasForm c) (λ y. absurd (n (goalKindIn c) (form-of c y))) (λ y. simp y)
   table-answer a (overLimit kind f n) =
       by-bool (inLimits limits c)
-      (λ y. absurd (n (subst (λ (k : Kind). Limited limits k c) (form-kind kind c f) (limited-of limits c y))))
+      (λ y. absurd (n (subst (λ (k : GoalKind). Limited limits k c) (form-kind kind c f) (limited-of limits c y))))
       (λ y. simp (form-yes kind c f, y))
   table-answer a (readable w r) =
       let k = form-kind (r .kind) c (r .form) in
-      let l = limited-yes limits c (subst (λ (k : Kind). Limited limits k c) (sym k) (r .limited)) in
-      simp (form-yes (r .kind) c (r .form), l) (ap (λ (k : Kind). result (workoutAs k c)) k ∙ ap result (sym (r .workout)))
+      let l = limited-yes limits c (subst (λ (k : GoalKind). Limited limits k c) (sym k) (r .limited)) in
+      simp (form-yes (r .kind) c (r .form), l) (ap (λ (k : GoalKind). result (workoutAs k c)) k ∙ ap result (sym (r .workout)))
 
   -- all contents have a line of the table
-  some-line : (a : Answer Programmed) × Judged limits c a
+  some-line : (a : Answer Programmed) × JudgedWorkout limits c a
   some-line =
       by-bool (hasForm c)
       (λ y. by-bool (inLimits limits c)
-      (λ l. (result (workoutAs (kindIn c) c), readable _ (record { kind = kindIn c; form = form-of c y; limited = limited-of limits c l; workout = refl })))
-      (λ l. (refused 12, overLimit (kindIn c) (form-of c y) (λ r. true≢false (sym (limited-yes limits c r) ∙ l)))))
+      (λ l. (result (workoutAs (goalKindIn c) c), readable _ (record { kind = goalKindIn c; form = form-of c y; limited = limited-of limits c l; workout = refl })))
+      (λ l. (refused 12, overLimit (goalKindIn c) (form-of c y) (λ r. true≢false (sym (limited-yes limits c r) ∙ l)))))
       (λ y. (refused 13, formless (λ kind f. true≢false (sym (form-yes kind c f) ∙ y))))
 
   -- Every answer is given exactly when the table gives it: a refusal where the rule that it names fails and all before it hold.
-  pub read-by-table : (a : Answer Programmed) → (readAnswer limits c ≡ a → Judged limits c a) × (Judged limits c a → readAnswer limits c ≡ a)
+  pub read-by-table : (a : Answer Programmed) → (workoutAnswer limits c ≡ a → JudgedWorkout limits c a) × (JudgedWorkout limits c a → workoutAnswer limits c ≡ a)
   read-by-table a = (
-    (λ e. subst (λ (x : Answer Programmed). Judged limits c x) (sym (table-answer (some-line .0) (some-line .1)) ∙ e) (some-line .1)),
+    (λ e. subst (λ (x : Answer Programmed). JudgedWorkout limits c x) (sym (table-answer (some-line .0) (some-line .1)) ∙ e) (some-line .1)),
     table-answer a,
   )
 
   -- Read exactly when form and limits hold, and then as that workout.
-  pub read-exactly : (w : Programmed) → (readAnswer limits c ≡ result w → Readable limits c w) × (Readable limits c w → readAnswer limits c ≡ result w)
+  pub read-exactly : (w : Programmed) → (workoutAnswer limits c ≡ result w → Readable limits c w) × (Readable limits c w → workoutAnswer limits c ≡ result w)
   read-exactly w = ((λ e. found (result w) (read-by-table (result w) .0 e) w refl), (λ r. table-answer (result w) (readable w r)))
     where
-      found : (a : Answer Programmed) → Judged limits c a → (w : Programmed) → a ≡ result w → Readable limits c w
+      found : (a : Answer Programmed) → JudgedWorkout limits c a → (w : Programmed) → a ≡ result w → Readable limits c w
       found a (formless n) w e = let z : _≡_ {A = ℕ} 0 1 = cc in absurd (omega arith)
       found a (overLimit kind f n) w e = let z : _≡_ {A = ℕ} 0 1 = cc in absurd (omega arith)
       found a (readable v r) w e = let q : v ≡ w = cc in subst (λ (x : Programmed). Readable limits c x) q r
@@ -168,12 +168,12 @@ module _ (limits : Limits) (w : Programmed) (room : ℕ) where
   unfolding draftAnswer
   past y = ap (λ (d : Draft). draftAnswer d room) (draft-outside limits w y)
 
-  table-written : (a : Answer ℕ) → WriteJudged limits w room a → answer ≡ a
+  table-written : (a : Answer ℕ) → JudgedWriting limits w room a → answer ≡ a
   table-written a (outside n) = by-bool (withinLimits limits w) (λ y. absurd (n (within-limits limits w y))) (λ y. past y)
   table-written a (noRoom l h) = inside (limits-within limits w l) ∙ simp (lt-leb 23 room h)
   table-written a (fits l h) = inside (limits-within limits w l) ∙ simp (le-leb 23 room h)
 
-  some-write : (a : Answer ℕ) × WriteJudged limits w room a
+  some-write : (a : Answer ℕ) × JudgedWriting limits w room a
   some-write =
       by-bool (withinLimits limits w)
       (λ y. by-bool (leb 23 room)
@@ -182,8 +182,8 @@ module _ (limits : Limits) (w : Programmed) (room : ℕ) where
       (λ y. (refused 12, outside (λ l. true≢false (sym (limits-within limits w l) ∙ y))))
 
   -- Every answer to writing is given exactly when the table gives it.
-  pub written-by-table : (a : Answer ℕ) → (answer ≡ a → WriteJudged limits w room a) × (WriteJudged limits w room a → answer ≡ a)
+  pub written-by-table : (a : Answer ℕ) → (answer ≡ a → JudgedWriting limits w room a) × (JudgedWriting limits w room a → answer ≡ a)
   written-by-table a = (
-    (λ e. subst (λ (x : Answer ℕ). WriteJudged limits w room x) (sym (table-written (some-write .0) (some-write .1)) ∙ e) (some-write .1)),
+    (λ e. subst (λ (x : Answer ℕ). JudgedWriting limits w room x) (sym (table-written (some-write .0) (some-write .1)) ∙ e) (some-write .1)),
     table-written a,
   )

@@ -6,19 +6,19 @@ use Rattle.answer.specs.Answer.{Answer, result, refused}
 use Rattle.answer.specs.Draft.{Draft}
 use Rattle.answer.specs.Refusals.{numberOf}
 use Rattle.workout.specs.Limits.{Limits}
-use Rattle.workout.specs.Workout.{Programmed, programmed, withinLimits, contentsOf}
+use Rattle.workout.specs.Workout.{Programmed, programmed, withinLimits, workoutBytes}
 use Rattle.workout.specs.Form.{hasForm, inLimits, workoutIn}
 use Rattle.workout.specs.declared.WorkoutRead.{WorkoutRead}
 use Rattle.workout.specs.declared.WorkoutRead.the-variants.{Sound, Refused}
 
-abbrev pub readMeans : WorkoutRead → Answer Programmed
-readMeans (Sound w) = result (programmed w)
-readMeans (Refused why) = refused (numberOf why)
+abbrev pub workoutMeans : WorkoutRead → Answer Programmed
+workoutMeans (Sound w) = result (programmed w)
+workoutMeans (Refused why) = refused (numberOf why)
 
 -- The answer to reading contents: 13, then 12, then the workout.
-unfoldable pub readAnswer : Limits → List ℕ → Answer Programmed
-readAnswer limits c = pick (hasForm c) (pick (inLimits limits c) (result (workoutIn c)) (refused 12)) (refused 13)
+unfoldable pub workoutAnswer : Limits → List ℕ → Answer Programmed
+workoutAnswer limits c = pick (hasForm c) (pick (inLimits limits c) (result (workoutIn c)) (refused 12)) (refused 13)
 
 -- The contents of a workout, or refusal 12.
 unfoldable pub workoutDraft : Limits → Programmed → Draft
-workoutDraft limits w = pick (withinLimits limits w) (result (contentsOf w)) (refused 12)
+workoutDraft limits w = pick (withinLimits limits w) (result (workoutBytes w)) (refused 12)

@@ -9,20 +9,20 @@ use Rattle.answer.specs.Answer.{result, refused, Answer}
 use Rattle.workout.specs.Limits.{GoalLimits, Limits, ceilDiv}
 use Rattle.workout.specs.Workout.{Programmed, distance, time, commandOf, identifierOf}
 use Rattle.workout.specs.Form.{bytesAt, workoutAs}
-use Rattle.workout.specs.declared.layout.Kind.{Kind}
-use Rattle.workout.specs.declared.layout.Kind.the-variants.{Distance, Time}
+use Rattle.workout.specs.declared.layout.GoalKind.{GoalKind}
+use Rattle.workout.specs.declared.layout.GoalKind.the-variants.{Distance, Time}
 
 -- The bytes of `part` stand in `c` from index `at` on.
 abbrev pub Stands : (at : ℕ) (part c : List ℕ) → Type 0
 Stands at part c = bytesAt at (length part) c ≡ part
 
 -- The unit of a distance is km or metres; the third byte of a time is free.
-abbrev pub UnitKnown : Kind → ℕ → Type 0
+abbrev pub UnitKnown : GoalKind → ℕ → Type 0
 UnitKnown Distance unit = (unit ≡ 0x21) ⊎ (unit ≡ 0x24)
 UnitKnown Time seconds = Unit {0}
 
 -- The form of contents with a goal of one kind.
-pub record Formed (kind : Kind) (c : List ℕ) : Type 0 where
+pub record Formed (kind : GoalKind) (c : List ℕ) : Type 0 where
   pub long : length c ≡ 23
   pub goal : Stands 0 (commandOf kind ∷ 0x03 ∷ []) c
   pub unit : UnitKnown kind (getD c 4 0)
@@ -32,7 +32,7 @@ pub record Formed (kind : Kind) (c : List ℕ) : Type 0 where
   pub last : Stands 19 (0x24 ∷ 0x02 ∷ 0x00 ∷ 0x00 ∷ []) c
 
 -- The limits on a goal and its split, where `scale` units of the split make one of the goal.
-pub record Within (limits : GoalLimits) (splits scale goal split : ℕ) : Type 0 where
+pub record GoalWithin (limits : GoalLimits) (splits scale goal split : ℕ) : Type 0 where
   pub least : limits .least ≤ goal
   pub most : goal ≤ limits .most
   pub shortest : limits .shortest ≤ split
@@ -41,34 +41,34 @@ pub record Within (limits : GoalLimits) (splits scale goal split : ℕ) : Type 0
   pub few : ceilDiv (scale * goal) split ≤ splits
 
 abbrev pub WithinLimits : Limits → Programmed → Type 0
-WithinLimits limits (distance goal split watts) = Within (limits .distance) (limits .splits) 1 goal split
-WithinLimits limits (time goal split watts) = Within (limits .time) (limits .splits) 100 goal split
+WithinLimits limits (distance goal split watts) = GoalWithin (limits .distance) (limits .splits) 1 goal split
+WithinLimits limits (time goal split watts) = GoalWithin (limits .time) (limits .splits) 100 goal split
 
 -- Minutes and seconds of a time are at most 59.
-abbrev pub ClockRight : Kind → List ℕ → Type 0
+abbrev pub ClockRight : GoalKind → List ℕ → Type 0
 ClockRight Distance c = Unit {0}
 ClockRight Time c = (getD c 3 0 ≤ 59) × (getD c 4 0 ≤ 59)
 
 -- The limits on contents that have the form.
-pub record Limited (limits : Limits) (kind : Kind) (c : List ℕ) : Type 0 where
+pub record Limited (limits : Limits) (kind : GoalKind) (c : List ℕ) : Type 0 where
   pub clock : ClockRight kind c
   pub within : WithinLimits limits (workoutAs kind c)
 
 -- What document 01 asks of contents that are read as a workout.
 pub record Readable (limits : Limits) (c : List ℕ) (w : Programmed) : Type 0 where
-  pub kind : Kind
+  pub kind : GoalKind
   pub form : Formed kind c
   pub limited : Limited limits kind c
   pub workout : w ≡ workoutAs kind c
 
 -- Document 01's table with its order: each answer with the rule that fails, where every rule before it holds.
-pub data Judged (limits : Limits) (c : List ℕ) : Answer Programmed → Type 0 where
-  formless : ((kind : Kind) → Formed kind c → ⊥) → Judged limits c (refused 13)
-  overLimit : (kind : Kind) → Formed kind c → (Limited limits kind c → ⊥) → Judged limits c (refused 12)
-  readable : (w : Programmed) → Readable limits c w → Judged limits c (result w)
+pub data JudgedWorkout (limits : Limits) (c : List ℕ) : Answer Programmed → Type 0 where
+  formless : ((kind : GoalKind) → Formed kind c → ⊥) → JudgedWorkout limits c (refused 13)
+  overLimit : (kind : GoalKind) → Formed kind c → (Limited limits kind c → ⊥) → JudgedWorkout limits c (refused 12)
+  readable : (w : Programmed) → Readable limits c w → JudgedWorkout limits c (result w)
 
 -- The same of writing, where the output's room is asked for last.
-pub data WriteJudged (limits : Limits) (w : Programmed) (room : ℕ) : Answer ℕ → Type 0 where
-  outside : (WithinLimits limits w → ⊥) → WriteJudged limits w room (refused 12)
-  noRoom : WithinLimits limits w → room < 23 → WriteJudged limits w room (refused 1)
-  fits : WithinLimits limits w → 23 ≤ room → WriteJudged limits w room (result 23)
+pub data JudgedWriting (limits : Limits) (w : Programmed) (room : ℕ) : Answer ℕ → Type 0 where
+  outside : (WithinLimits limits w → ⊥) → JudgedWriting limits w room (refused 12)
+  noRoom : WithinLimits limits w → room < 23 → JudgedWriting limits w room (refused 1)
+  fits : WithinLimits limits w → 23 ≤ room → JudgedWriting limits w room (result 23)

@@ -3,4 +3,4 @@ pub mod Workout
 pub mod Form
 pub mod Answers
 pub mod Conditions
-pub mod Steps
+pub mod Private

@@ -11,8 +11,8 @@ use Rattle.workout.specs.Limits.{Limits, withinGoal}
 use Rattle.workout.specs.declared.Workout.{Workout}
 use Rattle.workout.specs.declared.Goal.{Goal}
 use Rattle.workout.specs.declared.Goal.the-variants.{Distance, Time}
-use Rattle.workout.specs.declared.layout.Kind.{Kind}
-use Rattle.workout.specs.declared.layout.Kind.the-variants.{Distance as OfDistance, Time as OfTime}
+use Rattle.workout.specs.declared.layout.GoalKind.{GoalKind}
+use Rattle.workout.specs.declared.layout.GoalKind.the-variants.{Distance as OfDistance, Time as OfTime}
 
 -- A workout as plain numbers (document 01: a card). A distance and its split are in metres, a time is in seconds and its split in hundredths of a second.
 pub data Programmed : Type 0 where
@@ -38,18 +38,18 @@ withinLimits limits (time goal split watts) = withinGoal (limits .time) (limits 
 -- ---- the bytes
 
 -- The command that sets the goal.
-abbrev pub commandOf : Kind → ℕ
+abbrev pub commandOf : GoalKind → ℕ
 commandOf OfDistance = 0x21
 commandOf OfTime = 0x20
 
 -- The identifier of the split.
-abbrev pub identifierOf : Kind → ℕ
+abbrev pub identifierOf : GoalKind → ℕ
 identifierOf OfDistance = 0x80
 identifierOf OfTime = 0x00
 
 -- The 23 bytes, with the three of the goal, the four of the split and the two of the power. The commands are one that sets the goal,
 -- a wrapper round the one that sets the split, one that sets the power in watts, and one that selects the programmed workout.
-unfoldable pub layout : Kind → (goal split power : List ℕ) → List ℕ
+unfoldable pub layout : GoalKind → (goal split power : List ℕ) → List ℕ
 layout kind goal split power =
     (commandOf kind ∷ 0x03 ∷ goal)
     ++ ((0x1A ∷ 0x07 ∷ 0x05 ∷ 0x05 ∷ identifierOf kind ∷ split)
@@ -65,9 +65,9 @@ unfoldable pub timeBytes : ℕ → List ℕ
 timeBytes seconds = bytesOf 1 (seconds / 3600) ++ (seconds / 60 % 60 ∷ seconds % 60 ∷ [])
 
 -- The contents of a workout.
-unfoldable pub contentsOf : Programmed → List ℕ
-contentsOf (distance goal split watts) = layout OfDistance (distanceBytes goal) (bytesOf 4 split) (bytesOf 2 watts)
-contentsOf (time goal split watts) = layout OfTime (timeBytes goal) (bytesOf 4 split) (bytesOf 2 watts)
+unfoldable pub workoutBytes : Programmed → List ℕ
+workoutBytes (distance goal split watts) = layout OfDistance (distanceBytes goal) (bytesOf 4 split) (bytesOf 2 watts)
+workoutBytes (time goal split watts) = layout OfTime (timeBytes goal) (bytesOf 4 split) (bytesOf 2 watts)
 
 -- What the bytes can hold: a distance of 16 bits in metres or in whole km, hours of 8 bits, a power of 16 bits. Document 01's limits let no other goal through.
 abbrev pub Sendable : Programmed → Type 0

@@ -5,7 +5,7 @@ ghost use Prim.Native.Nat.{_+_, _*_, _/_, _%_};
 ghost use lib.ListN.{length};
 ghost use Rattle.numbers.specs.Number.{bytesOf};
 ghost use Rattle.workout.specs.Workout.{layout, commandOf, identifierOf, distanceBytes, timeBytes};
-ghost use Rattle.workout.specs.Form.{kindFor, sameBytes};
+ghost use Rattle.workout.specs.Form.{goalKindFor, sameBytes};
 
 pub(crate) const LEN: usize = 23;
 
@@ -50,7 +50,7 @@ const HOUR: u32 = 3600;
 
 const MINUTE: u32 = 60;
 
-pub(crate) enum Kind {
+pub(crate) enum GoalKind {
     Distance,
     Time,
 }
@@ -59,30 +59,30 @@ pub(crate) enum Kind {
 pub(crate) struct GoalBytes(pub(crate) u8, pub(crate) u8, pub(crate) u8);
 
 // The kind of goal that a command byte sets.
-pub(crate) fn kind_of(command: u8) -> Kind
-    ensures { λ r. ⌜ r ≡ kindFor command ⌝ }
+pub(crate) fn kind_of(command: u8) -> GoalKind
+    ensures { λ r. ⌜ r ≡ goalKindFor command ⌝ }
 {
     if command == SET_WORK_TIME {
-        return Kind::Time;
+        return GoalKind::Time;
     }
-    Kind::Distance
+    GoalKind::Distance
 }
 
-fn command_of(kind: Kind) -> u8
+fn command_of(kind: GoalKind) -> u8
     ensures { λ r. ⌜ r ≡ commandOf kind ⌝ }
 {
     match kind {
-        Kind::Distance => SET_HORIZONTAL,
-        Kind::Time => SET_WORK_TIME,
+        GoalKind::Distance => SET_HORIZONTAL,
+        GoalKind::Time => SET_WORK_TIME,
     }
 }
 
-fn identifier_of(kind: Kind) -> u8
+fn identifier_of(kind: GoalKind) -> u8
     ensures { λ r. ⌜ r ≡ identifierOf kind ⌝ }
 {
     match kind {
-        Kind::Distance => DISTANCE_SPLIT,
-        Kind::Time => TIME_SPLIT,
+        GoalKind::Distance => DISTANCE_SPLIT,
+        GoalKind::Time => TIME_SPLIT,
     }
 }
 
@@ -103,7 +103,7 @@ fn four_bytes(n: u32) -> [u8; 4]
 }
 
 // All 23 bytes: four commands, each with the number of the bytes that follow it.
-pub(crate) fn lay_out(kind: Kind, goal: GoalBytes, split: u32, watts: u16) -> [u8; 23]
+pub(crate) fn lay_out(kind: GoalKind, goal: GoalBytes, split: u32, watts: u16) -> [u8; 23]
     ensures { λ r. ⌜ r ≡ layout kind (goal .0 ∷ goal .1 ∷ goal .2 ∷ []) (bytesOf 4 split) (bytesOf 2 watts) ⌝ }
 {
     let command = command_of(kind);

@@ -6,16 +6,16 @@ mod limits;
 use answer::Refusal;
 use answer::Written;
 use layout::GoalBytes;
-use layout::Kind;
+use layout::GoalKind;
 use limits::Limits;
 ghost use mathlib.Core.Path.{_≡_};
 ghost use Prim.Native.Nat.{_<_};
 ghost use lib.ListN.{length};
 ghost use Rattle.answer.specs.Draft.{draftAnswer, draftOut, writtenMeans};
 ghost use Rattle.workout.specs.Limits.{pm3Limits, Divisible};
-ghost use Rattle.workout.specs.Workout.{Programmed, programmed, contentsOf};
-ghost use Rattle.workout.specs.Answers.{readMeans, readAnswer, workoutDraft};
-ghost use Rattle.workout.specs.Steps.{limitsOf, distanceRead, timeRead, limitedRead};
+ghost use Rattle.workout.specs.Workout.{Programmed, programmed, workoutBytes};
+ghost use Rattle.workout.specs.Answers.{workoutMeans, workoutAnswer, workoutDraft};
+ghost use Rattle.workout.specs.Private.{limitsOf, distanceRead, timeRead, limitedRead};
 
 // The most minutes and the most seconds that a time goal has beside its hours.
 const CLOCK_LIMIT: u8 = 59;
@@ -47,7 +47,7 @@ pub enum WorkoutRead {
 
 // Reads the contents of a frame that are to be a workout. Refusals 13 and 12.
 pub fn read_workout(contents: &[u8]) -> WorkoutRead
-    ensures { λ r. ⌜ readMeans r ≡ readAnswer pm3Limits (now (contents .entry)) ⌝ }
+    ensures { λ r. ⌜ workoutMeans r ≡ workoutAnswer pm3Limits (now (contents .entry)) ⌝ }
 {
     read_within(limits::PM3, contents)
 }
@@ -63,7 +63,7 @@ pub fn write_workout(workout: Workout, out: &mut [u8]) -> Written
 // The form of all bytes is looked at before any limit.
 fn read_within(limits: Limits, contents: &[u8]) -> WorkoutRead
     requires { ⌜ Divisible (limitsOf limits) ⌝ }
-    ensures { λ r. ⌜ readMeans r ≡ readAnswer (limitsOf limits) (now (contents .entry)) ⌝ }
+    ensures { λ r. ⌜ workoutMeans r ≡ workoutAnswer (limitsOf limits) (now (contents .entry)) ⌝ }
 {
     if contents.len() != layout::LEN {
         return WorkoutRead::Refused(Refusal::NotWorkout);
@@ -77,18 +77,18 @@ fn read_within(limits: Limits, contents: &[u8]) -> WorkoutRead
         return WorkoutRead::Refused(Refusal::NotWorkout);
     }
     match kind {
-        Kind::Distance => {
+        GoalKind::Distance => {
             let amount = numbers::number_at(contents, layout::DISTANCE_AT, 2) as u32;
             read_distance(limits, amount, goal.2, split, watts)
         }
-        Kind::Time => read_time(limits, goal, split, watts),
+        GoalKind::Time => read_time(limits, goal, split, watts),
     }
 }
 
 fn read_distance(limits: Limits, amount: u32, unit: u8, split: u32, watts: u16) -> WorkoutRead
     requires { ⌜ Divisible (limitsOf limits) ⌝ }
     requires { ⌜ amount < 65536 ⌝ }
-    ensures { λ r. ⌜ readMeans r ≡ distanceRead (limitsOf limits) amount unit split watts ⌝ }
+    ensures { λ r. ⌜ workoutMeans r ≡ distanceRead (limitsOf limits) amount unit split watts ⌝ }
 {
     if unit == layout::KILOMETRES {
         return limited(limits, distance(layout::KILOMETRE * amount, split, watts));
@@ -101,7 +101,7 @@ fn read_distance(limits: Limits, amount: u32, unit: u8, split: u32, watts: u16) 
 
 fn read_time(limits: Limits, clock: GoalBytes, split: u32, watts: u16) -> WorkoutRead
     requires { ⌜ Divisible (limitsOf limits) ⌝ }
-    ensures { λ r. ⌜ readMeans r ≡ timeRead (limitsOf limits) (clock .0) (clock .1) (clock .2) split watts ⌝ }
+    ensures { λ r. ⌜ workoutMeans r ≡ timeRead (limitsOf limits) (clock .0) (clock .1) (clock .2) split watts ⌝ }
 {
     if CLOCK_LIMIT < clock.1 {
         return WorkoutRead::Refused(Refusal::OutOfLimits);
@@ -138,7 +138,7 @@ fn time(seconds: u32, split: u32, watts: u16) -> Workout
 
 fn limited(limits: Limits, workout: Workout) -> WorkoutRead
     requires { ⌜ Divisible (limitsOf limits) ⌝ }
-    ensures { λ r. ⌜ readMeans r ≡ limitedRead (limitsOf limits) (programmed workout) ⌝ }
+    ensures { λ r. ⌜ workoutMeans r ≡ limitedRead (limitsOf limits) (programmed workout) ⌝ }
 {
     if limits::within_limits(limits, workout) {
         return WorkoutRead::Sound(workout);
@@ -164,18 +164,18 @@ fn write_within(limits: Limits, workout: Workout, out: &mut [u8]) -> Written
 }
 
 fn contents_of(workout: Workout) -> [u8; 23]
-    ensures { λ r. ⌜ r ≡ contentsOf (programmed workout) ⌝ }
+    ensures { λ r. ⌜ r ≡ workoutBytes (programmed workout) ⌝ }
 {
     let watts = workout.watts;
     let goal = workout.goal;
     match goal {
         Goal::Distance { goal, split } => {
             let bytes = layout::distance_bytes(goal.0);
-            layout::lay_out(Kind::Distance, bytes, split.0, watts)
+            layout::lay_out(GoalKind::Distance, bytes, split.0, watts)
         }
         Goal::Time { goal, split } => {
             let bytes = layout::time_bytes(goal.0);
-            layout::lay_out(Kind::Time, bytes, split.0, watts)
+            layout::lay_out(GoalKind::Time, bytes, split.0, watts)
         }
     }
 }

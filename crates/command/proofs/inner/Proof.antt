@@ -1,5 +1,5 @@
 use native.Mathlib.Omega.{arith}
-use Rattle.command.proofs.WalkLaws.{inner-fits, inner-is, inner-none}
+use Rattle.command.proofs.InnerLaws.{inner-fits, inner-is, inner-none}
 use borrow.Author.Needs.{needs}
 use Rattle.command.proofs.inner.Statement.{statement}
 use Rattle.command.proofs.inner.Tie as tie

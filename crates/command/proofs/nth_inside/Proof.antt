@@ -1,7 +1,7 @@
 use mathlib.Core.Path.{sym, subst}
-use Rattle.command.specs.Steps.{Within}
-use Rattle.command.proofs.WalkLaws.{part-fits, outer-is, outer-none}
-use Rattle.command.proofs.Places.{within-command}
+use Rattle.command.specs.Private.{InContents}
+use Rattle.command.proofs.InnerLaws.{part-fits, outer-is, outer-none}
+use Rattle.command.proofs.Extents.{within-command}
 use borrow.Author.Needs.{needs}
 use Rattle.command.proofs.nth_inside.Statement.{statement}
 use Rattle.command.proofs.nth_inside.Tie as tie
@@ -15,7 +15,7 @@ enum-known-outer c = search needs
 inner-requires : tie.Need-inner-requires
 inner-requires c κs =
     let a = c .before .before .before .before .before .args in
-    part-fits (a .contents .now) _ _ _ _ (c .before .outer .given .1) (subst (Within (a .contents .now)) (sym (c .before .before .before .nth .ensures)) (within-command (a .contents .now) (a .w)))
+    part-fits (a .contents .now) _ _ _ _ (c .before .outer .given .1) (subst (InContents (a .contents .now)) (sym (c .before .before .before .nth .ensures)) (within-command (a .contents .now) (a .w)))
 
 enum-known-outer-2 : tie.Need-enum-known-outer-2
 enum-known-outer-2 c = search needs

@@ -1,5 +1,5 @@
 use native.Mathlib.Omega.{arith}
-use Rattle.command.proofs.WalkLaws.{shift-fits, shift-is, shift-none}
+use Rattle.command.proofs.InnerLaws.{shift-fits, shift-is, shift-none}
 use borrow.Author.Needs.{needs}
 use Rattle.command.proofs.shift.Statement.{statement}
 use Rattle.command.proofs.shift.Tie as tie

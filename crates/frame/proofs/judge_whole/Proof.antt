@@ -1,5 +1,5 @@
 use mathlib.Core.Path.{_≡_, _∙_, subst}
-use Rattle.frame.specs.Steps.{Examines, SoundAt}
+use Rattle.frame.specs.Private.{Examines, SoundAt}
 use Rattle.frame.specs.declared.candidate.Examined.{Examined}
 use Rattle.frame.proofs.VerdictLaws.{judge-refused, judge-accepted, header-as}
 use Rattle.frame.proofs.ContentsLaws.{rest-length, rest-first, left-refused, left-accepted}

@@ -3,7 +3,7 @@ use Prim.Native.Nat.{ℕ, _-_}
 use native.Mathlib.Omega.{arith}
 use lib.ListN.{length, take, drop, length-drop}
 use Rattle.lists.specs.Splice.{splice}
-use Rattle.frame.specs.Steps.{kindIn, SoundAt}
+use Rattle.frame.specs.Private.{headerKind, SoundAt}
 use Rattle.frame.proofs.VerdictLaws.{after-short, after-sum, after-sound, after-length, answer-refused, answer-no-room, answer-done, header-as, contents-of}
 use Rattle.frame.proofs.ContentsLaws.{rest-first, copied-plain}
 use borrow.Author.Needs.{needs}
@@ -13,7 +13,7 @@ use Rattle.frame.proofs.read_after.Tie as tie
 abbrev St : tie.Else2 → tie.Start
 St e = e .before .before .before .before
 
-sound : (e : tie.Else2) → SoundAt (kindIn (St e .args .header)) (St e .args .body .now) (St e .args .header) (St e .args .start) (length (St e .args .body .now) - St e .args .start - 1)
+sound : (e : tie.Else2) → SoundAt (headerKind (St e .args .header)) (St e .args .body .now) (St e .args .header) (St e .args .start) (length (St e .args .body .now) - St e .args .start - 1)
 sound e = after-sound _ _ _ _ (St e .pre) (e .before .if1 .left) (e .if2 .left)
 
 returns : tie.Need-returns

@@ -1,5 +1,5 @@
 use mathlib.Core.Path.{sym, ap}
-use Rattle.frame.specs.Steps.{readAs}
+use Rattle.frame.specs.Private.{readAs}
 use borrow.Author.Needs.{needs}
 use Rattle.frame.proofs.read_as.Statement.{statement}
 use Rattle.frame.proofs.read_as.Tie as tie

@@ -7,7 +7,7 @@ use lib.ListN.{length, take, drop, length-drop}
 use lib.Seq.{take-all}
 use Rattle.frame.specs.Stuffing.{unstuff}
 use borrow.Author.Tests.{not-true, not-false}
-use Rattle.frame.specs.Steps.{isBounded, frameOf, judgeWhole, ExaminesWhole, SoundAt, bytesOf}
+use Rattle.frame.specs.Private.{isBounded, frameOf, judgeWhole, ExaminesWhole, SoundAt, unstuffedBytes}
 use Rattle.frame.specs.declared.candidate.Examined.{Examined}
 use Rattle.frame.specs.Verdict.{Verdict, verdict}
 use Rattle.answer.specs.Answer.{result}
@@ -128,7 +128,7 @@ copy-contents-requires : tie.Need-copy-contents-requires
 copy-contents-requires c κs =
     let k = c .before .before .before in
     let s = sound k in
-    (ap (λ (l : List ℕ). length (bytesOf (unstuff false l))) (rest k) ∙ rest-length s, c .before .before .if3 .left)
+    (ap (λ (l : List ℕ). length (unstuffedBytes (unstuff false l))) (rest k) ∙ rest-length s, c .before .before .if3 .left)
 
 read-as-requires : tie.Need-read-as-requires
 read-as-requires c κs = search needs
@@ -149,7 +149,7 @@ returns-5 c =
     let n = ap length (contents-of (k .before .found2 .given .0 .0) (s .contents)) in
     let done = answer-done _ _ out (accepts k) (omega (arith, n, s .counted, c .before .before .before .before .before .before .if3 .left)) in (
       c .read-as .ensures ∙ header-as (k .before .found2 .given .0 .0) (s .contents) _ (s .counted) ∙ done .0,
-      rest-first s out _ (c .before .before .before .copy-contents .ensures ∙ ap (λ (l : List ℕ). take (k .before .found2 .given .0 .1 .1 .0) (bytesOf (unstuff false l)) ++ drop (k .before .found2 .given .0 .1 .1 .0) out) (rest k))
+      rest-first s out _ (c .before .before .before .copy-contents .ensures ∙ ap (λ (l : List ℕ). take (k .before .found2 .given .0 .1 .1 .0) (unstuffedBytes (unstuff false l)) ++ drop (k .before .found2 .given .0 .1 .1 .0) out) (rest k))
           ∙ done .1,
     )
 

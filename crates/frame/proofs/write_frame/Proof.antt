@@ -8,7 +8,7 @@ use Rattle.frame.specs.Checksum.{checksum}
 use Rattle.frame.specs.Frame.{Frame, wireOf}
 use Rattle.answer.specs.Answer.{result}
 use Rattle.answer.proofs.Drafts.{writes-refusal, writes-no-room, writes-done}
-use Rattle.frame.specs.Steps.{frameOf}
+use Rattle.frame.specs.Private.{frameOf}
 use Rattle.frame.proofs.WireLaws.{wire-length, header-between, draft-long, draft-fits, put-parts}
 use Rattle.frame.proofs.StuffingLaws.{stuff-between, stuffByte-between}
 use borrow.Author.Needs.{needs}
@@ -35,7 +35,7 @@ counted : (w : tie.After-width) → w .before .header-len .result + w .before .b
 counted w =
     omega (arith, wire-length (St w .args .header) (St w .args .contents .now), ap (λ (n : ℕ). length (stuffByte n)) (is-sum w), w .before .header-len .ensures, w .before .before .stuffed-len .ensures, w .width .ensures)
 
--- the places after each part
+-- the indices after each part
 abbrev Wh : tie.After-put-header → tie.After-width
 Wh h = h .before .before .before .before
 

@@ -1,9 +1,9 @@
 use mathlib.Core.Path.{refl, subst}
 use Prim.Native.Nat.{_-_}
 use native.Mathlib.Omega.{arith}
-use Rattle.lease.specs.Answers.{outcomeMeans}
-use Rattle.lease.specs.declared.Outcome.{Outcome}
-use Rattle.lease.specs.Contracts.{Settles}
+use Rattle.lease.specs.Answers.{leaseMeans}
+use Rattle.lease.specs.declared.LeaseAnswer.{LeaseAnswer}
+use Rattle.lease.specs.Private.{Settles}
 use borrow.Author.Needs.{needs}
 use Rattle.lease.proofs.settle.Statement.{statement}
 use Rattle.lease.proofs.settle.Tie as tie
@@ -15,7 +15,7 @@ mul-table : tie.Need-mul-table
 mul-table c = search needs
 
 element-write-table : tie.Need-element-write-table
-element-write-table c = let s = c .before .before in omega (arith, subst (λ (o : Outcome). Settles (s .args .address) (outcomeMeans o)) (c .enum-told .given .1) (s .pre))
+element-write-table c = let s = c .before .before in omega (arith, subst (λ (o : LeaseAnswer). Settles (s .args .address) (leaseMeans o)) (c .enum-told .given .1) (s .pre))
 
 enum-known-outcome : tie.Need-enum-known-outcome
 enum-known-outcome c = search needs

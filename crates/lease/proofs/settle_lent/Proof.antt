@@ -1,9 +1,9 @@
 use mathlib.Core.Path.{refl, subst}
 use Prim.Native.Nat.{_-_}
 use native.Mathlib.Omega.{arith}
-use Rattle.lease.specs.Answers.{outcomeMeans}
-use Rattle.lease.specs.declared.Outcome.{Outcome}
-use Rattle.lease.specs.Contracts.{Settles}
+use Rattle.lease.specs.Answers.{leaseMeans}
+use Rattle.lease.specs.declared.LeaseAnswer.{LeaseAnswer}
+use Rattle.lease.specs.Private.{Settles}
 use borrow.Author.Needs.{needs}
 use Rattle.lease.proofs.settle_lent.Statement.{statement}
 use Rattle.lease.proofs.settle_lent.Tie as tie
@@ -15,7 +15,7 @@ mul-put-token : tie.Need-mul-put-token
 mul-put-token c = search needs
 
 put-token-requires : tie.Need-put-token-requires
-put-token-requires c κs = let s = c .before .before .before .before in omega (arith, s .pre .0, subst (λ (o : Outcome). Settles (s .args .address) (outcomeMeans o)) (c .before .enum-told .given .1) (s .pre .1))
+put-token-requires c κs = let s = c .before .before .before .before in omega (arith, s .pre .0, subst (λ (o : LeaseAnswer). Settles (s .args .address) (leaseMeans o)) (c .before .enum-told .given .1) (s .pre .1))
 
 enum-known-outcome : tie.Need-enum-known-outcome
 enum-known-outcome c = search needs

@@ -2,7 +2,7 @@ use mathlib.Core.Path.{sym, ap, _∙_}
 use native.Mathlib.Omega.{arith}
 use Rattle.lease.specs.Lease.{stop, answerOf}
 use lib.ListN.{length}
-use Rattle.lease.specs.Answers.{told, outAfter}
+use Rattle.lease.specs.Answers.{writtenLength, outAfter}
 use Rattle.lease.proofs.LeaseLaws.{stop-by, lent-size, lent-answer}
 use borrow.Author.Needs.{needs}
 use Rattle.lease.proofs.stop_lent.Statement.{statement}
@@ -15,7 +15,7 @@ returns : tie.Need-returns
 returns c =
     let s = c .before .before .before in
     let q = lent-size (stop (s .args .address) (s .args .token) (length (s .args .out .now))) (s .args .table .now) (c .if1 .taken) .0 in
-    record { answered = ap told q; written = ap (λ (x : Answer (List ℕ)). outAfter x (s .args .out .now)) q; real = record { bytes = λ i. c .before .before .shared-slice-known .given i .fits; fits = omega arith } }
+    record { answered = ap writtenLength q; written = ap (λ (x : Answer (List ℕ)). outAfter x (s .args .out .now)) q; real = record { bytes = λ i. c .before .before .shared-slice-known .given i .fits; fits = omega arith } }
 
 token-in-requires : tie.Need-token-in-requires
 token-in-requires c κs = search needs

@@ -1,5 +1,5 @@
 use Rattle.reply.specs.declared.status.StatusRead.the-variants.{Sound, Refused}
-use Rattle.reply.proofs.ReplyLaws.{headed, item-is, item-refused}
+use Rattle.reply.proofs.ReplyLaws.{head-status, item-is, item-refused}
 use borrow.Author.Needs.{needs}
 use Rattle.reply.proofs.nth_item.Statement.{statement}
 use Rattle.reply.proofs.nth_item.Tie as tie
@@ -20,12 +20,12 @@ returns : tie.Need-returns
 returns c =
     let k = c .before in
     let a = k .before .before .before .before .args in
-    item-is (a .contents .now) (a .n) _ _ _ (headed (a .contents .now) (Sound _) (k .before .before .head .ensures) (k .enum-told .given .1)) (c .nth .ensures)
+    item-is (a .contents .now) (a .n) _ _ _ (head-status (a .contents .now) (Sound _) (k .before .before .head .ensures) (k .enum-told .given .1)) (c .nth .ensures)
 
 returns-2 : tie.Need-returns-2
 returns-2 c =
     let a = c .before .before .before .before .before .args in
-    item-refused (a .contents .now) (a .n) _ (headed (a .contents .now) (Refused (c .before .first .given .0 .0)) (c .before .before .before .head .ensures) (c .before .first .given .1))
+    item-refused (a .contents .now) (a .n) _ (head-status (a .contents .now) (Refused (c .before .first .given .0 .0)) (c .before .before .before .head .ensures) (c .before .first .given .1))
 
 pub nth-item-spec : {M : Type 1} → statement M
 nth-item-spec =

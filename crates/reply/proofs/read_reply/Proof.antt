@@ -1,7 +1,7 @@
 use mathlib.Core.Path.{sym, ap, _∙_}
 use Rattle.reply.specs.Replies.{replyAnswer}
 use Rattle.reply.specs.declared.status.StatusRead.the-variants.{Sound, Refused}
-use Rattle.reply.proofs.ReplyLaws.{headed, read-refused}
+use Rattle.reply.proofs.ReplyLaws.{head-status, read-refused}
 use borrow.Author.Needs.{needs}
 use Rattle.reply.proofs.read_reply.Statement.{statement}
 use Rattle.reply.proofs.read_reply.Tie as tie
@@ -22,12 +22,12 @@ returns : tie.Need-returns
 returns c =
     let k = c .before in
     let s = k .before .before .before .before .before .args .contents .now in
-    c .read-items .ensures ∙ sym (ap replyAnswer (headed s (Sound (k .before .first .given .0 .0)) (k .before .before .before .head .ensures) (k .before .first .given .1)))
+    c .read-items .ensures ∙ sym (ap replyAnswer (head-status s (Sound (k .before .first .given .0 .0)) (k .before .before .before .head .ensures) (k .before .first .given .1)))
 
 returns-2 : tie.Need-returns-2
 returns-2 c =
     let s = c .before .before .before .before .before .args .contents .now in
-    read-refused s _ (headed s (Refused (c .before .first2 .given .0 .0)) (c .before .before .before .head .ensures) (c .before .first2 .given .1))
+    read-refused s _ (head-status s (Refused (c .before .first2 .given .0 .0)) (c .before .before .before .head .ensures) (c .before .first2 .given .1))
 
 pub read-reply-spec : {M : Type 1} → statement M
 read-reply-spec =

@@ -1,8 +1,8 @@
 use mathlib.Core.Path.{sym}
 use native.Mathlib.Omega.{arith}
 use lib.Seq.{length-take-le}
-use Rattle.trace.proofs.FeedLaws.{Counted, fed-fits, advances}
-use Rattle.trace.specs.Machine.{listing}
+use Rattle.trace.proofs.FeedLaws.{CountsFit, fed-fits, advances}
+use Rattle.trace.specs.Private.{listing}
 use borrow.Author.Needs.{needs}
 use Rattle.trace.proofs.advance.Statement.{statement}
 use Rattle.trace.proofs.advance.Tie as tie
@@ -10,7 +10,7 @@ use Rattle.trace.proofs.advance.Tie as tie
 feed-in-requires : tie.Need-feed-in-requires
 feed-in-requires c κs = search needs
 
-counted : (start : tie.Start) → Counted (listing (start .args .bytes .now) (start .args .t))
+counted : (start : tie.Start) → CountsFit (listing (start .args .bytes .now) (start .args .t))
 counted start = (omega (arith, start .fits), omega (arith, start .fits), omega (arith, start .fits))
 
 slice-aggregate-stray-count : tie.Need-slice-aggregate-stray-count

@@ -1,6 +1,6 @@
 use borrow.Author.Needs.{needs}
 use mathlib.Core.Path.{_∙_}
-use Rattle.workout.specs.Workout.{contentsOf}
+use Rattle.workout.specs.Workout.{workoutBytes}
 use Rattle.workout.proofs.WriteLaws.{by-goal}
 use Rattle.workout.proofs.contents_of.Statement.{statement}
 use Rattle.workout.proofs.contents_of.Tie as tie
@@ -24,12 +24,12 @@ lay-out-requires-2 : tie.Need-lay-out-requires-2
 lay-out-requires-2 c κs = search needs
 
 returns : tie.Need-returns
-unfolding contentsOf
-returns c = rw (c .before .distance-bytes .ensures) at (c .lay-out .ensures) ∙ by-goal contentsOf (c .before .before .before .before .before .args .workout) (c .before .before .before .goal .given .1)
+unfolding workoutBytes
+returns c = rw (c .before .distance-bytes .ensures) at (c .lay-out .ensures) ∙ by-goal workoutBytes (c .before .before .before .before .before .args .workout) (c .before .before .before .goal .given .1)
 
 returns-2 : tie.Need-returns-2
-unfolding contentsOf
-returns-2 c = rw (c .before .time-bytes .ensures) at (c .lay-out2 .ensures) ∙ by-goal contentsOf (c .before .before .before .before .before .args .workout) (c .before .before .before .goal2 .given .1)
+unfolding workoutBytes
+returns-2 c = rw (c .before .time-bytes .ensures) at (c .lay-out2 .ensures) ∙ by-goal workoutBytes (c .before .before .before .before .before .args .workout) (c .before .before .before .goal2 .given .1)
 
 pub contents-of-spec : {M : Type 1} → statement M
 contents-of-spec =

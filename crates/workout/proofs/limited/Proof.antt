@@ -1,6 +1,6 @@
 use borrow.Author.Needs.{needs}
 use mathlib.Core.Path.{sym, _∙_}
-use Rattle.workout.specs.Steps.{limitedRead}
+use Rattle.workout.specs.Private.{limitedRead}
 use Rattle.workout.proofs.limited.Statement.{statement}
 use Rattle.workout.proofs.limited.Tie as tie
 

@@ -1,7 +1,7 @@
 use borrow.Author.Needs.{needs}
 use mathlib.Core.Path.{ap, _∙_}
 use borrow.Author.Tests.{eq-eqb, ne-eqb}
-use Rattle.workout.specs.Steps.{limitedRead, distanceRead}
+use Rattle.workout.specs.Private.{limitedRead, distanceRead}
 use Rattle.workout.proofs.read_distance.Statement.{statement}
 use Rattle.workout.proofs.read_distance.Tie as tie
 

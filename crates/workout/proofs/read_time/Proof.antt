@@ -3,7 +3,7 @@ use Prim.Native.Nat.{ℕ}
 use mathlib.Core.Path.{ap, _∙_}
 use borrow.Author.Tests.{le-leb, lt-leb}
 use Rattle.workout.specs.Workout.{time}
-use Rattle.workout.specs.Steps.{limitsOf, limitedRead, timeRead}
+use Rattle.workout.specs.Private.{limitsOf, limitedRead, timeRead}
 use Rattle.workout.proofs.read_time.Statement.{statement}
 use Rattle.workout.proofs.read_time.Tie as tie
 

@@ -5,13 +5,13 @@ use native.Mathlib.Omega.{arith}
 use borrow.Author.Tests.{not-true, not-false}
 use Rattle.numbers.specs.Number.{Bytes}
 use Rattle.numbers.proofs.Numbers.{number-bound}
-use Rattle.workout.specs.Steps.{limitsOf}
+use Rattle.workout.specs.Private.{limitsOf}
 use Rattle.workout.specs.Form.{laidOut}
 use Rattle.workout.proofs.ReadLaws.{not-long, laid-out-same, read-distance-is, read-time-is, read-formless}
 use Rattle.workout.proofs.read_within.Statement.{statement}
 use Rattle.workout.proofs.read_within.Tie as tie
 
--- the places where the split and the power are read, where the kind is told, and the start
+-- what is known where the split and the power are read, where the kind is told, and at the start
 abbrev Nn : tie.After-same → tie.After-number-at2
 Nn s = s .before .before .before
 

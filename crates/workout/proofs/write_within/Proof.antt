@@ -1,8 +1,8 @@
 use borrow.Author.Needs.{needs}
 use mathlib.Core.Path.{sym, _∙_}
 use borrow.Author.Tests.{not-true, not-false}
-use Rattle.workout.specs.Steps.{limitsOf}
-use Rattle.workout.specs.Workout.{programmed, contentsOf}
+use Rattle.workout.specs.Private.{limitsOf}
+use Rattle.workout.specs.Workout.{programmed, workoutBytes}
 use native.Mathlib.Omega.{arith}
 use Rattle.answer.proofs.Drafts.{writes-refusal, writes-no-room}
 use Rattle.workout.proofs.WriteLaws.{contents-length, draft-outside, draft-inside, write-done}
@@ -19,7 +19,7 @@ returns-2 : tie.Need-returns-2
 returns-2 c =
     let a = c .before .before .before .before .args in
     let w = programmed (a .workout) in
-    writes-no-room _ (contentsOf w) (a .out .now) (draft-inside (limitsOf (a .limits)) w (sym (c .before .before .within-limits .ensures) ∙ not-false _ (c .before .if1 .left))) (omega (arith, c .if2 .taken, contents-length w))
+    writes-no-room _ (workoutBytes w) (a .out .now) (draft-inside (limitsOf (a .limits)) w (sym (c .before .before .within-limits .ensures) ∙ not-false _ (c .before .if1 .left))) (omega (arith, c .if2 .taken, contents-length w))
 
 contents-of-requires : tie.Need-contents-of-requires
 contents-of-requires c κs = search needs

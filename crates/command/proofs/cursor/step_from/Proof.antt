@@ -1,4 +1,4 @@
--- `step_from` by hand: a cursor is made of the slice and the place, in a local, and passed to `command` and to `advanced`. All that is known of both is their contracts.
+-- `step_from` by hand: a cursor is made of the slice and the index, in a local, and passed to `command` and to `advanced`. All that is known of both is their contracts.
 use mathlib.Core.Path.{_≡_, refl, ap, subst}
 use Prim.Native.Nat.{ℕ, _<_, _^_}
 use mathlib.Core.List.{List, [], _∷_}
@@ -37,16 +37,16 @@ use denote.Triple.Walked.{says, Stays, stay-none, stay-none-slice, walkOf, goes-
 use denote.Exit.{yes}
 use denote.Triple.Clauses.{ensured}
 use Rattle.command.specs.Answers.{foundMeans}
-use Rattle.command.specs.Walk.{commandAt, placeAfter}
+use Rattle.command.specs.Traversal.{commandAt, indexAfter}
 use Rattle.command.specs.declared.cursor.CommandCursor.{CommandCursor}
-use Rattle.command.specs.declared.cursor.Stepped.{Stepped}
+use Rattle.command.specs.declared.cursor.CursorStep.{CursorStep}
 use Rattle.command.specs.declared.entries.Found.{Found}
 use Rattle.command.proofs.Called.{Over, over, OnCursor, to-cursor, asks-cursor, told-cursor}
 use Rattle.command.proofs.Held.{B, D, L, local, Own, slice, passed, Lent, made}
 use Rattle.command.proofs.cursor.CommandCursor as T
 use Rattle.command.proofs.cursor.CommandCursor.Laws as T′
-use Rattle.command.proofs.cursor.Stepped as P
-use Rattle.command.proofs.cursor.Stepped.Laws as P′
+use Rattle.command.proofs.cursor.CursorStep as P
+use Rattle.command.proofs.cursor.CursorStep.Laws as P′
 use Rattle.command.proofs.entries.Found as S
 use Rattle.command.proofs.entries.Found.Laws as S′
 use Rattle.command.proofs.cursor.CommandCursor.command.Symbol as command-symbol
@@ -74,7 +74,7 @@ abbrev moved : Slot 1
 moved = plain B
 
 abbrev Moves : Lfts 1 → RefT (List ℕ) → ℕ → CommandCursor → Type 0
-Moves κs s n c = (c .contents ≡ s) × (c .at ≡ placeAfter (now s) n)
+Moves κs s n c = (c .contents ≡ s) × (c .at ≡ indexAfter (now s) n)
 
 module _ {M : Type 1} (𝓤 : URA M) (H : Heap 𝓤) (A : Atoms 𝓤) (W : Given 𝓤 H A) (mem : Memory → SProp 𝓤) (run : Routine → Fun 𝓤) (κ : Lft) (q : Share) (s : RefT (List ℕ)) (n : ℕ) (ok : n < 2 ^ 64) where
   -- the cursor that is made
@@ -109,7 +109,7 @@ module _ {M : Type 1} (𝓤 : URA M) (H : Heap 𝓤) (A : Atoms 𝓤) (W : Given
       move ! (2 ∷ 3 ∷ []) $ use2 W (raw (OnCursor answer Finds 𝓤 H A .pre to-command)) (asks-cursor answer Finds 𝓤 H A W κ q d) $ frame ! $ done !
 
   -- the result, and its machine value
-  abbrev told : Found → CommandCursor → Stepped
+  abbrev told : Found → CommandCursor → CursorStep
   told r c = record { found = r; next = c .at }
 
   abbrev value : Found → CommandCursor → Val

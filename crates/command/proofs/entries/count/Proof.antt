@@ -6,13 +6,13 @@ use lib.ListN.{length, drop}
 use Rattle.command.specs.Answers.{counted}
 use Rattle.command.specs.Entries.{entry, parse}
 use Rattle.command.specs.declared.entries.Step.the-variants.{End, Broken}
-use Rattle.command.proofs.EntryLaws.{Stands, told, told-stands, plus, plus-none, count-end, count-broken, count-more}
+use Rattle.command.proofs.EntryLaws.{EntryStands, told, told-stands, countedPlus, plus-none, count-end, count-broken, count-more}
 use borrow.Author.Needs.{needs}
 use Rattle.command.proofs.entries.count.Statement.{statement}
 use Rattle.command.proofs.entries.count.Tie as tie
 
 abbrev Inv-loop : tie.InvT-loop
-Inv-loop limit s cursor₀ n₀ cursor n = (n ≤ cursor .at) × (plus n (counted (parse limit (drop (cursor .at) s) 0)) ≡ counted (parse limit (drop (cursor₀ .at) s) 0))
+Inv-loop limit s cursor₀ n₀ cursor n = (n ≤ cursor .at) × (countedPlus n (counted (parse limit (drop (cursor .at) s) 0)) ≡ counted (parse limit (drop (cursor₀ .at) s) 0))
 
 abbrev μ-loop : tie.MeasureT-loop
 μ-loop limit s cursor₀ n₀ cursor n = length s - cursor .at
@@ -25,7 +25,7 @@ abbrev S : tie.After-known-told Inv-loop μ-loop → List ℕ
 S c = L c .before .before .args .s .now
 
 there : (c : tie.After-known-told Inv-loop μ-loop)
-    → Stands (L c .before .before .args .limit) (S c) (L c .loop .cursor .at) (c .before .step2 .given .0 .0) (c .before .step2 .given .0 .1 .0) (c .before .step2 .given .0 .1 .1 .0) (c .before .step2 .given .0 .1 .1 .1 .0 .at)
+    → EntryStands (L c .before .before .args .limit) (S c) (L c .loop .cursor .at) (c .before .step2 .given .0 .0) (c .before .step2 .given .0 .1 .0) (c .before .step2 .given .0 .1 .1 .0) (c .before .step2 .given .0 .1 .1 .1 .0 .at)
 there c = told-stands _ _ _ (c .before .before .before .step .ensures) _ _ _ _ (c .before .step2 .given .1)
 
 loop-holds : tie.Need-loop-holds Inv-loop μ-loop

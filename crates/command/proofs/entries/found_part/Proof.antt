@@ -1,5 +1,5 @@
 use mathlib.Core.Path.{_∙_}
-use Rattle.command.proofs.WalkLaws.{part-is}
+use Rattle.command.proofs.InnerLaws.{part-is}
 use borrow.Author.Needs.{needs}
 use Rattle.command.proofs.entries.found_part.Statement.{statement}
 use Rattle.command.proofs.entries.found_part.Tie as tie

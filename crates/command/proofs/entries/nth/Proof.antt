@@ -5,7 +5,7 @@ use mathlib.Core.List.{List}
 use lib.ListN.{length, drop}
 use Rattle.command.specs.Entries.{entry, parse, nthIn}
 use Rattle.command.specs.declared.entries.Step.the-variants.{End, Broken, Entry}
-use Rattle.command.proofs.EntryLaws.{Stands, after, told, told-stands, nth-end, nth-broken, nth-found, nth-more}
+use Rattle.command.proofs.EntryLaws.{EntryStands, parseAfter, told, told-stands, nth-end, nth-broken, nth-found, nth-more}
 use borrow.Author.Needs.{needs}
 use Rattle.command.proofs.entries.nth.Statement.{statement}
 use Rattle.command.proofs.entries.nth.Tie as tie
@@ -24,11 +24,11 @@ abbrev S : tie.After-known-told Inv-loop μ-loop → List ℕ
 S c = L c .before .before .args .s .now
 
 there : (c : tie.After-known-told Inv-loop μ-loop)
-    → Stands (L c .before .before .args .limit) (S c) (L c .loop .cursor .at) (c .before .step2 .given .0 .0) (c .before .step2 .given .0 .1 .0) (c .before .step2 .given .0 .1 .1 .0) (c .before .step2 .given .0 .1 .1 .1 .0 .at)
+    → EntryStands (L c .before .before .args .limit) (S c) (L c .loop .cursor .at) (c .before .step2 .given .0 .0) (c .before .step2 .given .0 .1 .0) (c .before .step2 .given .0 .1 .1 .0) (c .before .step2 .given .0 .1 .1 .1 .0 .at)
 there c = told-stands _ _ _ (c .before .before .before .step .ensures) _ _ _ _ (c .before .step2 .given .1)
 
 -- the bytes from the cursor on are that entry and the bytes after it
-split : (c : tie.After-known-told Inv-loop μ-loop) → parse (L c .before .before .args .limit) (drop (L c .loop .cursor .at) (S c)) 0 ≡ after (L c .before .before .args .limit) (S c) (Entry (c .before .step2 .given .0 .0) (c .before .step2 .given .0 .1 .0) (c .before .step2 .given .0 .1 .1 .0) (c .before .step2 .given .0 .1 .1 .1 .0))
+split : (c : tie.After-known-told Inv-loop μ-loop) → parse (L c .before .before .args .limit) (drop (L c .loop .cursor .at) (S c)) 0 ≡ parseAfter (L c .before .before .args .limit) (S c) (Entry (c .before .step2 .given .0 .0) (c .before .step2 .given .0 .1 .0) (c .before .step2 .given .0 .1 .1 .0) (c .before .step2 .given .0 .1 .1 .1 .0))
 split c = told _ _ (L c .loop .cursor .at) (c .before .before .before .step .ensures) _ (c .before .step2 .given .1)
 
 loop-holds : tie.Need-loop-holds Inv-loop μ-loop

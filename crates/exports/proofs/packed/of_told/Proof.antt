@@ -3,7 +3,7 @@ use native.Mathlib.Omega.{arith}
 use borrow.Author.Needs.{needs}
 use Rattle.line.specs.declared.Told.{Told}
 use Rattle.line.specs.Outcome.{toldMeans}
-use Rattle.line.specs.Within.{Within}
+use Rattle.line.specs.Within.{ContentsFit}
 use Rattle.exports.proofs.packed.of_told.Statement.{statement}
 use Rattle.exports.proofs.packed.of_told.Tie as tie
 
@@ -23,13 +23,13 @@ enum-known-told-2 : tie.Need-enum-known-told-2
 enum-known-told-2 c = search needs
 
 of-read-requires : tie.Need-of-read-requires
-of-read-requires c κs = omega (arith, subst (λ (o : Told). Within 118 (toldMeans o)) (c .before .told2 .given .1) (c .before .before .before .pre))
+of-read-requires c κs = omega (arith, subst (λ (o : Told). ContentsFit 118 (toldMeans o)) (c .before .told2 .given .1) (c .before .before .before .pre))
 
 enum-known-told-3 : tie.Need-enum-known-told-3
 enum-known-told-3 c = search needs
 
 of-read-requires-2 : tie.Need-of-read-requires-2
-of-read-requires-2 c κs = omega (arith, subst (λ (o : Told). Within 118 (toldMeans o)) (c .before .told3 .given .1) (c .before .before .before .pre))
+of-read-requires-2 c κs = omega (arith, subst (λ (o : Told). ContentsFit 118 (toldMeans o)) (c .before .told3 .given .1) (c .before .before .before .pre))
 
 returns : tie.Need-returns
 returns c = rw (c .before .enum-told .given .1) (c .result .ensures)

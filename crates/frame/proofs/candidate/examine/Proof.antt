@@ -1,6 +1,6 @@
 use mathlib.Core.Path.{_≡_, refl, subst}
 use native.Mathlib.Omega.{arith}
-use Rattle.frame.specs.Steps.{AddressesIn, Examines}
+use Rattle.frame.specs.Private.{AddressesIn, Examines}
 use Rattle.frame.specs.declared.Kind.{Kind}
 use Rattle.frame.specs.declared.candidate.Addresses.{Addresses}
 use Rattle.frame.specs.declared.candidate.Addresses.the-variants.{Broken, Missing, Found}

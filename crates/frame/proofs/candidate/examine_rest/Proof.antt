@@ -6,7 +6,7 @@ use mathlib.Core.List.{List}
 use lib.ListN.{length, drop, length-drop}
 use lib.Seq.{take-all}
 use Rattle.frame.specs.Stuffing.{unstuff}
-use Rattle.frame.specs.Steps.{scanFrom}
+use Rattle.frame.specs.Private.{scanFrom}
 use Rattle.frame.specs.declared.candidate.Scan.the-variants.{Good}
 use Rattle.frame.proofs.VerdictLaws.{rest-escape, rest-short, rest-sum, rest-sound}
 use borrow.Author.Needs.{needs}

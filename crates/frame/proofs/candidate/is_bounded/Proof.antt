@@ -1,5 +1,5 @@
 use borrow.Author.Tests.{le-leb, lt-leb, eq-eqb, ne-eqb}
-use Rattle.frame.specs.Steps.{isBounded}
+use Rattle.frame.specs.Private.{isBounded}
 use borrow.Author.Needs.{needs}
 use Rattle.frame.proofs.candidate.is_bounded.Statement.{statement}
 use Rattle.frame.proofs.candidate.is_bounded.Tie as tie

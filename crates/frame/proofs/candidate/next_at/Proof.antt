@@ -1,5 +1,5 @@
 use borrow.Author.Tests.{le-leb, lt-leb, lt-ltb, le-ltb, eq-eqb, ne-eqb}
-use Rattle.frame.specs.Steps.{nextAt}
+use Rattle.frame.specs.Private.{nextAt}
 use borrow.Author.Needs.{needs}
 use Rattle.frame.proofs.candidate.next_at.Statement.{statement}
 use Rattle.frame.proofs.candidate.next_at.Tie as tie

@@ -7,7 +7,7 @@ use lib.ListN.{length, drop}
 use Rattle.lists.specs.Choice.{within, countOf}
 use Rattle.lists.proofs.Tests.{count-at, count-end, count-most}
 use Rattle.frame.specs.Checksum.{sumFrom}
-use Rattle.frame.specs.Steps.{lowered}
+use Rattle.frame.specs.Private.{lowered}
 use Rattle.frame.proofs.EscapeLaws.{lowered-at, lowered-end}
 use borrow.Author.Needs.{needs}
 use Rattle.frame.proofs.candidate.tally_escapes.Statement.{statement}

@@ -2,7 +2,7 @@ use Prim.Native.Nat.{_+_, _<_, _≤_}
 use native.Mathlib.Omega.{arith}
 use lib.ListN.{length, getD}
 use borrow.Author.Tests.{lt-ltb, le-leb, eq-eqb, ne-eqb}
-use Rattle.frame.specs.Steps.{nextAt}
+use Rattle.frame.specs.Private.{nextAt}
 use Rattle.frame.proofs.ScanLaws.{next-here, next-second, next-low}
 use Rattle.frame.proofs.candidate.unit_at.Statement.{statement}
 use Rattle.frame.proofs.candidate.unit_at.Tie as tie

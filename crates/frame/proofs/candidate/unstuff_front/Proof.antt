@@ -5,21 +5,21 @@ use mathlib.Core.Bool.{false}
 use mathlib.Core.List.{List, _++_}
 use lib.ListN.{length, take, drop}
 use Rattle.frame.specs.Stuffing.{unstuff}
-use Rattle.frame.specs.Steps.{bytesOf}
+use Rattle.frame.specs.Private.{unstuffedBytes}
 use Rattle.frame.proofs.ScanLaws.{Fronted, front-end, front-bad, front-room, front-more}
 use borrow.Author.Needs.{needs}
 use Rattle.frame.proofs.candidate.unstuff_front.Statement.{statement}
 use Rattle.frame.proofs.candidate.unstuff_front.Tie as tie
 
 abbrev Inv-loop : tie.InvT-loop
-Inv-loop s₀ from count at₀ k₀ s at k = (k ≤ count) × Fronted s₀ (bytesOf (unstuff false (drop from s₀))) at k s
+Inv-loop s₀ from count at₀ k₀ s at k = (k ≤ count) × Fronted s₀ (unstuffedBytes (unstuff false (drop from s₀))) at k s
 
 abbrev μ-loop : tie.MeasureT-loop
 μ-loop s₀ from count at₀ k₀ s at k = count - k
 
 -- the unstuffed bytes
 abbrev U : tie.At-loop Inv-loop μ-loop → List ℕ
-U l = bytesOf (unstuff false (drop (l .before .before .args .from) (l .before .before .args .s .now)))
+U l = unstuffedBytes (unstuff false (drop (l .before .before .args .from) (l .before .before .args .s .now)))
 
 -- there are bytes to come
 more : (l : tie.At-loop Inv-loop μ-loop) → l .loop .k < l .before .before .args .count → l .loop .k < length (U l)

@@ -5,21 +5,21 @@ use mathlib.Core.Bool.{false}
 use mathlib.Core.List.{List, _++_}
 use lib.ListN.{length, take, drop, length-set}
 use Rattle.frame.specs.Stuffing.{unstuff}
-use Rattle.frame.specs.Steps.{bytesOf}
+use Rattle.frame.specs.Private.{unstuffedBytes}
 use Rattle.frame.proofs.ScanLaws.{never-end, never-bad, fill-more}
 use borrow.Author.Needs.{needs}
 use Rattle.frame.proofs.candidate.unstuff_into.Statement.{statement}
 use Rattle.frame.proofs.candidate.unstuff_into.Tie as tie
 
 abbrev Inv-loop : tie.InvT-loop
-Inv-loop s count out₀ at₀ k₀ out at k = (k ≤ count) × (length out ≡ length out₀) × (bytesOf (unstuff false (drop at s)) ≡ drop k (bytesOf (unstuff false s))) × (out ≡ take k (bytesOf (unstuff false s)) ++ drop k out₀)
+Inv-loop s count out₀ at₀ k₀ out at k = (k ≤ count) × (length out ≡ length out₀) × (unstuffedBytes (unstuff false (drop at s)) ≡ drop k (unstuffedBytes (unstuff false s))) × (out ≡ take k (unstuffedBytes (unstuff false s)) ++ drop k out₀)
 
 abbrev μ-loop : tie.MeasureT-loop
 μ-loop s count out₀ at₀ k₀ out at k = count - k
 
 -- the unstuffed bytes
 abbrev U : tie.At-loop Inv-loop μ-loop → List ℕ
-U l = bytesOf (unstuff false (l .before .before .before .args .s .now))
+U l = unstuffedBytes (unstuff false (l .before .before .before .args .s .now))
 
 -- there are bytes to come
 more : (l : tie.At-loop Inv-loop μ-loop) → l .loop .k < l .before .before .before .args .count → l .loop .k < length (U l)

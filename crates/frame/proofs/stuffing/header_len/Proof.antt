@@ -3,7 +3,7 @@ use Prim.Native.Nat.{_-_}
 use native.Mathlib.Omega.{arith}
 use lib.ListN.{length, length-append}
 use Rattle.frame.specs.Stuffing.{stuffByte}
-use Rattle.frame.specs.Steps.{headerWire}
+use Rattle.frame.specs.Private.{headerWire}
 use Rattle.frame.specs.declared.Header.{Header}
 use Rattle.frame.proofs.StuffingLaws.{stuffByte-between}
 use borrow.Author.Needs.{needs}

@@ -3,7 +3,7 @@ use Prim.Native.Nat.{ℕ, _+_, _-_, _≤_}
 use native.Mathlib.Omega.{arith}
 use lib.ListN.{length, length-set}
 use Rattle.frame.specs.Stuffing.{stuffByte}
-use Rattle.frame.specs.Steps.{headerWire}
+use Rattle.frame.specs.Private.{headerWire}
 use Rattle.frame.specs.declared.Header.{Header}
 use Rattle.lists.specs.Splice.{splice}
 use Rattle.lists.proofs.Splices.{set-splice}

@@ -5,7 +5,7 @@ use native.Mathlib.Omega.{arith}
 use lib.ListN.{length, drop}
 use Rattle.command.specs.Entries.{commands, parse}
 use Rattle.command.specs.declared.entries.Step.the-variants.{End, Broken}
-use Rattle.command.proofs.EntryLaws.{Stands, told, told-stands}
+use Rattle.command.proofs.EntryLaws.{EntryStands, told, told-stands}
 use Rattle.text.specs.Stop.{anyIn, stopsWithin, stopsWorkout}
 use Rattle.text.proofs.StopLaws.{found, found-start, found-end, found-broken, found-more, part-test}
 use Rattle.text.proofs.stop.stops_workout.Statement.{statement}
@@ -19,7 +19,7 @@ abbrev μ-loop : tie.MeasureT-loop
 
 -- the entry that stands at the loop's head
 there : (c : tie.After-known-told Inv-loop μ-loop)
-    → Stands commands (c .before .before .before .before .before .before .args .contents .now) (c .before .before .before .before .loop .cursor .at) (c .before .step2 .given .0 .0) (c .before .step2 .given .0 .1 .0) (c .before .step2 .given .0 .1 .1 .0) (c .before .step2 .given .0 .1 .1 .1 .0 .at)
+    → EntryStands commands (c .before .before .before .before .before .before .args .contents .now) (c .before .before .before .before .loop .cursor .at) (c .before .step2 .given .0 .0) (c .before .step2 .given .0 .1 .0) (c .before .step2 .given .0 .1 .1 .0) (c .before .step2 .given .0 .1 .1 .1 .0 .at)
 there c = told-stands _ _ _ (c .before .before .before .step .ensures) _ _ _ _ (c .before .step2 .given .1)
 
 loop-holds : tie.Need-loop-holds Inv-loop μ-loop

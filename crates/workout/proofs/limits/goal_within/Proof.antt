@@ -2,7 +2,7 @@ use borrow.Author.Needs.{needs}
 use Prim.Native.Nat.{_*_, _≤_}
 use mathlib.Core.Path.{sym}
 use native.Mathlib.Omega.{arith}
-use Rattle.workout.specs.Steps.{goalLimitsOf}
+use Rattle.workout.specs.Private.{goalLimitsOf}
 use Rattle.workout.proofs.LimitLaws.{ceil-div-product, goal-within, goal-outside}
 use Rattle.workout.proofs.limits.goal_within.Statement.{statement}
 use Rattle.workout.proofs.limits.goal_within.Tie as tie

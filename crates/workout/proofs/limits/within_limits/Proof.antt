@@ -1,6 +1,6 @@
 use borrow.Author.Needs.{needs}
 use mathlib.Core.Path.{_∙_}
-use Rattle.workout.specs.Steps.{limitsOf}
+use Rattle.workout.specs.Private.{limitsOf}
 use Rattle.workout.specs.Workout.{withinLimits}
 use Rattle.workout.proofs.WriteLaws.{by-goal}
 use Rattle.workout.proofs.limits.within_limits.Statement.{statement}

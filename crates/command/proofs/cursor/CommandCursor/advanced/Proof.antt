@@ -1,4 +1,4 @@
--- `CommandCursor::advanced` by hand: the cursor is taken apart, `place_after` is called with its contents and its place, and a cursor of the same contents and the new place is made.
+-- `CommandCursor::advanced` by hand: the cursor is taken apart, `index_after` is called with its contents and its index, and a cursor of the same contents and the new index is made.
 use mathlib.Core.Path.{_≡_, refl, ap}
 use Prim.Native.Nat.{ℕ, _<_, _^_}
 use mathlib.Core.List.{List, [], _∷_}
@@ -36,14 +36,14 @@ use denote.Triple.Table.{entered, cited}
 use denote.Triple.Walked.{says, Stays, stay-none, walkOf, goes-none, Walks, ends-at, walked, walk-meets}
 use denote.Exit.{yes}
 use denote.Triple.Clauses.{ensured}
-use Rattle.command.specs.Walk.{placeAfter}
+use Rattle.command.specs.Traversal.{indexAfter}
 use Rattle.command.specs.declared.cursor.CommandCursor.{CommandCursor}
 use Rattle.command.proofs.Called.{Under, under, OnPlace, to-place, asks-place, told-place}
 use Rattle.command.proofs.Held.{B, D, L, mach, parts, Own, Lent, opened}
 use Rattle.command.proofs.cursor.CommandCursor.Laws as T′
-use Rattle.command.proofs.walk.place_after.Symbol as symbol
-use Rattle.command.proofs.walk.place_after.Symbol.{name as #callee}
-use Rattle.command.proofs.walk.place_after.Met as proved
+use Rattle.command.proofs.traversal.index_after.Symbol as symbol
+use Rattle.command.proofs.traversal.index_after.Symbol.{name as #callee}
+use Rattle.command.proofs.traversal.index_after.Met as proved
 use Rattle.command.proofs.cursor.CommandCursor.advanced as here
 use Rattle.command.proofs.cursor.CommandCursor.advanced.Key.{name as #here}
 use Rattle.command.proofs.cursor.CommandCursor.advanced.Statement as stated
@@ -52,12 +52,12 @@ use Rattle.command.proofs.cursor.CommandCursor.advanced.Code as code
 abbrev stayed : Stays (here.ended .signature .params) (here.ended .kept)
 stayed = (stay-none B yes, tt)
 
--- what `place_after` answers
+-- what `index_after` answers
 abbrev answer : Slot 1
 answer = plain (λ _. usize)
 
 abbrev Says : Lfts 1 → RefT (List ℕ) → ℕ → ℕ → Type 0
-Says κs s n r = r ≡ placeAfter (now s) n
+Says κs s n r = r ≡ indexAfter (now s) n
 
 module _ {M : Type 1} (𝓤 : URA M) (H : Heap 𝓤) (A : Atoms 𝓤) (W : Given 𝓤 H A) (mem : Memory → SProp 𝓤) (run : Routine → Fun 𝓤) (κ : Lft) (q : Share) (d : CommandCursor) where
   abbrev Told : ℕ → Type 0
@@ -78,7 +78,7 @@ module _ {M : Type 1} (𝓤 : URA M) (H : Heap 𝓤) (A : Atoms 𝓤) (W : Given
       suffices ! _ (ends-at 𝓤 H A here.ended stayed (here.clauses 𝓤 H A mem run) W (((κ, tt), (q, tt), tt, (d, tt), (mach d ∷ [], tt)), tt) (mach (at-place r)) (at-place r) (tt, tt) (tt, tt)) $ says ! (refl, e) $
       move ! (1 ∷ []) $ frame ! $ drop ! $ use1 W (‵ (Own κ d) ⊛ ‵ (Own κ d)) (LL.copy (D κ) (T′.the-copy (namedLft 1 0 tt (κ, tt))) 𝓤 H A W .twice d (mach d ∷ [])) $ split ! $
       nothing ! $ move ! (1 ∷ 0 ∷ []) $ fjoin ! $ frame ! $
-      -- [what the cursor owns]: the new place's facts take the place of the old one's
+      -- [what the cursor owns]: the facts of the new index stand for those of the old one
       owned ! usize (Is usize) (uint-makes 𝓤 H A W w64) r _ (refl, ok) $ move ! (1 ∷ 0 ∷ []) $ by ! (own-put 𝓤 H A W (D κ) (L κ) 1 (parts κ d) r (mach d))
 
   module _ (C : Calls 𝓤 H) (Λ : Loops 𝓤 H) (fm : FmC 𝓤 H (W .laws) C) (known : Triple 𝓤 (C #callee) (OnPlace answer Says 𝓤 H A)) where
@@ -93,7 +93,7 @@ module _ {M : Type 1} (𝓤 : URA M) (H : Heap 𝓤) (A : Atoms 𝓤) (W : Given
         calls-at ! fm (OnPlace answer Says 𝓤 H A) known to (and-then ! (load ! (from ! (stop !)) (look ! 6 refl)) (and-then ! (load ! (from ! (stop !)) (look ! 4 refl)) (no-more !))) (λ u.
         use1 W (later (some (λ (r : ℕ). ((‵ (flft κ q) ⊛ ‵ ftrue) ⊛ ‵ (usize .own r (u ∷ []))) ⊛ raw (ensured 𝓤 H A (Under answer Says) (under answer Says 𝓤) (κ, tt) (d .contents, (d .at, tt)) tt r)))) (id⊢ 𝓤 _) $ await ! tt $ pick ! (λ r.
         split ! $ move ! (1 ∷ []) $ use1 W (raw (fact 𝓤 (Told r))) (told-place answer Says 𝓤 H A W κ q d r) $ heard ! (Told r) (λ e. split ! $ move ! (1 ∷ []) $
-        -- [the new place; the token; what the cursor owns; _5; …; _4; …; _3; …; room for _2; …; _1; …; room for _0; …]
+        -- [the new index; the token; what the cursor owns; _5; …; _4; …; _3; …; room for _2; …; _1; …; room for _0; …]
         peeks ! usize (Is usize) (shows 𝓤 H A usize) r (u ∷ []) (λ is.
         land ! (from ! (stop !)) (init ! 9 refl (uint-lawful 𝓤 H A W w64 .typed r _ is .0)) $ rewrite ! 9 (λ (x : Val). ‵ (fat fullShare (tyInt w64) l₂ 0 x)) (ap only (is .0)) refl $
         assigns ! (of-opd ! (load ! (from ! (fld ! refl (stop !))) (look-in ! 11 (sub ! 0 refl (whole !))))) (from ! (stop !)) (init ! 3 refl (tt, wt .1 .0)) $
@@ -119,4 +119,4 @@ advanced-spec 𝓤 H 𝓜 𝓖 𝓡 =
     entered 𝓤 H (tripleOf 𝓤 H (𝓖 .A) here.signature (here.spec 𝓤 H (𝓖 .A) (𝓜 .mem) (𝓡 .run)))
     (tables 𝓤 H 𝓜 𝓡 code.env .C) (tables 𝓤 H 𝓜 𝓡 code.env .Λ) #here code.function (code.unfolded 𝓤 H 𝓜 𝓡)
     (meets 𝓤 H (𝓖 .A) (givenOf 𝓤 H 𝓜 𝓖) (𝓜 .mem) (𝓡 .run) (tablesOf 𝓤 H 𝓜 (tables 𝓤 H 𝓜 𝓡 code.env))
-    (cited 𝓤 H (OnPlace answer Says 𝓤 H (𝓖 .A)) 𝓜 𝓡 code.env #callee symbol.routine code.calls-command·walk·place-after (proved.met 𝓤 H 𝓜 𝓖 𝓡)))
+    (cited 𝓤 H (OnPlace answer Says 𝓤 H (𝓖 .A)) 𝓜 𝓡 code.env #callee symbol.routine code.calls-command·traversal·index-after (proved.met 𝓤 H 𝓜 𝓖 𝓡)))

@@ -1,4 +1,4 @@
--- What the private functions answer: contracts inside the crate, which no caller reads.
+-- Contracts of private functions, which no caller reads.
 use Prim.Native.Nat.{ℕ, _+_, _-_, _≤_, _<_}
 use mathlib.Core.Path.{_≡_}
 use mathlib.Core.Bool.{Bool, true, false}
@@ -33,9 +33,9 @@ abbrev pub frameOf : Header → List ℕ → Frame
 frameOf Plain c = standard c
 frameOf (Addressed to from) c = extended to from c
 
-abbrev pub kindIn : Header → Kind
-kindIn Plain = Standard
-kindIn (Addressed to from) = Extended
+abbrev pub headerKind : Header → Kind
+headerKind Plain = Standard
+headerKind (Addressed to from) = Extended
 
 -- The header's addresses before unstuffed bytes.
 abbrev pub headed : Header → Unstuffed → Unstuffed
@@ -90,15 +90,15 @@ lowered [] = []
 lowered (b ∷ s) = lowerByte b ∷ lowered s
 
 -- The bytes, none where an escape is bad.
-unfoldable pub bytesOf : Unstuffed → List ℕ
-bytesOf badEscape = []
-bytesOf (bytes u) = u
+unfoldable pub unstuffedBytes : Unstuffed → List ℕ
+unstuffedBytes badEscape = []
+unstuffedBytes (bytes u) = u
 
 -- What was found of the addresses at the start of stuffed bytes.
 abbrev pub AddressesIn : Kind → List ℕ → Addresses → Type 0
 AddressesIn kind body Broken = unstuff false body ≡ badEscape
 AddressesIn kind body Missing = (u : List ℕ) × (unstuff false body ≡ bytes u) × (length u < addressCount kind)
-AddressesIn kind body (Found header next) = (next ≤ length body) × (kindIn header ≡ kind) × (unstuff false body ≡ headed header (unstuff false (drop next body)))
+AddressesIn kind body (Found header next) = (next ≤ length body) × (headerKind header ≡ kind) × (unstuff false body ≡ headed header (unstuff false (drop next body)))
 
 -- A sound body: its frame, and where its stuffed contents stand.
 pub record SoundAt (kind : Kind) (body : List ℕ) (header : Header) (start len : ℕ) : Type 0 where

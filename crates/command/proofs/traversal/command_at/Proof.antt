@@ -1,7 +1,7 @@
-use Rattle.command.specs.Walk.{commandAt}
+use Rattle.command.specs.Traversal.{commandAt}
 use borrow.Author.Needs.{needs}
-use Rattle.command.proofs.walk.command_at.Statement.{statement}
-use Rattle.command.proofs.walk.command_at.Tie as tie
+use Rattle.command.proofs.traversal.command_at.Statement.{statement}
+use Rattle.command.proofs.traversal.command_at.Tie as tie
 
 nth-requires : tie.Need-nth-requires
 nth-requires c κs = search needs

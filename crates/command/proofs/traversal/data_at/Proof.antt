@@ -1,8 +1,8 @@
 use mathlib.Core.Path.{ap, _∙_}
 use Rattle.command.specs.Answers.{partOf}
 use borrow.Author.Needs.{needs}
-use Rattle.command.proofs.walk.data_at.Statement.{statement}
-use Rattle.command.proofs.walk.data_at.Tie as tie
+use Rattle.command.proofs.traversal.data_at.Statement.{statement}
+use Rattle.command.proofs.traversal.data_at.Tie as tie
 
 command-at-requires : tie.Need-command-at-requires
 command-at-requires c κs = search needs

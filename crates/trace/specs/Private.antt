@@ -1,4 +1,4 @@
--- How far a call on a chunk has come, and what bytes up to an answer add to it.
+-- Contracts of private functions, which no caller reads: how far a call on a chunk has come, and what bytes up to an answer add to it.
 use mathlib.Core.Path.{_≡_}
 use mathlib.Core.Bool.{Bool, true, false}
 use mathlib.Core.List.{List}
@@ -6,24 +6,33 @@ use Prim.Native.Nat.{ℕ, _+_, _-_, _<_, _≤_}
 use lib.ListN.{length, take, drop}
 use Rattle.lists.specs.Choice.{within, countBefore}
 use Rattle.text.specs.Writing.{Wrote, lineRoom}
-use Rattle.trace.specs.Machine.{after, texts, takenOf, listing}
+use Rattle.trace.specs.Machine.{listingAfter, texts, takenOf}
 use Rattle.trace.specs.declared.Listing.{Listing}
 use Rattle.trace.specs.declared.Turn.{Turn}
+use Rattle.trace.specs.declared.Listed.{Listed}
+use Rattle.trace.specs.declared.Tally.{Tally}
+
+-- A state whose array stands apart.
+abbrev pub listing : List ℕ → Tally → Listing
+listing bytes t = record { reader = record { bytes = bytes; len = t .len; mode = t .mode }; frames = t .frames; refused = t .refused; stray = t .stray }
+
+abbrev pub listedOf : (taken wrote : ℕ) → Listing → Listed
+listedOf taken wrote s = record { taken = taken; wrote = wrote; next = s }
 
 -- From the state s₀ on, the bytes before the index i are taken, which leaves the state s, and their lines stand before the index at.
 pub record Going (s₀ : Listing) (chunk out₀ : List ℕ) (s : Listing) (out : List ℕ) (at i : ℕ) : Type 0 where
-  pub state : s ≡ after s₀ (take i chunk)
+  pub state : s ≡ listingAfter s₀ (take i chunk)
   pub wrote : Wrote out₀ 0 (texts s₀ (take i chunk)) out at
   pub taken : takenOf s₀ chunk (length out₀) ≡ i + takenOf s (drop i chunk) (length out₀ - at)
 
 -- The first n bytes take the state s to s′ and give the text w. A call with room for a line takes all of them.
 pub record Leads (s : Listing) (bytes : List ℕ) (n : ℕ) (s′ : Listing) (w : List ℕ) : Type 0 where
   pub fits : n ≤ length bytes
-  pub state : s′ ≡ after s (take n bytes)
+  pub state : s′ ≡ listingAfter s (take n bytes)
   pub text : w ≡ texts s (take n bytes)
   pub taken : (room : ℕ) → lineRoom ≤ room → takenOf s bytes room ≡ n + takenOf s′ (drop n bytes) (room - length w)
 
--- Bytes up to an answer, at least one, and their text at a place.
+-- Bytes up to an answer, at least one, and their text at an index.
 pub record Advances (s : Listing) (rest bytes out : List ℕ) (at : ℕ) (out′ : List ℕ) (r : Turn) : Type 0 where
   pub text : List ℕ
   pub leads : Leads s rest (r .taken) (listing bytes (r .tally)) text

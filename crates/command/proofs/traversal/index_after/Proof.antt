@@ -1,8 +1,8 @@
 use native.Mathlib.Omega.{arith}
 use Rattle.command.proofs.CursorMoves.{after-found, after-refused}
 use borrow.Author.Needs.{needs}
-use Rattle.command.proofs.walk.place_after.Statement.{statement}
-use Rattle.command.proofs.walk.place_after.Tie as tie
+use Rattle.command.proofs.traversal.index_after.Statement.{statement}
+use Rattle.command.proofs.traversal.index_after.Tie as tie
 
 command-at-requires : tie.Need-command-at-requires
 command-at-requires c κs = search needs
@@ -22,7 +22,7 @@ returns c = let a = c .before .before .before .before .before .args in after-fou
 returns-2 : tie.Need-returns-2
 returns-2 c = let a = c .before .before .before .before .args in after-refused (a .contents .now) (a .at) _ (c .before .before .command-at .ensures) _ (c .enum-told .given .1)
 
-pub place-after-spec : {M : Type 1} → statement M
-place-after-spec =
+pub index-after-spec : {M : Type 1} → statement M
+index-after-spec =
     tie.close
     (tie.spec command-at-requires enum-known-found add-result enum-told returns returns-2)

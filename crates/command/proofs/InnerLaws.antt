@@ -13,19 +13,19 @@ use Rattle.command.specs.Entries.{found, Extent}
 use Rattle.answer.specs.Answer.{Answer, result, refused}
 use Rattle.command.specs.Answers.{foundMeans, partOf}
 use Rattle.command.specs.Commands.{isWrapper, nthCommand, shifted, inside, nthInside}
-use Rattle.command.specs.Steps.{Within, Fits}
+use Rattle.command.specs.Private.{InContents, IndexFits}
 use Rattle.command.specs.declared.entries.Found.{Found}
 use Rattle.command.specs.declared.entries.Found.the-variants.{At, Refused}
-use Rattle.command.proofs.Places.{within-command}
+use Rattle.command.proofs.Extents.{within-command}
 
 pub part-is : (s : List ℕ) (f : Found) (b start len : ℕ) → f ≡ At b start len → take len (drop start s) ≡ partOf s (foundMeans f)
 part-is s f b start len e = ap (λ (x : Found). partOf s (foundMeans x)) (sym e)
 
-pub part-fits : (s : List ℕ) (f : Found) (b start len : ℕ) → f ≡ At b start len → Within s (foundMeans f) → start + len ≤ length s
-part-fits s f b start len e w = subst (λ (x : Found). Within s (foundMeans x)) e w
+pub part-fits : (s : List ℕ) (f : Found) (b start len : ℕ) → f ≡ At b start len → InContents s (foundMeans f) → start + len ≤ length s
+part-fits s f b start len e w = subst (λ (x : Found). InContents s (foundMeans x)) e w
 
-pub shift-fits : (by : ℕ) (f : Found) (b start len : ℕ) → f ≡ At b start len → Fits by (foundMeans f) → by + start < 2 ^ 64
-shift-fits by f b start len e w = subst (λ (x : Found). Fits by (foundMeans x)) e w
+pub shift-fits : (by : ℕ) (f : Found) (b start len : ℕ) → f ≡ At b start len → IndexFits by (foundMeans f) → by + start < 2 ^ 64
+shift-fits by f b start len e w = subst (λ (x : Found). IndexFits by (foundMeans x)) e w
 
 pub shift-is : (by : ℕ) (f : Found) (b start len : ℕ) → f ≡ At b start len → result (found b (by + start) len) ≡ shifted by (foundMeans f)
 shift-is by f b start len e = ap (λ (x : Found). shifted by (foundMeans x)) (sym e)
@@ -33,10 +33,10 @@ shift-is by f b start len e = ap (λ (x : Found). shifted by (foundMeans x)) (sy
 pub shift-none : (by : ℕ) (f : Found) (r : Refusal) → f ≡ Refused r → refused (numberOf r) ≡ shifted by (foundMeans f)
 shift-none by f r e = ap (λ (x : Found). shifted by (foundMeans x)) (sym e)
 
-pub inner-fits : (s : List ℕ) (start len n : ℕ) → start + len ≤ length s → length s < 2 ^ 64 → (l : List ℕ) → l ≡ take len (drop start s) → (a : Answer Extent) → a ≡ nthCommand l n → Fits start a
-inner-fits s start len n h k l d a e = case a (subst (Within l) (sym e) (within-command l n))
+pub inner-fits : (s : List ℕ) (start len n : ℕ) → start + len ≤ length s → length s < 2 ^ 64 → (l : List ℕ) → l ≡ take len (drop start s) → (a : Answer Extent) → a ≡ nthCommand l n → IndexFits start a
+inner-fits s start len n h k l d a e = case a (subst (InContents l) (sym e) (within-command l n))
   where
-    case : (x : Answer Extent) → Within l x → Fits start x
+    case : (x : Answer Extent) → InContents l x → IndexFits start x
     case (result (found b at m)) w = omega (arith, ap length d, length-take-le len (drop start s) (omega (arith, length-drop start s)), w)
     case (refused m) w = tt
 

@@ -1,4 +1,4 @@
--- What the private functions answer: contracts inside the crate, which no caller reads.
+-- Contracts of private functions, which no caller reads.
 use Prim.Native.Nat.{ℕ, _+_, _*_}
 use lib.Dec.{leb, eqb}
 use Rattle.lists.specs.Choice.{pick}

@@ -1,12 +1,12 @@
-// A command list read from a place on: what a command cursor's functions call with its contents and its place.
+// A command list read from an index on: what a command cursor's functions call with its contents and its index.
 use crate::entries;
 use crate::entries::Cursor;
 use crate::entries::Found;
 ghost use mathlib.Core.Path.{_≡_};
 ghost use Rattle.command.specs.Answers.{foundMeans, partOf};
-ghost use Rattle.command.specs.Walk.{commandAt, placeAfter};
+ghost use Rattle.command.specs.Traversal.{commandAt, indexAfter};
 
-// The command at a place. The counts from there on are checked first. Refusals 7 and 15; at the end and past it 15.
+// The command at an index. The counts from there on are checked first. Refusals 7 and 15; at the end and past it 15.
 pub fn command_at(contents: &[u8], at: usize) -> Found
     ensures { λ r. ⌜ foundMeans r ≡ commandAt (now (contents .entry)) at ⌝ }
 {
@@ -22,9 +22,9 @@ pub fn data_at(contents: &[u8], at: usize) -> &[u8]
     entries::found_part(contents, found)
 }
 
-// The place after it; the same place where `command_at` refuses.
-pub fn place_after(contents: &[u8], at: usize) -> usize
-    ensures { λ r. ⌜ r ≡ placeAfter (now (contents .entry)) at ⌝ }
+// The index after it; the same index where `command_at` refuses.
+pub fn index_after(contents: &[u8], at: usize) -> usize
+    ensures { λ r. ⌜ r ≡ indexAfter (now (contents .entry)) at ⌝ }
 {
     let found = command_at(contents, at);
     match found {

@@ -1,0 +1,48 @@
+-- Laws of a machine run on a list of calls.
+use mathlib.Core.Path.{_≡_, refl, ap, ap₂, _∙_}
+use mathlib.Core.List.{List, [], _∷_, _++_}
+use Rattle.lists.specs.Machine.{run, leftAfter, Ran, ended, call}
+
+-- ---- one machine
+
+module _ {S C A : Type 0} (answer : S → C → A) (next : S → C → S) where
+  pub run-append : (s : S) (calls rest : List C) → run answer next s (calls ++ rest) ≡ run answer next s calls ++ run answer next (leftAfter next s calls) rest
+  run-append s [] rest = refl
+  run-append s (c ∷ calls) rest = ap (λ (l : List A). answer s c ∷ l) (run-append (next s c) calls rest)
+
+  -- A call that leaves one state, whatever was before it, leaves the machine as it is from there.
+  pub runs-anew : (new : S) (c : C) → ((s : S) → next s c ≡ new) → (s : S) (calls rest : List C)
+      → run answer next s (calls ++ c ∷ rest) ≡ run answer next s (calls ++ c ∷ []) ++ run answer next new rest
+  runs-anew new c ends s [] rest = ap (λ (t : S). answer s c ∷ run answer next t rest) (ends s)
+  runs-anew new c ends s (x ∷ calls) rest = ap (λ (l : List A). answer s x ∷ l) (runs-anew new c ends (next s x) calls rest)
+
+pub left-append : {S C : Type 0} (next : S → C → S) (s : S) (calls rest : List C) → leftAfter next s (calls ++ rest) ≡ leftAfter next (leftAfter next s calls) rest
+left-append next s [] rest = refl
+left-append next s (c ∷ calls) rest = left-append next (next s c) calls rest
+
+-- ---- two machines
+
+-- Two machines that keep a relation and answer alike at each call answer every list of calls alike.
+module _ {S T C A : Type 0} (answer : S → C → A) (next : S → C → S) (answer′ : T → C → A) (next′ : T → C → T) (R : S → T → Type 0)
+    (step : (s : S) (t : T) (c : C) → R s t → (answer s c ≡ answer′ t c) × R (next s c) (next′ t c)) where
+  pub simulates : (s : S) (t : T) → R s t → (calls : List C) → run answer next s calls ≡ run answer′ next′ t calls
+  simulates s t r [] = refl
+  simulates s t r (c ∷ calls) =
+      let k : (answer s c ≡ answer′ t c) × R (next s c) (next′ t c) = step s t c r in
+      let rest : run answer next (next s c) calls ≡ run answer′ next′ (next′ t c) calls = simulates (next s c) (next′ t c) (k .1) calls in
+      cc (k .0)
+
+-- ---- calls known by what is known of each
+
+-- Where each call is answered, and leaves what is seen of its state, as a machine says, so is every row of calls.
+module _ {S T C A : Type 0} (called : S → C → A → S → Type 0) (answer : T → C → A) (next : T → C → T) (seen : S → T)
+    (each : (s t : S) (c : C) (a : A) → called s c a t → (a ≡ answer (seen s) c) × (seen t ≡ next (seen s) c)) where
+  pub ran-run : {s u : S} {calls : List C} {answers : List A} → Ran called s calls answers u
+      → (answers ≡ run answer next (seen s) calls) × (seen u ≡ leftAfter next (seen s) calls)
+  ran-run ended = (refl, refl)
+  ran-run (call s t c a {calls = calls} k rest) =
+      let e = each s t c a k in
+      let r = ran-run rest in (
+        ap₂ (λ (x : A) (xs : List A). x ∷ xs) (e .0) (r .0 ∙ ap (λ (v : T). run answer next v calls) (e .1)),
+        r .1 ∙ ap (λ (v : T). leftAfter next v calls) (e .1),
+      )

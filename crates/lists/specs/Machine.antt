@@ -1,0 +1,43 @@
+-- A machine with a state of any kind, run on a list of calls: each call gets the state as the last one left it.
+use mathlib.Core.Bool.{Bool}
+use mathlib.Core.List.{List, [], _∷_}
+use Rattle.lists.specs.Choice.{pick}
+
+-- The answers to the calls.
+abbrev pub run : {S C A : Type 0} → (S → C → A) → (S → C → S) → S → List C → List A
+run answer next s [] = []
+run answer next s (c ∷ calls) = answer s c ∷ run answer next (next s c) calls
+
+-- The state after them.
+abbrev pub leftAfter : {S C : Type 0} → (S → C → S) → S → List C → S
+leftAfter next s [] = s
+leftAfter next s (c ∷ calls) = leftAfter next (next s c) calls
+
+-- ---- calls of one sort
+
+-- The calls that pass a test.
+abbrev pub only : {C : Type 0} → (C → Bool) → List C → List C
+only p [] = []
+only p (c ∷ calls) = pick (p c) (c ∷ only p calls) (only p calls)
+
+-- Of the answers to calls, those to the calls that pass a test.
+abbrev pub answersOnly : {C A : Type 0} → (C → Bool) → List C → List A → List A
+answersOnly p [] answers = []
+answersOnly p (c ∷ calls) [] = []
+answersOnly p (c ∷ calls) (a ∷ answers) = pick (p c) (a ∷ answersOnly p calls answers) (answersOnly p calls answers)
+
+-- ---- calls known by nothing but what is known of each
+
+-- `called s c a t`: the call c on the state s was answered a and left the state t.
+module _ {S C A : Type 0} (called : S → C → A → S → Type 0) where
+  -- Calls in a row from a state on, with their answers, and the state that the last one left.
+  pub data Ran : S → List C → List A → S → Type 0 where
+    ended : {s : S} → Ran s [] [] s
+    call : (s t : S) (c : C) (a : A) {u : S} {calls : List C} {answers : List A} → called s c a t → Ran t calls answers u → Ran s (c ∷ calls) (a ∷ answers) u
+
+  -- Calls in a row from a new state on, with their answers.
+  pub record Answered (new : S → Type 0) (calls : List C) (answers : List A) : Type 0 where
+    pub start : S
+    pub made : new start
+    pub last : S
+    pub ran : Ran start calls answers last
