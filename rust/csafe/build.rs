@@ -13,12 +13,12 @@ const READY_ARCHIVE: &str = "CSAFE_STATICLIB";
 
 fn main() {
     println!("cargo:rerun-if-changed=build.rs");
-    println!("cargo:rerun-if-changed=../crates");
-    println!("cargo:rerun-if-changed=../crates.txt");
+    println!("cargo:rerun-if-changed=../../crates");
+    println!("cargo:rerun-if-changed=../../crates.txt");
     println!("cargo:rerun-if-env-changed={READY_ARCHIVE}");
     let made = match env::var_os(READY_ARCHIVE) {
         Some(directory) => ready_archive(Path::new(&directory)),
-        None => proved_archive(&package_directory().join("..")),
+        None => proved_archive(&package_directory().join("../..")),
     };
     link(&made);
 }
@@ -87,6 +87,6 @@ fn link(made: &Path) {
 }
 
 fn stop(message: &str) -> ! {
-    eprintln!("tigravosh-server: {message}");
+    eprintln!("csafe: {message}");
     exit(1)
 }
