@@ -5,7 +5,7 @@ use std::io;
 use std::os::fd::AsFd;
 use std::process::ExitCode;
 
-use independent::listing;
+use plain::listing;
 
 fn main() -> ExitCode {
     match run() {

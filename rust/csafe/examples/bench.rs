@@ -15,7 +15,7 @@ use std::time::Instant;
 
 use common::{Xorshift, SEED};
 use csafe::{frame, lease, Error, Frame, LineReader};
-use independent::{frame as plain_frame, lease as plain_lease, line as plain_line};
+use plain::{frame as plain_frame, lease as plain_lease, line as plain_line};
 
 /// Frames of each kind of input, and passes over them in a round.
 const FRAMES: usize = 512;

@@ -1,7 +1,7 @@
 /*
  * CSAFE frames, also from a live line, programmed workouts and machine leases.
  *
- * Link target/staticlib/libserver.a, which `rt staticlib server` makes.
+ * Link target/staticlib/libexports.a, which `rt staticlib exports` makes.
  *
  * A slice is a pointer and a length. Every function takes any numbers and any slices, returns, and answers one
  * 64-bit number: a result or a refusal. A refusal changes no lent byte, but that a line reader goes on. After a result

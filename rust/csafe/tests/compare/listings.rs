@@ -7,7 +7,7 @@ use std::process::{Command, Output, Stdio};
 use std::sync::OnceLock;
 use std::thread;
 
-use independent::listing;
+use plain::listing;
 
 use crate::common::{Xorshift, SEED};
 use crate::lines::stretch;
@@ -97,9 +97,8 @@ fn command_frame(random: &mut Xorshift) -> Vec<u8> {
         contents.extend(part);
     }
     let mut wire = [0; 128];
-    let len =
-        independent::frame::write_extended(0x05, random.below(256) as u8, &contents, &mut wire)
-            .expect("the frame is short enough");
+    let len = plain::frame::write_extended(0x05, random.below(256) as u8, &contents, &mut wire)
+        .expect("the frame is short enough");
     wire[..len].to_vec()
 }
 
@@ -132,7 +131,7 @@ fn long_traces_are_listed_alike_in_any_pieces() {
 
 #[test]
 fn the_samples_are_listed_alike() {
-    let samples = Path::new(env!("CARGO_MANIFEST_DIR")).join("../samples");
+    let samples = Path::new(env!("CARGO_MANIFEST_DIR")).join("../../samples");
     let mut count = 0;
     for entry in fs::read_dir(samples).expect("the samples are there") {
         let path = entry.expect("a sample").path();

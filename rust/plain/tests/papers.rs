@@ -2,12 +2,12 @@
 
 mod examples;
 
-use independent::command::{self, Found};
-use independent::frame::{self, Read};
-use independent::line::{Answer, Line};
-use independent::reply::{self, Status};
-use independent::workout::{self, Goal, Workout};
-use independent::{lease, listing};
+use plain::command::{self, Found};
+use plain::frame::{self, Read};
+use plain::line::{Answer, Line};
+use plain::reply::{self, Status};
+use plain::workout::{self, Goal, Workout};
+use plain::{lease, listing};
 
 /// A value no result of these tests depends on, to see what stays untouched.
 const MARK: u8 = 0xA5;

@@ -12,7 +12,7 @@ pub fn listing() -> PathBuf {
     if let Some(ready) = std::env::var_os(READY_PROGRAM) {
         return PathBuf::from(ready);
     }
-    let root = Path::new(env!("CARGO_MANIFEST_DIR")).join("..");
+    let root = Path::new(env!("CARGO_MANIFEST_DIR")).join("../..");
     let run = Command::new("rt")
         .args(["check", "listing"])
         .current_dir(&root)

@@ -1,7 +1,7 @@
 //! Workouts written on both sides, and read back by the independent one.
 
 use csafe::{workout, Error};
-use independent::workout::{self as plain_rust, Goal, Workout};
+use plain::workout::{self as plain_rust, Goal, Workout};
 
 use crate::common::Xorshift;
 use crate::output::{same, told, Output};

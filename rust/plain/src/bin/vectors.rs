@@ -4,12 +4,12 @@
 use std::io::{self, Read as _};
 use std::process::ExitCode;
 
-use independent::command::{self, Found};
-use independent::frame::{self, Read};
-use independent::line::{Answer, Line};
-use independent::reply::{self, Status};
-use independent::workout::{self, Goal, Workout};
-use independent::{lease, refusal};
+use plain::command::{self, Found};
+use plain::frame::{self, Read};
+use plain::line::{Answer, Line};
+use plain::reply::{self, Status};
+use plain::workout::{self, Goal, Workout};
+use plain::{lease, refusal};
 
 /// Room for whatever the examples write.
 const ROOM: usize = 300;

@@ -1,6 +1,6 @@
-//! Makes the proved static library with `rt staticlib server` and links it.
+//! Makes the proved static library with `rt staticlib exports` and links it.
 //!
-//! Where `CSAFE_STATICLIB` names a directory with a ready `libserver.a`, that one is linked and `rt` is not run.
+//! Where `CSAFE_STATICLIB` names a directory with a ready `libexports.a`, that one is linked and `rt` is not run.
 
 use std::env;
 use std::fs;
@@ -8,17 +8,17 @@ use std::io::ErrorKind;
 use std::path::{Path, PathBuf};
 use std::process::{exit, Command};
 
-const ARCHIVE: &str = "libserver.a";
+const ARCHIVE: &str = "libexports.a";
 const READY_ARCHIVE: &str = "CSAFE_STATICLIB";
 
 fn main() {
     println!("cargo:rerun-if-changed=build.rs");
-    println!("cargo:rerun-if-changed=../crates");
-    println!("cargo:rerun-if-changed=../crates.txt");
+    println!("cargo:rerun-if-changed=../../crates");
+    println!("cargo:rerun-if-changed=../../crates.txt");
     println!("cargo:rerun-if-env-changed={READY_ARCHIVE}");
     let made = match env::var_os(READY_ARCHIVE) {
         Some(directory) => ready_archive(Path::new(&directory)),
-        None => proved_archive(&package_directory().join("..")),
+        None => proved_archive(&package_directory().join("../..")),
     };
     link(&made);
 }
@@ -52,7 +52,7 @@ fn ready_archive(directory: &Path) -> PathBuf {
 /// The archive that `rt` proves and compiles in the repository's root.
 fn proved_archive(root: &Path) -> PathBuf {
     let run = Command::new("rt")
-        .args(["staticlib", "server"])
+        .args(["staticlib", "exports"])
         .current_dir(root)
         .output();
     let output = match run {
@@ -60,11 +60,11 @@ fn proved_archive(root: &Path) -> PathBuf {
         Err(error) if error.kind() == ErrorKind::NotFound => stop(&format!(
             "the program `rt` is not on the path. Install the Rattle toolchain, or set {READY_ARCHIVE} to a directory that has {ARCHIVE}."
         )),
-        Err(error) => stop(&format!("`rt staticlib server` could not be started: {error}.")),
+        Err(error) => stop(&format!("`rt staticlib exports` could not be started: {error}.")),
     };
     if !output.status.success() {
         stop(&format!(
-            "`rt staticlib server` failed ({}). Run it in the repository's root and mend what it reports. It said:\n{}{}",
+            "`rt staticlib exports` failed ({}). Run it in the repository's root and mend what it reports. It said:\n{}{}",
             output.status,
             String::from_utf8_lossy(&output.stdout),
             String::from_utf8_lossy(&output.stderr)
@@ -81,12 +81,12 @@ fn link(made: &Path) {
         stop(&format!("{} could not be copied: {error}.", made.display()));
     }
     println!("cargo:rustc-link-search=native={}", directory.display());
-    println!("cargo:rustc-link-lib=static=server");
+    println!("cargo:rustc-link-lib=static=exports");
     // The test of the C header links the same archive.
     println!("cargo:rustc-env=CSAFE_ARCHIVE={}", archive.display());
 }
 
 fn stop(message: &str) -> ! {
-    eprintln!("tigravosh-server: {message}");
+    eprintln!("csafe: {message}");
     exit(1)
 }

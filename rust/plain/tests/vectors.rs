@@ -2,7 +2,7 @@
 //! those of the program here, no example of the source documents is missing, and
 //! each answer says what those documents' table has. To store the answers:
 //!
-//!     cargo run --bin vectors < ../../crates/vectors/stdin > ../../crates/vectors/stdout
+//!     cargo run -p plain --bin vectors < ../crates/vectors/stdin > ../crates/vectors/stdout
 
 mod examples;
 

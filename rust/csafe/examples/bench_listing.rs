@@ -20,7 +20,7 @@ use std::process::{Command, Stdio};
 use std::time::Instant;
 
 use common::{Xorshift, SEED};
-use independent::{frame, listing};
+use plain::{frame, listing};
 
 const TRACE_LEN: usize = 256 << 20;
 const ROUNDS: usize = 7;

@@ -2,8 +2,8 @@
 
 use csafe::line::{self, Told, HELD_LEN};
 use csafe::{Error, Frame, LineReader};
-use independent::frame::Read;
-use independent::line::{Answer, Line};
+use plain::frame::Read;
+use plain::line::{Answer, Line};
 
 use crate::common::Xorshift;
 use crate::frame_damage::{

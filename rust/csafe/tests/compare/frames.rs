@@ -1,7 +1,7 @@
 //! Frames written and read on both sides.
 
 use csafe::{frame, Error, Frame};
-use independent::frame as plain_rust;
+use plain::frame as plain_rust;
 
 use crate::common::Xorshift;
 use crate::frame_damage::{damage, damage_with_checksum, Plain, STANDARD_START, STOP};

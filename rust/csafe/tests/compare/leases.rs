@@ -1,7 +1,7 @@
 //! Lists of calls on a lease table: on both sides, against a model of the history, and one address at a time.
 
 use csafe::{lease, Error};
-use independent::lease as plain_rust;
+use plain::lease as plain_rust;
 
 use crate::common::Xorshift;
 use crate::output::{hex, same, told, Output};
