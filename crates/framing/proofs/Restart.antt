@@ -4,9 +4,9 @@ use mathlib.Core.Logic.{_⊎_, inl, inr}
 use mathlib.Core.List.{List, [], _∷_, _++_}
 use native.Mathlib.Omega.{arith}
 use Prim.Native.Nat.{ℕ}
-use Rattle.framing.specs.Reference.{Call, byte, Role, starts, stops, plain, Candidate, none, opened, Protocol, byteAnswer, byteAfter, answerTo, candidateAfter, Reference}
+use Rattle.framing.specs.Reference.{Call, byte, Role, starts, stops, plain, Candidate, none, opened, Protocol, byteAnswer, byteAfter, answerTo, candidateAfter, Reference, FlagFree}
 use Rattle.lists.specs.Machine.{run}
-use Rattle.framing.specs.Demand3.{feed, FlagFree, LeftOpen, Restarts, Follows}
+use Rattle.framing.specs.Demand3.{feed, LeftOpen, Restarts, Follows}
 use Rattle.lists.proofs.Machines.{simulates}
 
 module _ {A : Type 0} (P : Protocol A) where
@@ -34,7 +34,7 @@ module _ {A : Type 0} (P : Protocol A) where
   -- ---- bytes that leave a candidate open
 
   -- bytes that are no flags keep it open
-  keeps : (s bytes : List ℕ) → FlagFree P bytes → (t : List ℕ) × (fed (opened s) bytes ≡ opened t)
+  keeps : (s bytes : List ℕ) → FlagFree (P .role) bytes → (t : List ℕ) × (fed (opened s) bytes ≡ opened t)
   keeps s [] n = (s, refl)
   keeps s (b ∷ bytes) n =
       let k : (t : List ℕ) × (fed (opened (s ++ b ∷ [])) bytes ≡ opened t) = keeps (s ++ b ∷ []) bytes (n .1) in
@@ -50,7 +50,7 @@ module _ {A : Type 0} (P : Protocol A) where
 
   -- what follows a start flag: bytes that are no flags, or bytes that leave a candidate open themselves
   data Since (bytes : List ℕ) : Type 0 where
-    flagless : FlagFree P bytes → Since bytes
+    flagless : FlagFree (P .role) bytes → Since bytes
     again : LeftOpen P bytes → Since bytes
 
   later : (b : ℕ) (bytes : List ℕ) → LeftOpen P bytes → LeftOpen P (b ∷ bytes)

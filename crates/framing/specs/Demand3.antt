@@ -3,18 +3,13 @@ use mathlib.Core.Path.{_≡_}
 use mathlib.Core.List.{List, [], _∷_, _++_, map}
 use lib.ListN.{drop}
 use Prim.Native.Nat.{ℕ}
-use Rattle.framing.specs.Reference.{Call, byte, starts, plain, Protocol, Reference}
+use Rattle.framing.specs.Reference.{Call, byte, starts, FlagFree, Protocol, Reference}
 
 -- Bytes fed one by one.
 abbrev pub feed : List ℕ → List Call
 feed bytes = map byte bytes
 
 module _ {A : Type 0} (P : Protocol A) where
-  -- No byte of a list starts or stops a candidate.
-  abbrev pub FlagFree : List ℕ → Type 0
-  FlagFree [] = Unit {0}
-  FlagFree (b ∷ bytes) = (P .role b ≡ plain) × FlagFree bytes
-
   -- The bytes hold a start flag, and no stop flag after their last start flag. It speaks of the bytes alone.
   pub record LeftOpen (bytes : List ℕ) : Type 0 where
     pub before : List ℕ
@@ -22,7 +17,7 @@ module _ {A : Type 0} (P : Protocol A) where
     pub rest : List ℕ
     pub splits : bytes ≡ before ++ flag ∷ rest
     pub starting : P .role flag ≡ starts
-    pub flag-free : FlagFree rest
+    pub flag-free : FlagFree (P .role) rest
 
   -- Any bytes D, then bytes W that begin with the start flag w, then any calls L. D is answered as D alone is. The flag is answered
   -- with the truncation if D left a candidate open, else with nothing. Every later call is answered as it is where W and L come first.

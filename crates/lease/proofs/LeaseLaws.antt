@@ -17,7 +17,7 @@ use Rattle.lists.proofs.Tests.{within-true}
 use Rattle.numbers.proofs.Numbers.{numbers-at, length-numbers, put-number, put-out}
 use Rattle.frame.specs.Stuffing.{isStuffed, stuff, stuffByte}
 use Rattle.frame.specs.Checksum.{sumFrom}
-use Rattle.frame.specs.Frame.{wireOf, payload, startOf, addressesOf, contentsOf, extended}
+use Rattle.frame.specs.Frame.{wireOf, payload, addressesOf, contentsOf, extended}
 use Rattle.frame.specs.Answers.{frameDraft}
 use Rattle.frame.proofs.WireLaws.{draft-fits}
 use Rattle.lease.specs.Lease.{LeaseCall, hold, release, stop, addressOf, tokenOf, inRange, owns, stopFrame, answerOf, leaves, ifAccepted, heldAfter, tableAnswer, tableAfter, tableOf, lentAnswer, lentAfter}
@@ -117,7 +117,7 @@ module _ (c : LeaseCall) (s : List ℕ) (size : length s ≡ 2048) where
 -- ---- a stop
 
 pub stop-short : (a : ℕ) → length (stopFrame a) ≤ 13
-unfolding stopFrame wireOf payload startOf addressesOf contentsOf stuff stuffByte sumFrom
+unfolding stopFrame wireOf payload addressesOf contentsOf stuff stuffByte sumFrom
 stop-short a = by-bool (isStuffed a) (λ y. simp y (omega arith)) (λ n. simp n (omega arith))
 
 -- an answer and an output are those of a stop, where its answer is x

@@ -19,7 +19,8 @@ use Rattle.frame.specs.declared.Kind.the-variants.{Standard, Extended}
 use Rattle.frame.proofs.ContentsLaws.{left-whole}
 use Rattle.line.specs.Outcome.{Outcome, nothing, judged, Summary, silent, tells, toldMeans, summaryOf, outcomeOf, contentsBeside}
 use Rattle.line.specs.Reader.{Turn, reader, newReader, truncatedIn, terminatedIn, leftBy, restartOf, stopOf, growOf, Moves, Steps}
-use Rattle.line.specs.Rowing.{turnOf, outcomeAt, nextAfter, rowing, roleOf}
+use Rattle.line.specs.Rowing.{turnOf, outcomeAt, nextAfter, rowing}
+use Rattle.frame.specs.Flags.{roleOf}
 use Rattle.line.specs.declared.LineReader.{LineReader}
 use Rattle.line.specs.declared.Mode.{Mode}
 use Rattle.line.specs.declared.Mode.the-variants.{Outside, InStandard, InExtended, Overlong}

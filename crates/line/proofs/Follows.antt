@@ -17,9 +17,8 @@ use Rattle.framing.specs.Reference.{Call, byte, finish, Role, starts, stops, pl
 use Rattle.lists.specs.Machine.{run}
 use Rattle.framing.specs.Demand3.{Follows}
 use Rattle.framing.proofs.Restart.{follows}
-use Rattle.frame.specs.Stuffing.{isFlag, flagless}
+use Rattle.frame.specs.Flags.{isFlag, flagless, startFlag}
 use Rattle.frame.specs.Verdict.{judge, verdict}
-use Rattle.frame.specs.Conditions.{startFlag}
 use Rattle.frame.specs.Answers.{leftIn}
 use Rattle.frame.specs.declared.Kind.{Kind}
 use Rattle.frame.specs.declared.Kind.the-variants.{Standard, Extended}

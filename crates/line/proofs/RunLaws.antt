@@ -13,7 +13,7 @@ use Rattle.lists.specs.Choice.{pick, noneOf, countBefore}
 use Rattle.lists.proofs.Cases.{by-bool}
 use Rattle.lists.proofs.Tests.{none-at}
 use Rattle.lists.proofs.Before.{before-fits, before-clear}
-use Rattle.frame.specs.Stuffing.{isFlag}
+use Rattle.frame.specs.Flags.{isFlag}
 use Rattle.line.specs.Outcome.{nothing}
 use Rattle.line.specs.Reader.{Turn, turn, reader, withByte, grownIn, stepOf}
 use Rattle.line.specs.Feed.{isAnswer, plus, feedOf}

@@ -10,10 +10,7 @@ use Rattle.frame.specs.Verdict.{verdict}
 use Rattle.line.specs.Outcome.{Outcome, nothing, judged}
 use Rattle.line.specs.Reader.{Turn, newReader, stepOf, finishOf}
 use Rattle.line.specs.declared.LineReader.{LineReader}
-
--- F0 and F1 start a candidate, F2 stops one.
-abbrev pub roleOf : ℕ → Role
-roleOf b = pick (eqb b 0xF0) starts (pick (eqb b 0xF1) starts (pick (eqb b 0xF2) stops plain))
+use Rattle.frame.specs.Flags.{roleOf}
 
 -- A terminated candidate is judged as the slice that it is, in frame reading's order without 1.
 abbrev pub rowing : Protocol Outcome

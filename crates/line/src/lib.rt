@@ -5,6 +5,7 @@ mod runs;
 use answer::Refusal;
 use frame::Kind;
 use frame::Read;
+use frame::flags;
 ghost use mathlib.Core.Path.{_≡_};
 ghost use mathlib.Core.List.{List};
 ghost use Prim.Native.Nat.{ℕ};
@@ -13,12 +14,6 @@ ghost use Rattle.line.specs.Outcome.{toldMeans, tells, summaryOf, nothin
 ghost use Rattle.line.specs.Reader.{reader, turn, newReader, truncatedIn, restartOf, terminatedIn, leftBy, stopOf, withByte, grownIn, stepOf, finishOf, Moves, Steps, Turn};
 ghost use Rattle.line.specs.declared.Told.the-variants.{Nothing};
 ghost use Rattle.line.specs.Feed.{says, feedOf, Feeds};
-
-const EXTENDED_START: u8 = 0xF0;
-
-const STANDARD_START: u8 = 0xF1;
-
-const STOP: u8 = 0xF2;
 
 // The most bytes that may stand between the flags of a frame.
 const ROOM: usize = 118;
@@ -113,13 +108,13 @@ impl LineReader {
 pub fn step_in(bytes: &mut [u8; 118], len: usize, mode: Mode, b: u8) -> Moved
     ensures { λ r. ⌜ Moves (now (bytes .exit)) r (stepOf (reader (now (bytes .entry)) len mode) b) ⌝ }
 {
-    if b == EXTENDED_START {
+    if b == flags::EXTENDED_START {
         return restart(mode, Mode::InExtended);
     }
-    if b == STANDARD_START {
+    if b == flags::STANDARD_START {
         return restart(mode, Mode::InStandard);
     }
-    if b == STOP {
+    if b == flags::STOP {
         return stop(bytes, len, mode);
     }
     grow(bytes, len, mode, b)

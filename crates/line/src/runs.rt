@@ -1,11 +1,12 @@
 // Runs of bytes that are no flags.
 use crate::Mode;
+use frame::flags;
 ghost use mathlib.Core.Path.{_≡_};
 ghost use mathlib.Core.Bool.{true, false};
 ghost use Prim.Native.Nat.{_+_, _-_, _≤_};
 ghost use lib.ListN.{length, take, drop};
 ghost use Rattle.lists.specs.Choice.{noneOf};
-ghost use Rattle.frame.specs.Stuffing.{isFlag};
+ghost use Rattle.frame.specs.Flags.{isFlag};
 ghost use Rattle.line.specs.Reader.{reader};
 ghost use Rattle.line.specs.Runs.{isHeld, Reaches, Kept};
 ghost use Rattle.line.specs.declared.LineReader.{LineReader};
@@ -43,21 +44,12 @@ fn is_held(mode: Mode) -> bool
     }
 }
 
-fn is_flag(b: u8) -> bool
-    ensures { λ r. ⌜ r ≡ isFlag b ⌝ }
-{
-    if b < crate::EXTENDED_START {
-        return false;
-    }
-    b <= crate::STOP
-}
-
 // Bytes that are not held.
 fn skip(input: &[u8], from: usize) -> usize
     requires { ⌜ from ≤ length (now input) ⌝ }
     ensures { λ at. ⌜ ((r : LineReader) → isHeld (r .mode) ≡ false → Reaches (now (input .entry)) from r at r) ⌝ }
 {
-    from + lists::count_before(&input[from..], crate::EXTENDED_START, crate::STOP)
+    from + lists::count_before(&input[from..], flags::EXTENDED_START, flags::STOP)
 }
 
 // How many bytes more may be held.
@@ -90,7 +82,7 @@ fn keep_blocks(bytes: &mut [u8; 118], len: usize, input: &[u8], from: usize, end
     let mut n = len;
     let mut i = from;
     while BLOCK <= end - i {
-        if !lists::none_within(&input[i..i + BLOCK], crate::EXTENDED_START, crate::STOP) {
+        if !lists::none_within(&input[i..i + BLOCK], flags::EXTENDED_START, flags::STOP) {
             return Run { at: i, len: n };
         }
         keep_block(bytes, n, input, i);
@@ -124,7 +116,7 @@ fn keep_each(bytes: &mut [u8; 118], len: usize, input: &[u8], from: usize, end: 
     let mut i = from;
     while i < end {
         let b = input[i];
-        if is_flag(b) {
+        if flags::is_flag(b) {
             return Run { at: i, len: n };
         }
         bytes[n] = b;

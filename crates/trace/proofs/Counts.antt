@@ -14,7 +14,8 @@ use Rattle.framing.specs.Demand3.{feed}
 use Rattle.answer.specs.Answer.{result, refused}
 use Rattle.line.specs.Outcome.{Outcome, nothing, judged}
 use Rattle.line.specs.Reader.{reader, restartOf, stopOf, growOf, withByte, grownIn, stepOf, finishOf}
-use Rattle.line.specs.Rowing.{roleOf, outcomeAt, nextAfter}
+use Rattle.frame.specs.Flags.{roleOf}
+use Rattle.line.specs.Rowing.{outcomeAt, nextAfter}
 use Rattle.line.specs.declared.LineReader.{LineReader}
 use Rattle.line.specs.declared.Mode.{Mode}
 use Rattle.line.specs.declared.Mode.the-variants.{Outside, InStandard, InExtended, Overlong}

@@ -12,7 +12,7 @@ use Rattle.lists.specs.Choice.{pick}
 use Rattle.line.specs.Outcome.{Outcome, nothing, judged, toldMeans, outcomeOf}
 use Rattle.line.specs.Feed.{isAnswer, Feeding, feeding, plus, feedOf, Feeds}
 use Rattle.line.specs.Reader.{reader, stepOf}
-use Rattle.line.specs.Rowing.{roleOf}
+use Rattle.frame.specs.Flags.{roleOf}
 use Rattle.line.specs.declared.Fed.{Fed}
 use Rattle.line.specs.declared.LineReader.{LineReader}
 use Rattle.line.proofs.ChunkCalls.{feeds-outcome}

@@ -14,12 +14,12 @@ use Rattle.lists.proofs.Tests.{within-true}
 use Rattle.framing.specs.Reference.{Role, starts, stops, plain}
 use Rattle.line.specs.Feed.{isAnswer, Feeding, feeding, plus, feedOf}
 use Rattle.line.specs.Reader.{stepOf, restartOf, stopOf, growOf, terminatedIn}
-use Rattle.line.specs.Rowing.{roleOf}
+use Rattle.frame.specs.Flags.{roleOf, isStart}
 use Rattle.line.specs.declared.LineReader.{LineReader}
 use Rattle.line.specs.declared.Mode.{Mode}
 use Rattle.line.specs.declared.Mode.the-variants.{Outside, InStandard, InExtended, Overlong}
 use Rattle.text.specs.Strays.{strayAt, openAfter, strays}
-use Rattle.trace.specs.Private.{isStart, strayCount}
+use Rattle.trace.specs.Private.{strayCount}
 use Rattle.trace.specs.Machine.{isOpen}
 use Rattle.trace.proofs.Counts.{open-is}
 

@@ -10,7 +10,7 @@ use Rattle.frame.specs.Answers.{standardOutline, extendedOutline}
 use Rattle.answer.specs.Answer.{result, refused}
 use Rattle.line.specs.Outcome.{Summary, silent, tells}
 use Rattle.line.specs.Reader.{newReader, stepOf, finishOf}
-use Rattle.line.specs.Rowing.{roleOf}
+use Rattle.frame.specs.Flags.{roleOf}
 use Rattle.line.specs.declared.Mode.{Mode}
 use Rattle.line.specs.declared.Mode.the-variants.{Outside, InStandard, InExtended, Overlong}
 use Rattle.text.specs.Lines.{line, totals}

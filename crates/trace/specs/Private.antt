@@ -11,6 +11,7 @@ use Rattle.trace.specs.declared.Listing.{Listing}
 use Rattle.trace.specs.declared.Turn.{Turn}
 use Rattle.trace.specs.declared.Listed.{Listed}
 use Rattle.trace.specs.declared.Tally.{Tally}
+use Rattle.frame.specs.Flags.{isStart}
 
 -- A state whose array stands apart.
 abbrev pub listing : List ℕ → Tally → Listing
@@ -41,10 +42,6 @@ pub record Advances (s : Listing) (rest bytes out : List ℕ) (at : ℕ) (out′
   pub within : r .at ≤ at + lineRoom
 
 -- ---- stray bytes
-
--- Whether a byte starts a candidate.
-abbrev pub isStart : ℕ → Bool
-isStart b = within 0xF0 0xF1 b
 
 -- The stray bytes among those up to an answer: a candidate that is open ends only there, so they stand before the first start flag.
 abbrev pub strayCount : (is-open : Bool) → List ℕ → ℕ

@@ -1,5 +1,6 @@
 // The listing of a trace: a line for each answer of the line reader, then the totals (document 01, "Listing").
 // The state is a value. A call takes a chunk of the trace and a lent output, and writes whole lines into it.
+use frame::flags;
 use line::LineReader;
 use line::Mode;
 use line::Told;
@@ -9,10 +10,6 @@ ghost use lib.ListN.{length};
 ghost use Rattle.line.specs.Outcome.{toldMeans};
 ghost use Rattle.trace.specs.Private.{strayCount, Advances, listing, listedOf};
 ghost use Rattle.trace.specs.Machine.{frameCount, refusedCount, isOpen, newListing, numberAfter, Lists, Ends};
-
-const EXTENDED_START: u8 = 0xF0;
-
-const STANDARD_START: u8 = 0xF1;
 
 // The room that the line of the finish and the totals fit in.
 const LAST_ROOM: usize = 192;
@@ -212,5 +209,5 @@ fn stray_count(mode: Mode, bytes: &[u8]) -> u64
     if is_open(mode) {
         return 0;
     }
-    lists::count_before(bytes, EXTENDED_START, STANDARD_START) as u64
+    lists::count_before(bytes, flags::EXTENDED_START, flags::STANDARD_START) as u64
 }
