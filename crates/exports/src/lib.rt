@@ -56,7 +56,7 @@ pub extern "C" fn csafe_read(wire: &[u8], out: &mut [u8]) -> u64
 }
 
 // Feeds bytes to a line reader up to the first that is answered, and counts those taken. With no answer all are taken. The reader is its array
-// and the number that holds its length and mode, 0 for a new one.
+// and the number that holds its state, 0 for a new one.
 #[no_mangle]
 pub extern "C" fn csafe_feed(
     bytes: &mut [u8; 118],
@@ -66,12 +66,10 @@ pub extern "C" fn csafe_feed(
 ) -> u64
     ensures { λ r. ⌜ FedAs r (now (bytes .exit)) (now (state .exit)) (now (taken .exit)) (fedTo (now (bytes .entry)) (now (state .entry)) (now (input .entry))) ⌝ }
 {
-    let before = *state;
-    let len = line_state::len_in(before);
-    let mode = line_state::mode_in(before);
-    let fed = line::feed_in(bytes, len, mode, input);
-    let after = fed.mode;
-    *state = line_state::state_of(fed.len, after);
+    let before = line_state::state_in(*state);
+    let fed = line::feed_in(bytes, before, input);
+    let after = fed.state;
+    *state = line_state::pack_state(after);
     *taken = fed.taken as u64;
     let told = fed.told;
     packed::of_told(told)
@@ -82,10 +80,10 @@ pub extern "C" fn csafe_feed(
 pub extern "C" fn csafe_finish(state: &mut u64) -> u64
     ensures { λ r. ⌜ ((bytes : List ℕ) → FinishedAs r (now (state .exit)) (finished bytes (now (state .entry)))) ⌝ }
 {
-    let mode = line_state::mode_in(*state);
-    let ended = line::finish_in(mode);
-    let after = ended.mode;
-    *state = line_state::state_of(ended.len, after);
+    let before = line_state::state_in(*state);
+    let ended = line::finish_in(before);
+    let after = ended.state;
+    *state = line_state::pack_state(after);
     let told = ended.told;
     packed::of_told(told)
 }

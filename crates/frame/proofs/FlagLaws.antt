@@ -8,9 +8,9 @@ use lib.Dec.{eqb}
 use borrow.Author.Tests.{eqb-true, eqb-false}
 use Rattle.lists.specs.Choice.{pick, noneOf}
 use Rattle.lists.proofs.Cases.{by-bool}
-use Rattle.lists.proofs.Tests.{within-true}
+use Rattle.lists.proofs.Tests.{within-true, within-yes}
 use Rattle.framing.specs.Reference.{Role, starts, stops, plain, FlagFree}
-use Rattle.frame.specs.Flags.{startFlag, roleOf, kindOf, isStart, isFlag, flagless}
+use Rattle.frame.specs.Flags.{startFlag, stopFlag, roleOf, kindOf, isStart, isFlag, flagless}
 use Rattle.frame.specs.declared.Kind.{Kind}
 use Rattle.frame.specs.declared.Kind.the-variants.{Standard, Extended}
 
@@ -58,6 +58,21 @@ role-tests b = by-flag (eqb b 0xF0) (eqb b 0xF1) (eqb b 0xF2) refl refl refl
           by-bool (isStart b) (λ y. let h = within-true 0xF0 0xF1 b y in absurd (omega (arith, h .0, h .1, p, q))) (λ n. n),
           by-bool (isFlag b) (λ y. let h = within-true 0xF0 0xF2 b y in absurd (omega (arith, h .0, h .1, p, q, r))) (λ n. n),
         )
+
+-- The byte of a start flag is that of its kind, and only the stop flag stops.
+pub role-start : (b : ℕ) → roleOf b ≡ starts → startFlag (kindOf b) ≡ b
+role-start b e = start-kind b (is-start .0) (is-start .1)
+  where
+    is-start : (0xF0 ≤ b) × (b ≤ 0xF1)
+    is-start = within-true 0xF0 0xF1 b (role-tests b .0 ∙ ap isStarts e)
+
+pub role-stop : (b : ℕ) → roleOf b ≡ stops → b ≡ stopFlag
+role-stop b e =
+    let f = within-true 0xF0 0xF2 b (role-tests b .1 ∙ ap isFlagRole e) in
+    let n : isStart b ≡ false = role-tests b .0 ∙ ap isStarts e in
+    by-bool (eqb b 0xF2)
+    (λ y. eqb-true b 0xF2 y)
+    (λ d. absurd (true≢false (sym (within-yes 0xF0 0xF1 b (f .0) (omega (arith, f .1, eqb-false b 0xF2 d))) ∙ n)))
 
 -- A byte that is no flag has the plain role, and only such a byte.
 pub no-flag : (b : ℕ) → isFlag b ≡ false → roleOf b ≡ plain

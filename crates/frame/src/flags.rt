@@ -30,7 +30,11 @@ pub fn is_flag(b: u8) -> bool
 pub(crate) fn is_stuffed(b: u8) -> bool
     ensures { λ r. ⌜ r ≡ isStuffed b ⌝ }
 {
-    if EXTENDED_START <= b { b <= ESCAPE } else { false }
+    if EXTENDED_START <= b {
+        b <= ESCAPE
+    } else {
+        false
+    }
 }
 
 // The kind of frame that a start flag opens.

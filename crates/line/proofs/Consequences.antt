@@ -12,7 +12,8 @@ use Rattle.frame.specs.Conditions.{Judged, truncated, long, badEscape, short, b
 use Rattle.frame.proofs.Table.{verdict-by-table}
 use Rattle.line.specs.Outcome.{Outcome, nothing, judged}
 use Rattle.frame.specs.Flags.{roleOf}
-use Rattle.line.specs.Rowing.{rowing, readerAnswers}
+use Rattle.line.specs.Rowing.{rowing}
+use Rattle.line.specs.Reader.{readerAnswers}
 use Rattle.line.proofs.Follows.{reader-follows}
 
 pub as-new-after-stop : (calls rest : List Call) → readerAnswers (calls ++ byte 0xF2 ∷ rest) ≡ readerAnswers (calls ++ byte 0xF2 ∷ []) ++ readerAnswers rest
