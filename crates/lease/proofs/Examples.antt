@@ -12,5 +12,5 @@ use Rattle.lease.specs.History.{answersOn, newTable}
 pub a-day : answersOn newTable
     (hold 5 7 ∷ hold 5 8 ∷ hold 5 7 ∷ hold 6 0 ∷ hold 0xFD 7 ∷ stop 5 8 99 ∷ stop 6 7 99 ∷ stop 6 0 99 ∷ stop 5 7 3 ∷ stop 5 7 99 ∷ release 5 7 ∷ stop 5 7 99 ∷ hold 5 8 ∷ stop 5 8 11 ∷ [])
     ≡ result [] ∷ refused 10 ∷ refused 10 ∷ refused 14 ∷ refused 9 ∷ refused 11 ∷ refused 11 ∷ refused 11 ∷ refused 1 ∷ result (stopFrame 5) ∷ result [] ∷ refused 11 ∷ result [] ∷ result (stopFrame 5) ∷ []
-unfolding answersOn answerOf heldAfter stopFrame wireOf payload startOf addressesOf contentsOf stuff stuffByte sumFrom
+unfolding answerOf heldAfter stopFrame wireOf payload startOf addressesOf contentsOf stuff stuffByte sumFrom
 a-day = refl
