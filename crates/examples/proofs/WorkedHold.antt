@@ -13,5 +13,7 @@ use Rattle.lease.specs.Lease.{stopFrame, answerOf, heldAfter}
 use Rattle.examples.specs.Worked.{AllHold, markedExamples}
 
 pub examples-hold : AllHold markedExamples
-unfolding AllHold noneOf stuffByte stuff prepend unstuff sumFrom contentsOf startOf addressesOf payload wireOf frameIn judgeBytes judge isTerminated verdict frameDraft withEntry parse soundStatus statusIn headIn afterStatus replyIn stopFrame answerOf heldAfter
+unfolding AllHold noneOf stuffByte stuff prepend unstuff sumFrom contentsOf startOf addressesOf payload wireOf frameIn
+    judgeBytes judge isTerminated verdict frameDraft withEntry parse soundStatus statusIn headIn afterStatus replyIn
+    stopFrame answerOf heldAfter
 examples-hold = (refl, (refl, (refl, (refl, (refl, (refl, (refl, (refl, (refl, (refl, (refl, (refl, tt))))))))))))

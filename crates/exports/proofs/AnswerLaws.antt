@@ -53,7 +53,8 @@ token-fits a t room held =
 
 pub stop-fits : (a t room : ℕ) (s : List ℕ) → WriteShort (writtenLength (lentAnswer s (stop a t room)))
 unfolding lentAnswer
-stop-fits a t room s = by-bool (eqb (length s) 2048) (λ y. simp y (token-fits a t room (getD (tableOf s) a 0))) (λ y. simp y tt)
+stop-fits a t room s =
+    by-bool (eqb (length s) 2048) (λ y. simp y (token-fits a t room (getD (tableOf s) a 0))) (λ y. simp y tt)
 
 pub read-short : (w : List ℕ) (room : ℕ) → ReadShort (readAnswer (verdict w) room)
 unfolding readAnswer contentsOf

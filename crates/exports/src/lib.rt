@@ -151,8 +151,10 @@ pub extern "C" fn csafe_release(table: &mut [u8], address: u32, token: u64) -> u
 // Writes the stop frame for the holder. Refusals 18, 9, 11 and 1.
 #[no_mangle]
 pub extern "C" fn csafe_stop(table: &[u8], address: u32, token: u64, out: &mut [u8]) -> u64
-    ensures { λ r. ⌜ Tells r (writeFields (writtenLength (lentAnswer (now (table .entry)) (stop address token (length (now (out .entry))))))) ⌝ }
-    ensures { λ r. ⌜ now (out .exit) ≡ outAfter (lentAnswer (now (table .entry)) (stop address token (length (now (out .entry))))) (now (out .entry)) ⌝ }
+    ensures { λ r. ⌜ Tells r (writeFields
+        (writtenLength (lentAnswer (now (table .entry)) (stop address token (length (now (out .entry))))))) ⌝ }
+    ensures { λ r. ⌜ now (out .exit)
+        ≡ outAfter (lentAnswer (now (table .entry)) (stop address token (length (now (out .entry))))) (now (out .entry)) ⌝ }
 {
     let written = lease::stop_lent(table, address, token, out);
     packed::of_written(written)

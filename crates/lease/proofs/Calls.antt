@@ -30,6 +30,7 @@ use Rattle.lease.proofs.hold_lent.Reads as hold-lent-reads
 use Rattle.lease.proofs.release_lent.Reads as release-lent-reads
 use Rattle.lease.proofs.stop_lent.Reads as stop-lent-reads
 
+-- What a caller of stop has is the answer that the contract names.
 told-is : (a : Answer ℕ) (out last : List ℕ) (x : Answer (List ℕ)) → a ≡ writtenLength x → last ≡ outAfter x out
     → stopTold a last ≡ x
 unfolding stopTold
@@ -64,7 +65,8 @@ called t t′ c x (stopped {a = a} {u = u} r κs out out′ e) = (
   sym (stop-table (t .tokens) a u (length (out .now))),
 )
 
--- Every run of `new`, `hold`, `release` and `stop` is answered as the definitions say, and leaves the table that they say.
+-- Every run of `new`, `hold`, `release` and `stop` is answered as the definitions say, and leaves the table that they
+-- say.
 pub table-calls : {cs : List LeaseCall} {rs : List (Answer (List ℕ))} (k : Answered Called New cs rs)
     → (rs ≡ answersOn newTable cs) × (k .last .tokens ≡ tableOn newTable cs)
 table-calls {cs} k =
@@ -107,7 +109,8 @@ token-fits s s′ c x (lent-released r κs t t′ e) = e .real .fits
 token-fits s s′ c x (lent-stopped r κs t out out′ e) = e .real .fits
 
 -- The tokens of a run have 64 bits, which is what the theorems on lent bytes ask of a list of calls.
-pub lent-tokens : {s u : List ℕ} {cs : List LeaseCall} {rs : List (Answer (List ℕ))} → Ran CalledLent s cs rs u → Tokens cs
+pub lent-tokens : {s u : List ℕ} {cs : List LeaseCall} {rs : List (Answer (List ℕ))} → Ran CalledLent s cs rs u
+    → Tokens cs
 lent-tokens k = ran-every CalledLent (λ c. tokenOf c < 2 ^ 64) token-fits k
 
 -- Every run of `hold_lent`, `release_lent` and `stop_lent` on bytes that are all 00 is answered as a new table answers
@@ -123,6 +126,7 @@ lent-calls {cs} k =
 
 -- ---- isolation
 
+-- Answers that are a new table's to calls that agree on one address's calls are equal at that address.
 alike : (a : ℕ) (cs ds : List LeaseCall) (rs ss : List (Answer (List ℕ))) → rs ≡ answersOn newTable cs
     → ss ≡ answersOn newTable ds → callsAt a cs ≡ callsAt a ds → answersAt a cs rs ≡ answersAt a ds ss
 alike a cs ds rs ss e f q = ap (answersAt a cs) e ∙ isolation a cs ds q ∙ sym (ap (answersAt a ds) f)
@@ -133,7 +137,9 @@ pub table-isolated : (a : ℕ) (cs ds : List LeaseCall) (rs ss : List (Answer (L
     → Answered Called New ds ss → callsAt a cs ≡ callsAt a ds → answersAt a cs rs ≡ answersAt a ds ss
 table-isolated a cs ds rs ss k l q = alike a cs ds rs ss (table-calls k .0) (table-calls l .0) q
 
--- The same of two runs on the bytes of new tables.
-pub lent-isolated : (a : ℕ) (cs ds : List LeaseCall) (rs ss : List (Answer (List ℕ))) → Answered CalledLent NewBytes cs rs
-    → Answered CalledLent NewBytes ds ss → callsAt a cs ≡ callsAt a ds → answersAt a cs rs ≡ answersAt a ds ss
+-- Two runs on the bytes of new tables that agree on one address's calls, with the lengths of their outputs, give that
+-- address equal answers.
+pub lent-isolated : (a : ℕ) (cs ds : List LeaseCall) (rs ss : List (Answer (List ℕ)))
+    → Answered CalledLent NewBytes cs rs → Answered CalledLent NewBytes ds ss → callsAt a cs ≡ callsAt a ds
+    → answersAt a cs rs ≡ answersAt a ds ss
 lent-isolated a cs ds rs ss k l q = alike a cs ds rs ss (lent-calls k .0) (lent-calls l .0) q

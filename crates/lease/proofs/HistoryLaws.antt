@@ -21,7 +21,7 @@ use Rattle.lease.proofs.LeaseLaws.{range-means, stop-held}
 
 -- ---- one call at one address
 
--- outside the range nothing is accepted
+-- A call outside the range leaves its address's token.
 outside-kept : (h : ℕ) (c : LeaseCall) → inRange (addressOf c) ≡ false → heldAfter h c ≡ h
 unfolding answerOf heldAfter
 outside-kept h (hold a t) n = simp n
@@ -32,7 +32,7 @@ not-inside : (a : ℕ) → 252 < a → inRange a ≡ false
 not-inside a h =
     by-bool (inRange a) (λ y. let m = range-means a y in absurd (omega arith)) (λ n. n)
 
--- the token at an address after one call
+-- The token at an address after one call: a call at another address leaves it.
 pub token-after : (ts : List ℕ) (c : LeaseCall) (a : ℕ) → length ts ≡ 256
     → getD (tableAfter ts c) a 0 ≡ pick (eqb (addressOf c) a) (heldAfter (getD ts a 0) c) (getD ts a 0)
 token-after ts c a l =
@@ -54,7 +54,7 @@ token-after ts c a l =
 pub length-after : (ts : List ℕ) (c : LeaseCall) → length (tableAfter ts c) ≡ length ts
 length-after ts c = length-set ts (addressOf c) (heldAfter (getD ts (addressOf c) 0) c)
 
--- the same, by the calls alone
+-- The tests of a hold and of a release, in the order of the answers and in that of `takes` and `frees`.
 hold-bools : (r z f : Bool) (t h : ℕ)
     → ifAccepted (pick r (pick z (refused 14) (pick f (result []) (refused 10))) (refused 9)) t h
     ≡ pick (both r (both (pick z false true) f)) t h
@@ -71,6 +71,7 @@ release-bools true false true h = refl
 release-bools true false false h = refl
 release-bools false z f h = refl
 
+-- What a call leaves at an address is what the calls alone say.
 holder-step : (a h : ℕ) (c : LeaseCall) → holderAfter a h c ≡ pick (eqb (addressOf c) a) (heldAfter h c) h
 unfolding heldAfter answerOf
 holder-step a h (hold b t) =
@@ -139,7 +140,7 @@ no-release : (x s : Bool) → pick x true s ≡ false → (x ≡ false) × (s �
 no-release true s e = absurd (true≢false e)
 no-release false s e = (refl, e)
 
--- what is held stays, until it is released
+-- What is held stays, until it is released.
 stays : (a t : ℕ) (cs : List LeaseCall) → (t ≡ 0 → ⊥) → releasedIn a t cs ≡ false → holderFrom a t cs ≡ t
 unfolding releasedIn
 stays a t [] n k = refl
@@ -152,7 +153,7 @@ stays a t (release b u ∷ cs) n k =
     ap (λ (x : Bool). holderFrom a (pick x 0 t) cs) q ∙ stays a t cs n (m .1)
 stays a t (stop b u room ∷ cs) n k = stays a t cs n k
 
--- where the token comes from, with h before the calls
+-- Address a has token t by a hold among the calls, where its token was h before them.
 record From (a h t : ℕ) (cs : List LeaseCall) : Type 0 where
   before : List LeaseCall
   after : List LeaseCall
@@ -161,7 +162,7 @@ record From (a h t : ℕ) (cs : List LeaseCall) : Type 0 where
   range : inRange a ≡ true
   kept : releasedIn a t after ≡ false
 
--- one call more in front
+-- A hold among the calls is among them with one call more in front.
 further : (a h t : ℕ) (c : LeaseCall) (cs : List LeaseCall) → From a (holderAfter a h c) t cs → From a h t (c ∷ cs)
 further a h t c cs f =
     record {
@@ -173,7 +174,7 @@ further a h t c cs f =
       kept = f .kept;
     }
 
--- only an address in range has a token after a call, where only such a one had it before
+-- An address that has a token after a call is in range, if it was wherever it had one before.
 in-range-after : (a h : ℕ) (c : LeaseCall) → ((h ≡ 0 → ⊥) → inRange a ≡ true) → (holderAfter a h c ≡ 0 → ⊥)
     → inRange a ≡ true
 in-range-after a h (hold b u) ok n =
@@ -186,7 +187,7 @@ in-range-after a h (release b u) ok n =
     (λ y. ok (λ z. n (ap (λ (x : Bool). pick x 0 h) y ∙ z)))
 in-range-after a h (stop b u room) ok n = ok n
 
--- a release that does not free an address in range with token t is none with t
+-- A release that does not free an address in range with token t is none of it with t.
 not-freed : (a t b u : ℕ) → inRange a ≡ true → (t ≡ 0 → ⊥) → frees a t b u ≡ false → both (eqb b a) (eqb u t) ≡ false
 not-freed a t b u r n y =
     by-bool (eqb u 0)
@@ -200,7 +201,7 @@ not-freed a t b u r n y =
     is-token : (v : ℕ) → (v ≡ 0 → ⊥) → isToken v ≡ true
     is-token v m = simp (ne-eqb v 0 m)
 
--- a token that stays from the first call on was there before that call, or that call is its hold
+-- A token that stays after the first call was there before that call, or that call is its hold.
 from-first : (a h t : ℕ) (c : LeaseCall) (cs : List LeaseCall) → ((h ≡ 0 → ⊥) → inRange a ≡ true) → (t ≡ 0 → ⊥)
     → holderAfter a h c ≡ t → releasedIn a t cs ≡ false
     → ((h ≡ t) × (releasedIn a t (c ∷ cs) ≡ false)) ⊎ From a h t (c ∷ cs)
@@ -227,6 +228,7 @@ from-first a h t (release b u) cs ok n e k =
     inl (s, (simp (not-freed a t b u (ok (λ q. n (sym s ∙ q))) n z)) ∙ k))
 from-first a h t (stop b u room) cs ok n e k = inl (e, k)
 
+-- A token after calls was there before them and stayed, or comes from a hold among them.
 traced : (a h t : ℕ) (cs : List LeaseCall) → ((h ≡ 0 → ⊥) → inRange a ≡ true) → (t ≡ 0 → ⊥) → holderFrom a h cs ≡ t
     → ((h ≡ t) × (releasedIn a t cs ≡ false)) ⊎ From a h t cs
 unfolding releasedIn

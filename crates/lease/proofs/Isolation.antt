@@ -12,15 +12,16 @@ use Rattle.lease.specs.Lease.{LeaseCall, addressOf, answerOf, heldAfter,
 use Rattle.lease.specs.History.{newTable, answersOn, atAddress, callsAt, answersAt}
 use Rattle.lease.proofs.HistoryLaws.{token-after, length-after, new-length, new-free}
 
--- one address by itself: the answers to calls at it, from its token on
+-- One address by itself: the answers to calls at it, where `held` is its token before them.
 abbrev alone : (held : ℕ) → List LeaseCall → List (Answer (List ℕ))
 alone held calls = run answerOf heldAfter held calls
 
--- a table of 256 tokens has token h at address a
+-- A table of 256 tokens has token h at address a.
 record Has (a : ℕ) (ts : List ℕ) (h : ℕ) : Type 0 where
   size : length ts ≡ 256
   token : getD ts a 0 ≡ h
 
+-- A call at the address is answered, and leaves its token, as by the address alone.
 own : (a : ℕ) (ts : List ℕ) (h : ℕ) (c : LeaseCall) → atAddress a c ≡ true → Has a ts h
     → (tableAnswer ts c ≡ answerOf h c) × Has a (tableAfter ts c) (heldAfter h c)
 own a ts h c y k = (
@@ -31,10 +32,12 @@ own a ts h c y k = (
   },
 )
 
+-- A call at another address leaves its token.
 other : (a : ℕ) (ts : List ℕ) (h : ℕ) (c : LeaseCall) → atAddress a c ≡ false → Has a ts h → Has a (tableAfter ts c) h
 other a ts h c n k =
     record { size = length-after ts c ∙ k .size; token = (simp n at (token-after ts c a (k .size))) ∙ k .token }
 
+-- An address's answers are those that it gives by itself to its own calls.
 answers-alone : (a : ℕ) (cs : List LeaseCall) → answersAt a cs (answersOn newTable cs) ≡ alone 0 (callsAt a cs)
 answers-alone a cs =
     only-run (atAddress a) tableAnswer tableAfter answerOf heldAfter (Has a) (own a) (other a) newTable 0

@@ -1,4 +1,4 @@
--- Laws of one call, that the functions' proofs cite.
+-- Laws of one call, which the functions' proofs cite.
 use Prim.Native.Nat.{ℕ, _*_, _≤_, _<_}
 use mathlib.Core.Path.{_≡_, refl, sym, ap, _∙_}
 use mathlib.Core.Bool.{true, false}
@@ -32,15 +32,18 @@ use Rattle.lease.specs.Private.{Settles, settled, settledLent}
 pub range-means : (a : ℕ) → inRange a ≡ true → (1 ≤ a) × (a ≤ 252)
 range-means a h = within-true 1 252 a h
 
--- an accepted call has an address in range
-pub accepted-range : (h : ℕ) (c : LeaseCall) (w : List ℕ) → answerOf h c ≡ result w → inRange (addressOf c) ≡ true
+-- An accepted call has an address in range.
+accepted-range : (h : ℕ) (c : LeaseCall) (w : List ℕ) → answerOf h c ≡ result w → inRange (addressOf c) ≡ true
 unfolding answerOf
 accepted-range h c w e = by-bool (inRange (addressOf c)) (λ y. y) (λ n. absurd (outside c n e))
   where
+    apart : refused 9 ≡ result w → ⊥
+    apart q = let z : _≡_ {A = ℕ} 0 1 = cc in omega arith
+
     outside : (c : LeaseCall) → inRange (addressOf c) ≡ false → answerOf h c ≡ result w → ⊥
-    outside (hold a t) n e = let q : refused 9 ≡ result w = simp n at e in let z : _≡_ {A = ℕ} 0 1 = cc in omega arith
-    outside (release a t) n e = let q : refused 9 ≡ result w = simp n at e in let z : _≡_ {A = ℕ} 0 1 = cc in omega arith
-    outside (stop a t room) n e = let q : refused 9 ≡ result w = simp n at e in let z : _≡_ {A = ℕ} 0 1 = cc in omega arith
+    outside (hold a t) n e = apart (simp n at e)
+    outside (release a t) n e = apart (simp n at e)
+    outside (stop a t room) n e = apart (simp n at e)
 
 pub settles : (h : ℕ) (c : LeaseCall) (x : Answer (List ℕ)) → x ≡ answerOf h c → Settles (addressOf c) x
 settles h c (result w) e = range-means (addressOf c) (accepted-range h c w (sym e))
@@ -56,7 +59,7 @@ pub after-refused : (h : ℕ) (c : LeaseCall) (n : ℕ) → answerOf h c ≡ ref
 unfolding heldAfter
 after-refused h c n e = ap (λ (r : Answer (List ℕ)). ifAccepted r (leaves h c) h) e
 
--- a stop leaves the token
+-- A stop leaves the token.
 pub stop-held : (h a t room : ℕ) → heldAfter h (stop a t room) ≡ h
 unfolding heldAfter
 stop-held h a t room = either (answerOf h (stop a t room))
@@ -67,12 +70,12 @@ stop-held h a t room = either (answerOf h (stop a t room))
 
 -- ---- a call on a table
 
--- a call that leaves its address's token leaves the table
+-- A call that leaves its address's token leaves the table.
 pub keeps-table : (ts : List ℕ) (c : LeaseCall) → heldAfter (getD ts (addressOf c) 0) c ≡ getD ts (addressOf c) 0
     → tableAfter ts c ≡ ts
 keeps-table ts c e = ap (set ts (addressOf c)) e ∙ set-getD ts (addressOf c) 0
 
--- what was judged and stored is the call
+-- What was judged and stored is the table after the call.
 settled-table : (ts : List ℕ) (c : LeaseCall) (h : ℕ) (x : Answer (List ℕ)) → h ≡ getD ts (addressOf c) 0
     → x ≡ answerOf h c → settled x (addressOf c) (leaves h c) ts ≡ tableAfter ts c
 settled-table ts c h (result w) held e =
@@ -88,7 +91,7 @@ table-call ts c h x a after held e s =
 
 -- ---- a call on lent bytes
 
--- the token of an address in the bytes of a table
+-- The token of an address in the bytes of a table is its eight bytes.
 pub token-lent : (s : List ℕ) (a : ℕ) → a < 256 → getD (tableOf s) a 0 ≡ number 8 (8 * a) s
 token-lent s a h = numbers-at 8 256 0 s a h ∙ ap (λ (k : ℕ). number 8 k s) (zero-add (8 * a))
 
@@ -109,7 +112,7 @@ module _ (s : List ℕ) (c : LeaseCall) (size : length s ≡ 2048) where
   unfolding lentAfter
   lent-bytes = simp (eq-eqb (length s) 2048 size)
 
-  -- a call that leaves its address's token leaves the bytes
+  -- A call that leaves its address's token leaves the bytes.
   pub keeps-lent : Bytes s → heldAfter (getD (tableOf s) (addressOf c) 0) c ≡ getD (tableOf s) (addressOf c) 0
       → lentAfter s c ≡ s
   keeps-lent b e =
@@ -148,7 +151,7 @@ pub stop-short : (a : ℕ) → length (stopFrame a) ≤ 13
 unfolding stopFrame wireOf payload startOf addressesOf contentsOf stuff stuffByte sumFrom
 stop-short a = by-bool (isStuffed a) (λ y. simp y (omega arith)) (λ n. simp n (omega arith))
 
--- an answer and an output are those of a stop, where its answer is x
+-- An answer and an output are those of a stop, where its answer is x.
 abbrev pub Stops : Answer (List ℕ) → List ℕ → Answer ℕ → List ℕ → Type 0
 Stops x out a last = (a ≡ writtenLength x) × (last ≡ outAfter x out)
 
@@ -162,7 +165,7 @@ module _ (h a t : ℕ) (out : List ℕ) where
   unfolding answerOf
   stop-not-holder y n = (simp (y, n), simp (y, n))
 
-  -- what the frame writer did is what a stop does
+  -- What the frame writer did is what a stop does.
   pub stop-writes : inRange a ≡ true → owns t h ≡ true → (x : Answer ℕ) (last : List ℕ)
       → x ≡ draftAnswer (frameDraft (extended a 0x00 (0x76 ∷ 0x04 ∷ 0x13 ∷ 0x02 ∷ 0x01 ∷ 0x02 ∷ []))) (length out)
       → last ≡ draftOut (frameDraft (extended a 0x00 (0x76 ∷ 0x04 ∷ 0x13 ∷ 0x02 ∷ 0x01 ∷ 0x02 ∷ []))) out
@@ -175,7 +178,7 @@ module _ (h a t : ℕ) (out : List ℕ) where
       (λ y. (e ∙ simp (d, y, range, owner), o ∙ simp (d, y, range, owner)))
       (λ n. (e ∙ simp (d, n, range, owner), o ∙ simp (d, n, range, owner)))
 
--- a stop does what its answer says, whatever that answer is called
+-- A stop's answer may be replaced by an equal one.
 pub stop-by : (x y : Answer (List ℕ)) (out : List ℕ) (a : Answer ℕ) (last : List ℕ) → x ≡ y → Stops x out a last
     → Stops y out a last
 stop-by x y out a last e d =

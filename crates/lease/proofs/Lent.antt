@@ -53,7 +53,7 @@ module _ (s : List ℕ) (c : LeaseCall) (size : length s ≡ 2048) (bytes : Byte
       subst Bytes (sym (lent-bytes s c size))
       (put-bytes 8 (8 * addressOf c) (getD (tableAfter (tableOf s) c) (addressOf c) 0) s bytes)
 
-  -- the bytes read as a table afterwards are the table afterwards
+  -- The bytes after a call, read as a table, are the table after it.
   table-lent : tokenOf c < 2 ^ 64 → tableOf (lentAfter s c) ≡ tableAfter (tableOf s) c
   table-lent b =
       let a = addressOf c in
@@ -85,16 +85,17 @@ others-untouched s c i o =
 
 -- ---- bytes that are a table
 
+-- The lent bytes s are the bytes of the table ts.
 record IsTable (s ts : List ℕ) : Type 0 where
   size : length s ≡ 2048
   bytes : Bytes s
   table : tableOf s ≡ ts
 
--- they are answered as it is
+-- Bytes of a table are answered as it is.
 answer-as : (s ts : List ℕ) (c : LeaseCall) → IsTable s ts → lentAnswer s c ≡ tableAnswer ts c
 answer-as s ts c k = lent-answer s c (k .size) ∙ ap (λ (us : List ℕ). tableAnswer us c) (k .table)
 
--- and are left as it is left
+-- A call on bytes of a table leaves the bytes of the table that it leaves.
 call-as : (s ts : List ℕ) (c : LeaseCall) → tokenOf c < 2 ^ 64 → IsTable s ts
     → (lentAnswer s c ≡ tableAnswer ts c) × IsTable (lentAfter s c) (tableAfter ts c)
 call-as s ts c b k = (
@@ -106,6 +107,7 @@ call-as s ts c b k = (
   },
 )
 
+-- Calls on bytes of a table are answered as it is, and leave the bytes of the table that they leave.
 run-as : (s ts : List ℕ) → IsTable s ts → (cs : List LeaseCall) → Tokens cs
     → (lentAnswersOn s cs ≡ answersOn ts cs) × IsTable (lentOn s cs) (tableOn ts cs)
 run-as s ts k cs t =
@@ -114,7 +116,7 @@ run-as s ts k cs t =
 itself : (s : List ℕ) → length s ≡ 2048 → Bytes s → IsTable s (tableOf s)
 itself s size b = record { size = size; bytes = b; table = refl }
 
--- they are the table's bytes
+-- Bytes of a table are its tokens written one after the other.
 bytes-as : (s ts : List ℕ) → IsTable s ts → s ≡ bytesOfAll 8 ts
 bytes-as s ts k =
     sym (bytes-numbers 8 256 0 s (k .bytes) (omega (arith, k .size)) ∙ take-all 2048 s (omega (arith, k .size)))
@@ -126,12 +128,12 @@ pub lent-one : (s : List ℕ) (c : LeaseCall) → length s ≡ 2048 → Bytes s 
 lent-one s c size b t =
     bytes-as (lentAfter s c) (tableAfter (tableOf s) c) (call-as s (tableOf s) c t (itself s size b) .1)
 
--- Any list of calls: the answers are the table's,
+-- Any calls on 2,048 bytes are answered as the table that the bytes are.
 pub lent-answers : (s : List ℕ) (cs : List LeaseCall) → length s ≡ 2048 → Bytes s → Tokens cs
     → lentAnswersOn s cs ≡ answersOn (tableOf s) cs
 lent-answers s cs size b t = run-as s (tableOf s) (itself s size b) cs t .0
 
--- and the bytes afterwards are those of the table afterwards.
+-- Any calls on 2,048 bytes leave the bytes of the table that they leave.
 pub lent-bytes-on : (s : List ℕ) (cs : List LeaseCall) → length s ≡ 2048 → Bytes s → Tokens cs
     → lentOn s cs ≡ bytesOfAll 8 (tableOn (tableOf s) cs)
 lent-bytes-on s cs size b t =
@@ -139,13 +141,15 @@ lent-bytes-on s cs size b t =
 
 -- ---- what changes nothing
 
--- A refusal, of any call, changes no token and no byte; a stop never does.
+-- A refused call changes no token.
 pub refused-table : (ts : List ℕ) (c : LeaseCall) (n : ℕ) → tableAnswer ts c ≡ refused n → tableAfter ts c ≡ ts
 refused-table ts c n e = keeps-table ts c (after-refused (getD ts (addressOf c) 0) c n e)
 
+-- A stop changes no token.
 pub stop-table : (ts : List ℕ) (a t room : ℕ) → tableAfter ts (stop a t room) ≡ ts
 stop-table ts a t room = keeps-table ts (stop a t room) (stop-held (getD ts a 0) a t room)
 
+-- A refused call changes no byte.
 pub refused-lent : (s : List ℕ) (c : LeaseCall) (n : ℕ) → Bytes s → lentAnswer s c ≡ refused n → lentAfter s c ≡ s
 refused-lent s c n b e =
     by-bool (eqb (length s) 2048)
@@ -153,6 +157,7 @@ refused-lent s c n b e =
     keeps-lent s c size b (after-refused (getD (tableOf s) (addressOf c) 0) c n (sym (lent-answer s c size) ∙ e)))
     (λ k. sym (lent-size s c (eqb-false (length s) 2048 k) .1))
 
+-- A stop changes no byte.
 pub stop-lent : (s : List ℕ) (a t room : ℕ) → Bytes s → lentAfter s (stop a t room) ≡ s
 stop-lent s a t room b =
     by-bool (eqb (length s) 2048)
@@ -216,7 +221,7 @@ pub lent-history : (a : ℕ) (cs : List LeaseCall) → Tokens cs → getD (table
 lent-history a cs t =
     ap (λ (us : List ℕ). getD us a 0) (run-as newBytes newTable new-bytes cs t .1 .table) ∙ history a cs
 
--- A stop writes exactly for the holder.
+-- After any calls on the bytes of a new table a stop writes exactly for the holder.
 pub lent-stop-exactly : (cs : List LeaseCall) (a t room : ℕ) (w : List ℕ) → Tokens cs
     → (lentAnswer (lentOn newBytes cs) (stop a t room) ≡ result w → Sends a t room (holder a cs) w)
     × (Sends a t room (holder a cs) w → lentAnswer (lentOn newBytes cs) (stop a t room) ≡ result w)
@@ -225,7 +230,7 @@ lent-stop-exactly cs a t room w ts =
     let k = stop-exactly cs a t room w in
     ((λ q. k .0 (sym e ∙ q)), (λ s. e ∙ k .1 s))
 
--- Nothing tells a wrong token from a free address.
+-- After any calls on the bytes of a new table nothing tells a wrong token from a free address.
 pub lent-wrong-or-free : (a t room : ℕ) (cs ds : List LeaseCall) → Tokens cs → Tokens ds → (holder a cs ≡ t → ⊥)
     → holder a ds ≡ 0
     → (lentAnswer (lentOn newBytes cs) (release a t) ≡ lentAnswer (lentOn newBytes ds) (release a t))
@@ -236,7 +241,8 @@ lent-wrong-or-free a t room cs ds ts us n f =
       lent-as-table cs (stop a t room) ts ∙ k .1 ∙ sym (lent-as-table ds (stop a t room) us),
     )
 
--- Two lists of calls on the bytes of a new table that agree on one address's calls give that address equal answers.
+-- Two lists of calls on the bytes of a new table that agree on one address's calls, with the lengths of outputs, give
+-- that address equal answers.
 pub lent-isolation : (a : ℕ) (cs ds : List LeaseCall) → Tokens cs → Tokens ds → callsAt a cs ≡ callsAt a ds
     → answersAt a cs (lentAnswersOn newBytes cs) ≡ answersAt a ds (lentAnswersOn newBytes ds)
 lent-isolation a cs ds t u e =

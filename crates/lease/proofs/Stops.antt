@@ -12,7 +12,7 @@ use Rattle.lists.proofs.Cases.{by-bool}
 use Rattle.lists.proofs.Machines.{left-append}
 use Rattle.answer.specs.Answer.{result, refused}
 use Rattle.lease.specs.Lease.{LeaseCall, hold, release, stop, inRange, owns, stopFrame, answerOf, tableAnswer}
-use Rattle.lease.specs.History.{newTable, tableOn, takes, frees, holderAfter, holderFrom, holder}
+use Rattle.lease.specs.History.{newTable, tableOn, takes, frees, holderAfter, holder}
 use Rattle.lease.specs.Statements.{Sends, HeldAgain}
 use Rattle.lease.proofs.HistoryLaws.{history, held-exactly}
 
@@ -83,8 +83,10 @@ pub wrong-or-free : (a t room : ℕ) (cs ds : List LeaseCall) → (holder a cs �
 wrong-or-free a t room cs ds n f =
     let wrong : getD (tableOn newTable cs) a 0 ≡ t → ⊥ = λ q. n (sym (history a cs) ∙ q) in
     let free : getD (tableOn newTable ds) a 0 ≡ 0 = history a ds ∙ f in (
-      release-alike (getD (tableOn newTable cs) a 0) a t wrong ∙ sym (ap (λ (h : ℕ). answerOf h (release a t)) free),
-      stop-alike (getD (tableOn newTable cs) a 0) a t room wrong ∙ sym (ap (λ (h : ℕ). answerOf h (stop a t room)) free),
+      release-alike (getD (tableOn newTable cs) a 0) a t wrong
+          ∙ sym (ap (λ (h : ℕ). answerOf h (release a t)) free),
+      stop-alike (getD (tableOn newTable cs) a 0) a t room wrong
+          ∙ sym (ap (λ (h : ℕ). answerOf h (stop a t room)) free),
     )
 
 -- ---- held again after its release, with another token
@@ -99,9 +101,10 @@ held-holder a u r n =
     let q : takes a 0 a u ≡ true = simp (eq-eqb a a refl, r, ne-eqb u 0 n) in
     ap (λ (x : Bool). pick x u 0) q
 
--- the holders after the release and after the hold
+-- The holders after the release and after the hold.
 holders-again : (a t u : ℕ) (cs : List LeaseCall) → (t ≡ 0 → ⊥) → (u ≡ 0 → ⊥) → holder a cs ≡ t
-    → (inRange a ≡ true) × (holder a (cs ++ (release a t ∷ [])) ≡ 0) × (holder a (cs ++ (release a t ∷ hold a u ∷ [])) ≡ u)
+    → (inRange a ≡ true) × (holder a (cs ++ (release a t ∷ [])) ≡ 0)
+    × (holder a (cs ++ (release a t ∷ hold a u ∷ [])) ≡ u)
 holders-again a t u cs n m e =
     let r = held-exactly a t cs n .0 e .range in
     let f = ap (λ (h : ℕ). holderAfter a h (release a t)) e ∙ released-holder a t r n in (

@@ -1,11 +1,11 @@
--- What the functions promise.
-use Prim.Native.Nat.{ℕ, _*_, _^_, _≤_, _<_}
+-- What the public functions promise.
+use Prim.Native.Nat.{ℕ, _^_, _<_}
 use mathlib.Core.Path.{_≡_}
 use mathlib.Core.List.{List}
-use lib.ListN.{length, set}
-use Rattle.numbers.specs.Number.{Bytes, put}
+use lib.ListN.{length}
+use Rattle.answer.specs.Answer.{Answer}
+use Rattle.numbers.specs.Number.{Bytes}
 use Rattle.lease.specs.Lease.{LeaseCall, stop, tokenOf, tableAnswer, tableAfter, lentAnswer, lentAfter}
-use Rattle.answer.specs.Answer.{result, refused, Answer}
 use Rattle.lease.specs.Answers.{writtenLength, outAfter}
 
 -- Hold and release on a table: the answer, and the table afterwards.
@@ -19,7 +19,7 @@ pub record TableStop (tokens : List ℕ) (address token : ℕ) (out : List ℕ) 
   pub answered : answer ≡ writtenLength (tableAnswer tokens (stop address token (length out)))
   pub written : last ≡ outAfter (tableAnswer tokens (stop address token (length out))) out
 
--- What every real call on lent bytes gives by itself: the elements are bytes, and the token has 64 bits.
+-- What every call on lent bytes shows of its arguments: the elements are bytes, and the token has 64 bits.
 pub record Real (table : List ℕ) (token : ℕ) : Type 0 where
   pub bytes : Bytes table
   pub fits : token < 2 ^ 64
@@ -31,7 +31,8 @@ pub record LentCall (table : List ℕ) (c : LeaseCall) (answer : Answer (List �
   pub real : Real table (tokenOf c)
 
 -- Stop on lent bytes, which stay as they were: the answer, and the output afterwards.
-pub record LentStop (table : List ℕ) (address token : ℕ) (out : List ℕ) (answer : Answer ℕ) (last : List ℕ) : Type 0 where
+pub record LentStop (table : List ℕ) (address token : ℕ) (out : List ℕ) (answer : Answer ℕ) (last : List ℕ)
+    : Type 0 where
   pub answered : answer ≡ writtenLength (lentAnswer table (stop address token (length out)))
   pub written : last ≡ outAfter (lentAnswer table (stop address token (length out))) out
   pub real : Real table token

@@ -14,15 +14,15 @@ use Rattle.lease.specs.Lease.{tableAnswer, tableAfter, lentAnswer, lentA
 
 -- ---- runs: the first call first
 
--- Every address free.
+-- The tokens of a table on which every address is free.
 abbrev pub newTable : List ℕ
 newTable = replicate 256 0
 
--- The answers to calls on a table.
+-- The answers of a table to calls.
 abbrev pub answersOn : List ℕ → List LeaseCall → List (Answer (List ℕ))
 answersOn tokens calls = run tableAnswer tableAfter tokens calls
 
--- The table after them.
+-- The table after calls.
 abbrev pub tableOn : List ℕ → List LeaseCall → List ℕ
 tableOn tokens calls = leftAfter tableAfter tokens calls
 
@@ -30,11 +30,11 @@ tableOn tokens calls = leftAfter tableAfter tokens calls
 abbrev pub newBytes : List ℕ
 newBytes = replicate 2048 0
 
--- The answers to calls on lent bytes.
+-- The answers of lent bytes to calls.
 abbrev pub lentAnswersOn : List ℕ → List LeaseCall → List (Answer (List ℕ))
 lentAnswersOn bytes calls = run lentAnswer lentAfter bytes calls
 
--- The bytes after them.
+-- Lent bytes after calls.
 abbrev pub lentOn : List ℕ → List LeaseCall → List ℕ
 lentOn bytes calls = leftAfter lentAfter bytes calls
 

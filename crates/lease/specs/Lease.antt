@@ -1,9 +1,10 @@
--- The lease table (document 01, "Stop desk"): what each call answers, writes and leaves, given the token at its address.
+-- The lease table (document 01, "Stop desk"): what each call answers, writes and leaves, given the token at its
+-- address.
 use Prim.Native.Nat.{ℕ, _*_}
-use mathlib.Core.Bool.{Bool, true, false}
-use mathlib.Core.List.{List, [], _∷_, _++_}
+use mathlib.Core.Bool.{Bool, false}
+use mathlib.Core.List.{List, [], _∷_}
 use lib.Dec.{leb, eqb}
-use lib.ListN.{length, getD, set, drop}
+use lib.ListN.{length, getD, set}
 use Rattle.lists.specs.Choice.{pick, within}
 use Rattle.answer.specs.Answer.{Answer, result, refused}
 use Rattle.frame.specs.Frame.{wireOf, extended}
@@ -76,7 +77,7 @@ tableAfter tokens c = set tokens (addressOf c) (heldAfter (getD tokens (addressO
 abbrev pub tableOf : List ℕ → List ℕ
 tableOf bytes = numbers 8 256 0 bytes
 
--- 18 before everything else, then as the table that the bytes are.
+-- Refusal 18 comes before every other; else the answer is that of the table that the bytes are.
 unfoldable pub lentAnswer : List ℕ → LeaseCall → Answer (List ℕ)
 lentAnswer bytes c = pick (eqb (length bytes) 2048) (tableAnswer (tableOf bytes) c) (refused 18)
 

@@ -7,7 +7,7 @@ use Rattle.answer.specs.Answer.{result}
 use Rattle.lease.specs.Lease.{LeaseCall, hold, release, stop, stopFrame, tableAnswer}
 use Rattle.lease.specs.History.{newTable, tableOn}
 
--- What it takes for a stop to write w.
+-- What it takes for a stop of address a with token t to write w, where `held` is the token at a.
 pub record Sends (a t room held : ℕ) (w : List ℕ) : Type 0 where
   pub frame : w ≡ stopFrame a
   pub room-is : length (stopFrame a) ≤ room

@@ -38,7 +38,8 @@ returns-2 c =
     let s = i .before .before .before in
     let a = s .args in
     let call = stop (a .address) (a .token) (length (a .out .now)) in
-    let held = ap (λ (h : ℕ). answerOf h call) (t .token-in .ensures) ∙ sym (lent-answer (a .table .now) call (i .if1 .left)) in
+    let held = ap (λ (h : ℕ). answerOf h call) (t .token-in .ensures)
+    ∙ sym (lent-answer (a .table .now) call (i .if1 .left)) in
     let k = stop-by _ _ (a .out .now) _ _ held (c .before .before .write-stop .ensures) in
     record {
       answered = k .0;

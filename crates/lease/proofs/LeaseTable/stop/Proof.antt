@@ -21,7 +21,8 @@ returns c =
     let a = c .before .before .before .before .before .before .before .before .before .args in
     let call = stop (a .address) (a .token) (length (a .out .now)) in
     let held = c .before .before .before .before .token-at .ensures in
-    let s = stop-by _ _ (a .out .now) _ _ (ap (λ (h : ℕ). answerOf h call) held) (c .before .before .write-stop .ensures) in
+    let s = stop-by _ _ (a .out .now) _ _ (ap (λ (h : ℕ). answerOf h call) held)
+    (c .before .before .write-stop .ensures) in
     record { answered = s .0; written = s .1 }
 
 pub stop-spec : {M : Type 1} → statement M
