@@ -144,10 +144,10 @@ fn judge_hold(address: u32, token: u64, held: u64) -> LeaseAnswer
     if token == FREE {
         return LeaseAnswer::Refused(Refusal::ZeroToken);
     }
-    if held != FREE {
-        return LeaseAnswer::Refused(Refusal::AlreadyHeld);
+    if held == FREE {
+        return LeaseAnswer::Done;
     }
-    LeaseAnswer::Done
+    LeaseAnswer::Refused(Refusal::AlreadyHeld)
 }
 
 // What release answers where `held` is the address's token.
