@@ -1,5 +1,5 @@
 -- The theorems of the functions themselves: any run of calls, known by nothing but what the contracts tell a caller.
-use Prim.Native.Nat.{ℕ, _^_, _<_}
+use Prim.Native.Nat.{ℕ}
 use mathlib.Core.Path.{_≡_, sym, ap, _∙_}
 use mathlib.Core.List.{List}
 use lib.ListN.{length, take, drop}
@@ -12,11 +12,10 @@ use Rattle.numbers.specs.Number.{bytesOfAll}
 use Rattle.answer.specs.Answer.{result, refused, Answer}
 use Rattle.answer.specs.Draft.{writtenMeans}
 use Rattle.answer.specs.declared.Written.{Written}
-use Rattle.lease.specs.Lease.{LeaseCall, hold, release, stop, tokenOf}
-use Rattle.lease.specs.Lease.{tableAnswer, tableAfter, lentAnswer, lentAfter}
+use Rattle.lease.specs.Lease.{LeaseCall, hold, release, stop, tableAnswer, tableAfter, lentAnswer, lentAfter}
 use Rattle.lease.specs.Answers.{leaseMeans, writtenLength, outAfter, stopTold}
 use Rattle.lease.specs.History.{newTable, newBytes, answersOn, tableOn, lentAnswersOn, lentOn, Tokens}
-use Rattle.lease.specs.History.{callsAt, answersAt}
+use Rattle.lease.specs.History.{TokenFits, callsAt, answersAt}
 use Rattle.lease.specs.declared.LeaseTable.{LeaseTable}
 use Rattle.lease.specs.declared.Leased.{Leased}
 use Rattle.lease.specs.declared.LeaseAnswer.{LeaseAnswer}
@@ -55,6 +54,7 @@ pub data Called : LeaseTable → LeaseCall → Answer (List ℕ) → LeaseTable 
 abbrev pub New : LeaseTable → Type 0
 New t = new-reads.Learnt tt tt t tt
 
+-- A call on a table is answered, and leaves the table, as the definitions say.
 called : (t t′ : LeaseTable) (c : LeaseCall) (x : Answer (List ℕ)) → Called t c x t′
     → (x ≡ tableAnswer (t .tokens) c) × (t′ .tokens ≡ tableAfter (t .tokens) c)
 called t t′ c x (held r e) = (e .answered, e .left)
@@ -89,10 +89,7 @@ pub data CalledLent : List ℕ → LeaseCall → Answer (List ℕ) → List ℕ 
       → stop-lent-reads.Learnt κs (s, (a, (u, (out, tt)))) r (s, (a, (u, (out′, tt))))
       → CalledLent (s .now) (stop a u (length (out .now))) (stopTold (writtenMeans r) (out′ .now)) (s .now)
 
--- The bytes of a new table, all 00.
-abbrev pub NewBytes : List ℕ → Type 0
-NewBytes s = s ≡ newBytes
-
+-- A call on lent bytes is answered, and leaves the bytes, as the definitions say.
 called-lent : (s s′ : List ℕ) (c : LeaseCall) (x : Answer (List ℕ)) → CalledLent s c x s′
     → (x ≡ lentAnswer s c) × (s′ ≡ lentAfter s c)
 called-lent s s′ c x (lent-held r κs t t′ e) = (e .answered, e .left)
@@ -103,7 +100,7 @@ called-lent s s′ c x (lent-stopped {a = a} {u = u} r κs t out out′ e) = (
   sym (stop-lent (t .now) a u (length (out .now)) (e .real .bytes)),
 )
 
-token-fits : (s s′ : List ℕ) (c : LeaseCall) (x : Answer (List ℕ)) → CalledLent s c x s′ → tokenOf c < 2 ^ 64
+token-fits : (s s′ : List ℕ) (c : LeaseCall) (x : Answer (List ℕ)) → CalledLent s c x s′ → TokenFits c
 token-fits s s′ c x (lent-held r κs t t′ e) = e .real .fits
 token-fits s s′ c x (lent-released r κs t t′ e) = e .real .fits
 token-fits s s′ c x (lent-stopped r κs t out out′ e) = e .real .fits
@@ -111,11 +108,11 @@ token-fits s s′ c x (lent-stopped r κs t out out′ e) = e .real .fits
 -- The tokens of a run have 64 bits, which is what the theorems on lent bytes ask of a list of calls.
 pub lent-tokens : {s u : List ℕ} {cs : List LeaseCall} {rs : List (Answer (List ℕ))} → Ran CalledLent s cs rs u
     → Tokens cs
-lent-tokens k = ran-every CalledLent (λ c. tokenOf c < 2 ^ 64) token-fits k
+lent-tokens k = ran-every CalledLent TokenFits token-fits k
 
 -- Every run of `hold_lent`, `release_lent` and `stop_lent` on bytes that are all 00 is answered as a new table answers
 -- those calls, and leaves the bytes of the table that they leave.
-pub lent-calls : {cs : List LeaseCall} {rs : List (Answer (List ℕ))} (k : Answered CalledLent NewBytes cs rs)
+pub lent-calls : {cs : List LeaseCall} {rs : List (Answer (List ℕ))} (k : Answered CalledLent (_≡ newBytes) cs rs)
     → (rs ≡ answersOn newTable cs) × (k .last ≡ bytesOfAll 8 (tableOn newTable cs))
 lent-calls {cs} k =
     let r = ran-run CalledLent lentAnswer lentAfter (λ (s : List ℕ). s) called-lent (k .ran) in
@@ -140,6 +137,6 @@ table-isolated a cs ds rs ss k l q = alike a cs ds rs ss (table-calls k .0) (tab
 -- Two runs on the bytes of new tables that agree on one address's calls, with the lengths of their outputs, give that
 -- address equal answers.
 pub lent-isolated : (a : ℕ) (cs ds : List LeaseCall) (rs ss : List (Answer (List ℕ)))
-    → Answered CalledLent NewBytes cs rs → Answered CalledLent NewBytes ds ss → callsAt a cs ≡ callsAt a ds
+    → Answered CalledLent (_≡ newBytes) cs rs → Answered CalledLent (_≡ newBytes) ds ss → callsAt a cs ≡ callsAt a ds
     → answersAt a cs rs ≡ answersAt a ds ss
 lent-isolated a cs ds rs ss k l q = alike a cs ds rs ss (lent-calls k .0) (lent-calls l .0) q

@@ -111,6 +111,7 @@ history a cs = history-from a newTable cs new-length ∙ ap (λ (h : ℕ). holde
 
 -- ---- the holder, said without steps
 
+-- Laws of conjunctions of tests.
 never : (x y z : Bool) → both x (both y (both z false)) ≡ false
 never true true true = refl
 never true true false = refl

@@ -15,10 +15,10 @@ use Rattle.numbers.specs.Number.{number, numbers, put, bytesOfAll, Bytes}
 use Rattle.numbers.proofs.Numbers.{length-numbers, numbers-put, number-bound, put-out, length-put, put-bytes}
 use Rattle.numbers.proofs.Numbers.{bytes-numbers, put-before, put-after}
 use Rattle.answer.specs.Answer.{result, refused, Answer}
-use Rattle.lease.specs.Lease.{LeaseCall, hold, release, stop, addressOf, tokenOf, answerOf, leaves, ifAccepted}
+use Rattle.lease.specs.Lease.{LeaseCall, hold, release, stop, addressOf, answerOf, leaves, ifAccepted}
 use Rattle.lease.specs.Lease.{heldAfter, tableAnswer, tableAfter, tableOf, lentAnswer, lentAfter}
 use Rattle.lease.specs.History.{newTable, newBytes, tableOn, answersOn, lentOn, lentAnswersOn, Tokens}
-use Rattle.lease.specs.History.{callsAt, answersAt, holder}
+use Rattle.lease.specs.History.{TokenFits, callsAt, answersAt, holder}
 use Rattle.lease.specs.Statements.{Sends}
 use Rattle.lease.proofs.LeaseLaws.{after-refused, stop-held, token-lent, lent-answer, lent-bytes, lent-size}
 use Rattle.lease.proofs.LeaseLaws.{keeps-table, keeps-lent}
@@ -28,11 +28,12 @@ use Rattle.lease.proofs.Stops.{stop-exactly, wrong-or-free}
 
 -- ---- one call
 
-after-bound : (h : ℕ) (c : LeaseCall) → tokenOf c < 2 ^ 64 → h < 2 ^ 64 → heldAfter h c < 2 ^ 64
+-- The token at an address has 64 bits after a call, if it and the call's token have.
+after-bound : (h : ℕ) (c : LeaseCall) → TokenFits c → h < 2 ^ 64 → heldAfter h c < 2 ^ 64
 unfolding heldAfter
 after-bound h c b k = by (answerOf h c) (left c b)
   where
-    left : (c : LeaseCall) → tokenOf c < 2 ^ 64 → leaves h c < 2 ^ 64
+    left : (c : LeaseCall) → TokenFits c → leaves h c < 2 ^ 64
     left (hold a t) b = b
     left (release a t) b = omega arith
     left (stop a t room) b = k
@@ -54,7 +55,7 @@ module _ (s : List ℕ) (c : LeaseCall) (size : length s ≡ 2048) (bytes : Byte
       (put-bytes 8 (8 * addressOf c) (getD (tableAfter (tableOf s) c) (addressOf c) 0) s bytes)
 
   -- The bytes after a call, read as a table, are the table after it.
-  table-lent : tokenOf c < 2 ^ 64 → tableOf (lentAfter s c) ≡ tableAfter (tableOf s) c
+  table-lent : TokenFits c → tableOf (lentAfter s c) ≡ tableAfter (tableOf s) c
   table-lent b =
       let a = addressOf c in
       let v = heldAfter (getD (tableOf s) a 0) c in
@@ -96,7 +97,7 @@ answer-as : (s ts : List ℕ) (c : LeaseCall) → IsTable s ts → lentAnswer s 
 answer-as s ts c k = lent-answer s c (k .size) ∙ ap (λ (us : List ℕ). tableAnswer us c) (k .table)
 
 -- A call on bytes of a table leaves the bytes of the table that it leaves.
-call-as : (s ts : List ℕ) (c : LeaseCall) → tokenOf c < 2 ^ 64 → IsTable s ts
+call-as : (s ts : List ℕ) (c : LeaseCall) → TokenFits c → IsTable s ts
     → (lentAnswer s c ≡ tableAnswer ts c) × IsTable (lentAfter s c) (tableAfter ts c)
 call-as s ts c b k = (
   answer-as s ts c k,
@@ -111,7 +112,7 @@ call-as s ts c b k = (
 run-as : (s ts : List ℕ) → IsTable s ts → (cs : List LeaseCall) → Tokens cs
     → (lentAnswersOn s cs ≡ answersOn ts cs) × IsTable (lentOn s cs) (tableOn ts cs)
 run-as s ts k cs t =
-    simulates-every lentAnswer lentAfter tableAnswer tableAfter (λ c. tokenOf c < 2 ^ 64) IsTable call-as s ts k cs t
+    simulates-every lentAnswer lentAfter tableAnswer tableAfter TokenFits IsTable call-as s ts k cs t
 
 itself : (s : List ℕ) → length s ≡ 2048 → Bytes s → IsTable s (tableOf s)
 itself s size b = record { size = size; bytes = b; table = refl }
@@ -123,7 +124,7 @@ bytes-as s ts k =
     ∙ ap (bytesOfAll 8) (k .table)
 
 -- One call: the bytes are read as a table, called, and packed again.
-pub lent-one : (s : List ℕ) (c : LeaseCall) → length s ≡ 2048 → Bytes s → tokenOf c < 2 ^ 64
+pub lent-one : (s : List ℕ) (c : LeaseCall) → length s ≡ 2048 → Bytes s → TokenFits c
     → lentAfter s c ≡ bytesOfAll 8 (tableAfter (tableOf s) c)
 lent-one s c size b t =
     bytes-as (lentAfter s c) (tableAfter (tableOf s) c) (call-as s (tableOf s) c t (itself s size b) .1)

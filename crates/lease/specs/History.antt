@@ -38,12 +38,17 @@ lentAnswersOn bytes calls = run lentAnswer lentAfter bytes calls
 abbrev pub lentOn : List ℕ → List LeaseCall → List ℕ
 lentOn bytes calls = leftAfter lentAfter bytes calls
 
+-- The call's token has 64 bits.
+abbrev pub TokenFits : LeaseCall → Type 0
+TokenFits c = tokenOf c < 2 ^ 64
+
 -- Every token of the calls has 64 bits.
 abbrev pub Tokens : List LeaseCall → Type 0
-Tokens calls = EveryCall (λ c. tokenOf c < 2 ^ 64) calls
+Tokens calls = EveryCall TokenFits calls
 
 -- ---- one address's calls
 
+-- Whether a call is at an address.
 abbrev pub atAddress : ℕ → LeaseCall → Bool
 atAddress a c = eqb (addressOf c) a
 
