@@ -114,7 +114,7 @@ holders-again a t u cs n m e =
           ∙ held-holder a u r m,
     )
 
--- An address that was released is held by any other token, and only that one stops it.
+-- An address that its holder released may be held with any token, and then only that one stops it.
 pub held-again : (a t u : ℕ) (cs : List LeaseCall) → (t ≡ 0 → ⊥) → (u ≡ 0 → ⊥) → holder a cs ≡ t → HeldAgain a t u cs
 unfolding answerOf
 held-again a t u cs n m e =
