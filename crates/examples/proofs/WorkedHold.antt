@@ -10,9 +10,10 @@ use Rattle.command.specs.Entries.{withEntry, parse}
 use Rattle.reply.specs.Status.{soundStatus, statusIn}
 use Rattle.reply.specs.Replies.{headIn, afterStatus, replyIn}
 use Rattle.lease.specs.Lease.{stopFrame, answerOf, heldAfter}
-use Rattle.lease.specs.History.{answersOn}
 use Rattle.examples.specs.Worked.{AllHold, markedExamples}
 
 pub examples-hold : AllHold markedExamples
-unfolding AllHold noneOf stuffByte stuff prepend unstuff sumFrom contentsOf addressesOf payload wireOf frameIn judgeBytes judge isTerminated verdict frameDraft withEntry parse soundStatus statusIn headIn afterStatus replyIn stopFrame answerOf heldAfter answersOn
+unfolding AllHold noneOf stuffByte stuff prepend unstuff sumFrom contentsOf addressesOf payload wireOf frameIn
+    judgeBytes judge isTerminated verdict frameDraft withEntry parse soundStatus statusIn headIn afterStatus replyIn
+    stopFrame answerOf heldAfter
 examples-hold = (refl, (refl, (refl, (refl, (refl, (refl, (refl, (refl, (refl, (refl, (refl, (refl, tt))))))))))))

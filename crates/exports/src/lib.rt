@@ -129,8 +129,8 @@ pub extern "C" fn csafe_write_time_workout(
 // Takes a free address. Refusals 18, 9, 14 and 10.
 #[no_mangle]
 pub extern "C" fn csafe_hold(table: &mut [u8], address: u32, token: u64) -> u64
-    ensures { λ r. ⌜ Tells r (leaseFields (lentAnswer (hold address token) (now (table .entry)))) ⌝ }
-    ensures { λ r. ⌜ now (table .exit) ≡ lentAfter (hold address token) (now (table .entry)) ⌝ }
+    ensures { λ r. ⌜ Tells r (leaseFields (lentAnswer (now (table .entry)) (hold address token))) ⌝ }
+    ensures { λ r. ⌜ now (table .exit) ≡ lentAfter (now (table .entry)) (hold address token) ⌝ }
 {
     let outcome = lease::hold_lent(table, address, token);
     packed::of_outcome(outcome)
@@ -139,8 +139,8 @@ pub extern "C" fn csafe_hold(table: &mut [u8], address: u32, token: u64) -> u64
 // Frees an address for its holder. Refusals 18, 9 and 11.
 #[no_mangle]
 pub extern "C" fn csafe_release(table: &mut [u8], address: u32, token: u64) -> u64
-    ensures { λ r. ⌜ Tells r (leaseFields (lentAnswer (release address token) (now (table .entry)))) ⌝ }
-    ensures { λ r. ⌜ now (table .exit) ≡ lentAfter (release address token) (now (table .entry)) ⌝ }
+    ensures { λ r. ⌜ Tells r (leaseFields (lentAnswer (now (table .entry)) (release address token))) ⌝ }
+    ensures { λ r. ⌜ now (table .exit) ≡ lentAfter (now (table .entry)) (release address token) ⌝ }
 {
     let outcome = lease::release_lent(table, address, token);
     packed::of_outcome(outcome)
@@ -149,8 +149,10 @@ pub extern "C" fn csafe_release(table: &mut [u8], address: u32, token: u64) -> u
 // Writes the stop frame for the holder. Refusals 18, 9, 11 and 1.
 #[no_mangle]
 pub extern "C" fn csafe_stop(table: &[u8], address: u32, token: u64, out: &mut [u8]) -> u64
-    ensures { λ r. ⌜ Tells r (writeFields (writtenLength (lentAnswer (stop address token (length (now (out .entry)))) (now (table .entry))))) ⌝ }
-    ensures { λ r. ⌜ now (out .exit) ≡ outAfter (lentAnswer (stop address token (length (now (out .entry)))) (now (table .entry))) (now (out .entry)) ⌝ }
+    ensures { λ r. ⌜ Tells r (writeFields
+        (writtenLength (lentAnswer (now (table .entry)) (stop address token (length (now (out .entry))))))) ⌝ }
+    ensures { λ r. ⌜ now (out .exit)
+        ≡ outAfter (lentAnswer (now (table .entry)) (stop address token (length (now (out .entry))))) (now (out .entry)) ⌝ }
 {
     let written = lease::stop_lent(table, address, token, out);
     packed::of_written(written)
