@@ -13,7 +13,7 @@ use Rattle.lease.specs.Lease.{stopFrame, answerOf, heldAfter}
 use Rattle.examples.specs.Worked.{AllHold, markedExamples}
 
 pub examples-hold : AllHold markedExamples
-unfolding AllHold noneOf stuffByte stuff prepend unstuff sumFrom contentsOf addressesOf payload wireOf frameIn
+unfolding noneOf stuffByte stuff prepend unstuff sumFrom contentsOf addressesOf payload wireOf frameIn
     judgeBytes judge isTerminated verdict frameDraft withEntry parse soundStatus statusIn headIn afterStatus replyIn
     stopFrame answerOf heldAfter
 examples-hold = (refl, (refl, (refl, (refl, (refl, (refl, (refl, (refl, (refl, (refl, (refl, (refl, tt))))))))))))

@@ -3,6 +3,7 @@ use Prim.Native.Nat.{ℕ}
 use mathlib.Core.Bool.{true}
 use mathlib.Core.Path.{_≡_}
 use mathlib.Core.List.{List, [], _∷_}
+use Rattle.lists.specs.Choice.{Every}
 use Rattle.answer.specs.Answer.{result, refused, Answer}
 use Rattle.frame.specs.Frame.{Frame, standard, extended}
 use Rattle.frame.specs.Verdict.{Verdict, verdict}
@@ -30,9 +31,8 @@ Holds (stops address wire) =
     answersOn newTable (hold address 1 ∷ stop address 1 120 ∷ []) ≡ result [] ∷ result wire ∷ []
 
 -- Every case of a list holds.
-unfoldable pub AllHold : List Case → Type 0
-AllHold [] = Unit {0}
-AllHold (c ∷ cs) = Holds c × AllHold cs
+abbrev pub AllHold : List Case → Type 0
+AllHold cases = Every Holds cases
 
 -- The status 81 of the reply: toggle set, previous frame 0 (ok), state 1 (ready).
 abbrev pub markedExamples : List Case

@@ -3,6 +3,7 @@
 use mathlib.Core.Path.{_≡_}
 use mathlib.Core.List.{List, [], _∷_, _++_}
 use Prim.Native.Nat.{ℕ}
+use Rattle.lists.specs.Choice.{Every}
 use Rattle.lists.specs.Machine.{run}
 
 -- A call on a line reader: one byte is fed, or the input ends.
@@ -18,8 +19,7 @@ pub data Role : Type 0 where
 
 -- No byte of a list starts or stops a candidate, by the role of each.
 abbrev pub FlagFree : (ℕ → Role) → List ℕ → Type 0
-FlagFree role [] = Unit {0}
-FlagFree role (b ∷ bytes) = (role b ≡ plain) × FlagFree role bytes
+FlagFree role bytes = Every (λ b. role b ≡ plain) bytes
 
 -- The open candidate (document 01: the open stretch), its start flag first, or none.
 pub data Candidate : Type 0 where

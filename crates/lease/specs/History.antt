@@ -6,11 +6,10 @@ use mathlib.Core.Path.{_≡_}
 use mathlib.Core.List.{List, [], _∷_, _++_}
 use lib.Dec.{eqb}
 use lib.ListN.{replicate}
-use Rattle.lists.specs.Choice.{pick}
-use Rattle.lists.specs.Machine.{run, leftAfter, only, answersOnly, EveryCall}
+use Rattle.lists.specs.Choice.{pick, Every}
+use Rattle.lists.specs.Machine.{run, leftAfter, only, answersOnly}
 use Rattle.answer.specs.Answer.{Answer}
-use Rattle.lease.specs.Lease.{LeaseCall, hold, release, stop, addressOf, tokenOf, inRange}
-use Rattle.lease.specs.Lease.{tableAnswer, tableAfter, lentAnswer, lentAfter}
+use Rattle.lease.specs.Lease.{LeaseCall, hold, release, stop, addressOf, tokenOf, inRange, tableAnswer, tableAfter, lentAnswer, lentAfter}
 
 -- ---- runs: the first call first
 
@@ -44,7 +43,7 @@ TokenFits c = tokenOf c < 2 ^ 64
 
 -- Every token of the calls has 64 bits.
 abbrev pub Tokens : List LeaseCall → Type 0
-Tokens calls = EveryCall TokenFits calls
+Tokens calls = Every TokenFits calls
 
 -- ---- one address's calls
 

@@ -4,6 +4,7 @@ use mathlib.Core.List.{List, [], _∷_, _++_}
 use native.Mathlib.Omega.{arith}
 use Prim.Native.Nat.{ℕ, _+_}
 use Rattle.framing.specs.Reference.{Call, byte, finish, Role, starts, stops, plain, Candidate, none, opened, byteAnswer, answerTo, candidateAfter}
+use Rattle.lists.specs.Choice.{Every}
 use Rattle.lists.specs.Machine.{run}
 use Rattle.framing.proofs.Restart.{as-new}
 use Rattle.frame.specs.Verdict.{Verdict, verdict}
@@ -11,25 +12,24 @@ use Rattle.answer.specs.Answer.{refused}
 use Rattle.frame.specs.Conditions.{Judged, truncated, long, badEscape, short, badSum, sound}
 use Rattle.frame.proofs.Table.{verdict-by-table}
 use Rattle.line.specs.Outcome.{Outcome, nothing, judged}
-use Rattle.frame.specs.Flags.{roleOf}
+use Rattle.frame.specs.Flags.{stopFlag, roleOf}
 use Rattle.line.specs.Rowing.{rowing}
 use Rattle.line.specs.Reader.{readerAnswers}
 use Rattle.line.proofs.Follows.{reader-follows}
 
-pub as-new-after-stop : (calls rest : List Call) → readerAnswers (calls ++ byte 0xF2 ∷ rest) ≡ readerAnswers (calls ++ byte 0xF2 ∷ []) ++ readerAnswers rest
-as-new-after-stop = as-new rowing (byte 0xF2) (λ k. refl) readerAnswers (reader-follows .same)
+pub as-new-after-stop : (calls rest : List Call) → readerAnswers (calls ++ byte stopFlag ∷ rest) ≡ readerAnswers (calls ++ byte stopFlag ∷ []) ++ readerAnswers rest
+as-new-after-stop = as-new rowing (byte stopFlag) (λ k. refl) readerAnswers (reader-follows .same)
 
 pub as-new-after-finish : (calls rest : List Call) → readerAnswers (calls ++ finish ∷ rest) ≡ readerAnswers (calls ++ finish ∷ []) ++ readerAnswers rest
 as-new-after-finish = as-new rowing finish (λ k. refl) readerAnswers (reader-follows .same)
 
 -- ---- never 1
 
-abbrev Not1 : Outcome → Type 0
+abbrev pub Not1 : Outcome → Type 0
 Not1 o = o ≡ judged (refused 1) → ⊥
 
 abbrev pub Never1 : List Outcome → Type 0
-Never1 [] = Unit {0}
-Never1 (o ∷ rest) = (o ≡ judged (refused 1) → ⊥) × Never1 rest
+Never1 answers = Every Not1 answers
 
 other : (n : ℕ) → (n ≡ 1 → ⊥) → Not1 (judged (refused n))
 other n k e = let q : n ≡ 1 = cc in k q

@@ -2,7 +2,8 @@
 use mathlib.Core.Path.{_≡_, refl, ap, ap₂, _∙_}
 use mathlib.Core.Bool.{Bool, true, false}
 use mathlib.Core.List.{List, [], _∷_, _++_}
-use Rattle.lists.specs.Machine.{run, leftAfter, only, answersOnly, EveryCall, Ran, ended, call}
+use Rattle.lists.specs.Machine.{run, leftAfter, only, answersOnly, Ran, ended, call}
+use Rattle.lists.specs.Choice.{Every}
 use Rattle.lists.proofs.Cases.{by-bool}
 
 -- ---- one machine
@@ -24,27 +25,29 @@ left-append next s (c ∷ calls) rest = left-append next (next s c) calls rest
 
 -- ---- two machines
 
--- Two machines that keep a relation and answer alike at each call answer every list of calls alike.
-module _ {S T C A : Type 0} (answer : S → C → A) (next : S → C → S) (answer′ : T → C → A) (next′ : T → C → T) (R : S → T → Type 0)
-    (step : (s : S) (t : T) (c : C) → R s t → (answer s c ≡ answer′ t c) × R (next s c) (next′ t c)) where
-  pub simulates : (s : S) (t : T) → R s t → (calls : List C) → run answer next s calls ≡ run answer′ next′ t calls
-  simulates s t r [] = refl
-  simulates s t r (c ∷ calls) =
-      let k : (answer s c ≡ answer′ t c) × R (next s c) (next′ t c) = step s t c r in
-      let rest : run answer next (next s c) calls ≡ run answer′ next′ (next′ t c) calls = simulates (next s c) (next′ t c) (k .1) calls in
-      cc (k .0)
-
--- The same of calls that all have a property; and the states that they leave are related too.
+-- Two machines that keep a relation and answer alike at each call with a property answer every list of such calls alike, and the states that
+-- they leave are related.
 module _ {S T C A : Type 0} (answer : S → C → A) (next : S → C → S) (answer′ : T → C → A) (next′ : T → C → T)
     (P : C → Type 0) (R : S → T → Type 0)
     (step : (s : S) (t : T) (c : C) → P c → R s t → (answer s c ≡ answer′ t c) × R (next s c) (next′ t c)) where
-  pub simulates-every : (s : S) (t : T) → R s t → (calls : List C) → EveryCall P calls
+  pub simulates-every : (s : S) (t : T) → R s t → (calls : List C) → Every P calls
       → (run answer next s calls ≡ run answer′ next′ t calls) × R (leftAfter next s calls) (leftAfter next′ t calls)
   simulates-every s t r [] ps = (refl, r)
   simulates-every s t r (c ∷ calls) ps =
       let k = step s t c (ps .0) r in
       let rest = simulates-every (next s c) (next′ t c) (k .1) calls (ps .1) in
       (ap₂ (λ (x : A) (xs : List A). x ∷ xs) (k .0) (rest .0), rest .1)
+
+-- The same where no property is asked of the calls.
+module _ {S T C A : Type 0} (answer : S → C → A) (next : S → C → S) (answer′ : T → C → A) (next′ : T → C → T) (R : S → T → Type 0)
+    (step : (s : S) (t : T) (c : C) → R s t → (answer s c ≡ answer′ t c) × R (next s c) (next′ t c)) where
+  pub simulates : (s : S) (t : T) → R s t → (calls : List C) → run answer next s calls ≡ run answer′ next′ t calls
+  simulates s t r calls =
+      simulates-every answer next answer′ next′ (λ c. Unit {0}) R (λ s t c p k. step s t c k) s t r calls (any calls) .0
+    where
+      any : (cs : List C) → Every (λ c. Unit {0}) cs
+      any [] = tt
+      any (c ∷ cs) = (tt, any cs)
 
 -- Where one machine answers the calls that pass a test as another does, and no other call changes what relates them,
 -- its answers to those calls are the other's to them alone.
@@ -79,6 +82,6 @@ module _ {S T C A : Type 0} (called : S → C → A → S → Type 0) (answer : 
 -- What each call shows of itself, every call of a row has.
 module _ {S C A : Type 0} (called : S → C → A → S → Type 0) (P : C → Type 0)
     (each : (s t : S) (c : C) (a : A) → called s c a t → P c) where
-  pub ran-every : {s u : S} {calls : List C} {answers : List A} → Ran called s calls answers u → EveryCall P calls
+  pub ran-every : {s u : S} {calls : List C} {answers : List A} → Ran called s calls answers u → Every P calls
   ran-every ended = tt
   ran-every (call s t c a k rest) = (each s t c a k, ran-every rest)

@@ -1,4 +1,4 @@
--- A choice by a test, and tests on numbers and lists.
+-- A choice by a test, and tests and properties of numbers and lists.
 use Prim.Native.Nat.{ℕ, _+_}
 use mathlib.Core.Bool.{Bool, true, false}
 use mathlib.Core.List.{List, [], _∷_}
@@ -27,3 +27,8 @@ countOf p (x ∷ s) = pick (p x) 1 0 + countOf p s
 unfoldable pub countBefore : (ℕ → Bool) → List ℕ → ℕ
 countBefore p [] = 0
 countBefore p (x ∷ s) = pick (p x) 0 (1 + countBefore p s)
+
+-- Every element of a list has a property.
+abbrev pub Every : {A : Type 0} → (A → Type 0) → List A → Type 0
+Every P [] = Unit {0}
+Every P (x ∷ s) = P x × Every P s

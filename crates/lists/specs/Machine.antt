@@ -34,11 +34,6 @@ answersOnly p [] answers = []
 answersOnly p (c ∷ calls) [] = []
 answersOnly p (c ∷ calls) (a ∷ answers) = pick (p c) (a ∷ answersOnly p calls answers) (answersOnly p calls answers)
 
--- Every call has a property.
-abbrev pub EveryCall : {C : Type 0} → (C → Type 0) → List C → Type 0
-EveryCall P [] = Unit {0}
-EveryCall P (c ∷ calls) = P c × EveryCall P calls
-
 -- ---- calls known by nothing but what is known of each
 
 -- `called s c a t`: the call c on the state s was answered a and left the state t.

@@ -7,7 +7,7 @@ use Rattle.answer.specs.Answer.{Answer, result, refused}
 use Rattle.answer.specs.Refusals.{numberOf}
 use Rattle.reply.specs.declared.status.Status.{Status}
 use Rattle.reply.specs.declared.status.StatusRead.{StatusRead}
-use Rattle.reply.specs.declared.status.StatusRead.the-variants.{Sound, Refused}
+use Rattle.reply.specs.declared.status.StatusRead.the-variants.{Status as ReadStatus, Refused}
 
 -- What a status byte holds.
 pub data StatusParts : Type 0 where
@@ -17,7 +17,7 @@ abbrev pub partsOf : Status → StatusParts
 partsOf s = status (s .toggle) (s .previous) (s .state)
 
 abbrev pub statusMeans : StatusRead → Answer StatusParts
-statusMeans (Sound s) = result (partsOf s)
+statusMeans (ReadStatus s) = result (partsOf s)
 statusMeans (Refused why) = refused (numberOf why)
 
 -- Bit 6 is clear, and bits 3 to 0 are a state: 0 to 3, or 5 to 9.

@@ -43,7 +43,7 @@ pub fn read_reply(contents: &[u8]) -> ReplyRead
 {
     let first = head(contents);
     match first {
-        StatusRead::Sound(status) => read_items(contents, status),
+        StatusRead::Status(status) => read_items(contents, status),
         StatusRead::Refused(why) => ReplyRead::Refused(why),
     }
 }
@@ -54,7 +54,7 @@ pub fn nth_item(contents: &[u8], n: usize) -> Found
 {
     let first = head(contents);
     match first {
-        StatusRead::Sound(_) => entries::nth(COUNTED, contents, Cursor { at: ITEMS }, n),
+        StatusRead::Status(_) => entries::nth(COUNTED, contents, Cursor { at: ITEMS }, n),
         StatusRead::Refused(why) => Found::Refused(why),
     }
 }
@@ -74,7 +74,7 @@ pub fn write_status(byte: u8, out: &mut [u8]) -> Written
 {
     let read = Status::from_byte(byte);
     match read {
-        StatusRead::Sound(_) => {
+        StatusRead::Status(_) => {
             if out.len() < 1 {
                 return Written::Refused(Refusal::NoRoom);
             }

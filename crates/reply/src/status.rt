@@ -12,7 +12,7 @@ pub struct Status {
 
 // A status byte, read.
 pub enum StatusRead {
-    Sound(Status),
+    Status(Status),
     Refused(Refusal),
 }
 
@@ -62,7 +62,7 @@ impl Status {
         if Self::OFFLINE < state {
             return StatusRead::Refused(Refusal::BadStatus);
         }
-        StatusRead::Sound(Status {
+        StatusRead::Status(Status {
             toggle: 128 <= b,
             previous: b / 16 % 4,
             state,

@@ -176,7 +176,7 @@ fn length_of(written: Written) -> usize {
 fn print_workout(contents: &[u8]) {
     let read = workout::read_workout(contents);
     match read {
-        WorkoutRead::Sound(workout) => {
+        WorkoutRead::Workout(workout) => {
             print_goal(workout);
             print::number(b",watts:", workout.watts as u64);
             print::text(b",written:");

@@ -9,10 +9,10 @@ use Rattle.workout.specs.Limits.{Limits}
 use Rattle.workout.specs.Workout.{Programmed, programmed, withinLimits, workoutBytes}
 use Rattle.workout.specs.Form.{hasForm, inLimits, workoutIn}
 use Rattle.workout.specs.declared.WorkoutRead.{WorkoutRead}
-use Rattle.workout.specs.declared.WorkoutRead.the-variants.{Sound, Refused}
+use Rattle.workout.specs.declared.WorkoutRead.the-variants.{Workout as ReadWorkout, Refused}
 
 abbrev pub workoutMeans : WorkoutRead → Answer Programmed
-workoutMeans (Sound w) = result (programmed w)
+workoutMeans (ReadWorkout w) = result (programmed w)
 workoutMeans (Refused why) = refused (numberOf why)
 
 -- The answer to reading contents: 13, then 12, then the workout.

@@ -41,7 +41,7 @@ pub struct Workout {
 
 // The answer to reading: the workout, or why the contents were refused.
 pub enum WorkoutRead {
-    Sound(Workout),
+    Workout(Workout),
     Refused(Refusal),
 }
 
@@ -141,7 +141,7 @@ fn limited(limits: Limits, workout: Workout) -> WorkoutRead
     ensures { λ r. ⌜ workoutMeans r ≡ limitedRead (limitsOf limits) (programmed workout) ⌝ }
 {
     if limits::within_limits(limits, workout) {
-        return WorkoutRead::Sound(workout);
+        return WorkoutRead::Workout(workout);
     }
     WorkoutRead::Refused(Refusal::OutOfLimits)
 }

@@ -21,6 +21,7 @@ static void print_written(const char *call, uint64_t answer, const uint8_t *out)
 static void frames(void)
 {
     static const uint8_t contents[] = {0x24, 0x02, 0x03, 0x00};
+    static const uint8_t long_contents[CSAFE_CONTENTS_LIMIT + 1] = {0};
     static const uint8_t damaged[] = {0xF1, 0x24, 0x02, 0x03, 0x00, 0x24, 0xF2};
     uint8_t wire[CSAFE_WIRE_LIMIT];
     uint8_t read[CSAFE_CONTENTS_LIMIT];
@@ -31,7 +32,8 @@ static void frames(void)
     print_written("write_extended", answer, wire);
     print_written("read", csafe_read(wire, csafe_length(answer), read, sizeof read), read);
     print_written("write_standard", csafe_write_standard(contents, sizeof contents, wire, 6), wire);
-    print_written("write_extended", csafe_write_extended(0x05, 0x00, wire, 118, read, sizeof read), read);
+    answer = csafe_write_extended(0x05, 0x00, long_contents, sizeof long_contents, read, sizeof read);
+    print_written("write_extended", answer, read);
     print_written("read", csafe_read(damaged, sizeof damaged, read, sizeof read), read);
 }
 

@@ -1,4 +1,4 @@
-use Rattle.reply.specs.declared.status.StatusRead.the-variants.{Sound, Refused}
+use Rattle.reply.specs.declared.status.StatusRead.the-variants.{Status as ReadStatus, Refused}
 use Rattle.reply.proofs.ReplyLaws.{head-status, item-is, item-refused}
 use borrow.Author.Needs.{needs}
 use Rattle.reply.proofs.nth_item.Statement.{statement}
@@ -20,7 +20,7 @@ returns : tie.Need-returns
 returns c =
     let k = c .before in
     let a = k .before .before .before .before .args in
-    item-is (a .contents .now) (a .n) _ _ _ (head-status (a .contents .now) (Sound _) (k .before .before .head .ensures) (k .enum-told .given .1)) (c .nth .ensures)
+    item-is (a .contents .now) (a .n) _ _ _ (head-status (a .contents .now) (ReadStatus _) (k .before .before .head .ensures) (k .enum-told .given .1)) (c .nth .ensures)
 
 returns-2 : tie.Need-returns-2
 returns-2 c =

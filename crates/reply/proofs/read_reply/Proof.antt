@@ -1,6 +1,6 @@
 use mathlib.Core.Path.{sym, ap, _∙_}
 use Rattle.reply.specs.Replies.{replyAnswer}
-use Rattle.reply.specs.declared.status.StatusRead.the-variants.{Sound, Refused}
+use Rattle.reply.specs.declared.status.StatusRead.the-variants.{Status as ReadStatus, Refused}
 use Rattle.reply.proofs.ReplyLaws.{head-status, read-refused}
 use borrow.Author.Needs.{needs}
 use Rattle.reply.proofs.read_reply.Statement.{statement}
@@ -22,7 +22,7 @@ returns : tie.Need-returns
 returns c =
     let k = c .before in
     let s = k .before .before .before .before .before .args .contents .now in
-    c .read-items .ensures ∙ sym (ap replyAnswer (head-status s (Sound (k .before .first .given .0 .0)) (k .before .before .before .head .ensures) (k .before .first .given .1)))
+    c .read-items .ensures ∙ sym (ap replyAnswer (head-status s (ReadStatus (k .before .first .given .0 .0)) (k .before .before .before .head .ensures) (k .before .first .given .1)))
 
 returns-2 : tie.Need-returns-2
 returns-2 c =

@@ -26,7 +26,8 @@ pub fn listing() -> PathBuf {
     };
     assert!(
         output.status.success(),
-        "`rt check listing` failed: {}",
+        "`rt check listing` failed: {}{}",
+        String::from_utf8_lossy(&output.stdout),
         String::from_utf8_lossy(&output.stderr)
     );
     root.join("target/bin/listing")

@@ -222,7 +222,7 @@ fn stop_frame(address: u8, room: usize) -> Answer {
     Ok(wire)
 }
 
-/// A table that is new, or of bytes of which a third are 0 and the others any.
+/// A table that is new, or, one time in three, one on which two addresses in three have a token of the test, which may be 0.
 fn table_of(random: &mut Xorshift) -> Vec<u8> {
     let mut table = vec![0; lease::TABLE_LEN];
     if random.below(3) > 0 {
@@ -230,7 +230,7 @@ fn table_of(random: &mut Xorshift) -> Vec<u8> {
     }
     for token in table.chunks_exact_mut(8) {
         if random.below(3) > 0 {
-            token.copy_from_slice(&TOKENS[random.below(TOKENS.len())].to_be_bytes());
+            token.copy_from_slice(&TOKENS[random.below(TOKENS.len())].to_le_bytes());
         }
     }
     table
