@@ -19,7 +19,8 @@ Writes d out a last = (a ≡ draftAnswer d (length out)) × (last ≡ draftOut d
 
 pub writes-refusal : (d : Draft) (n : ℕ) (out : List ℕ) → d ≡ refused n → Writes d out (refused n) out
 unfolding draftAnswer draftOut
-writes-refusal d n out e = (ap (λ (x : Draft). draftAnswer x (length out)) (sym e), ap (λ (x : Draft). draftOut x out) (sym e))
+writes-refusal d n out e =
+    (ap (λ (x : Draft). draftAnswer x (length out)) (sym e), ap (λ (x : Draft). draftOut x out) (sym e))
 
 pub writes-no-room : (d : Draft) (w out : List ℕ) → d ≡ result w → length out < length w → Writes d out (refused 1) out
 unfolding draftAnswer draftOut
@@ -28,7 +29,8 @@ writes-no-room d w out e h = (
   (simp (lt-leb (length w) (length out) h)) ∙ ap (λ (x : Draft). draftOut x out) (sym e),
 )
 
-pub writes-done : (d : Draft) (w out last : List ℕ) → d ≡ result w → length w ≤ length out → last ≡ splice out 0 w → Writes d out (result (length w)) last
+pub writes-done : (d : Draft) (w out last : List ℕ) → d ≡ result w → length w ≤ length out → last ≡ splice out 0 w
+    → Writes d out (result (length w)) last
 unfolding draftAnswer draftOut
 writes-done d w out last e h s = (
   (simp (le-leb (length w) (length out) h)) ∙ ap (λ (x : Draft). draftAnswer x (length out)) (sym e),
@@ -36,7 +38,8 @@ writes-done d w out last e h s = (
 )
 
 -- What was written stands first in the output, whole.
-pub written-first : (d : Draft) (out : List ℕ) (n : ℕ) → draftAnswer d (length out) ≡ result n → (w : List ℕ) × (d ≡ result w) × (length w ≡ n) × (take n (draftOut d out) ≡ w)
+pub written-first : (d : Draft) (out : List ℕ) (n : ℕ) → draftAnswer d (length out) ≡ result n
+    → (w : List ℕ) × (d ≡ result w) × (length w ≡ n) × (take n (draftOut d out) ≡ w)
 unfolding draftAnswer draftOut
 written-first (refused m) out n e = let z : _≡_ {A = ℕ} 0 1 = cc in absurd (omega arith)
 written-first (result w) out n e =

@@ -1,4 +1,5 @@
-// What every entry point answers: a result, or one refusal of document 01's table ("Refusal numbers"); and what every writer answers.
+// What every entry point answers: a result, or one refusal of document 01's table ("Refusal numbers"); and what every
+// writer answers.
 ghost use mathlib.Core.Path.{_≡_};
 ghost use Rattle.answer.specs.Refusals.{numberOf};
 

@@ -35,19 +35,24 @@ draft-short (result w) room h = by-bool (leb (length w) room) (λ y. simp y h) (
 pub frame-short : (f : Frame) (room : ℕ) → WriteShort (draftAnswer (frameDraft f) room)
 unfolding frameDraft
 frame-short f room =
-    draft-short (frameDraft f) room (by-bool (leb (length (wireOf f)) 120) (λ y. simp y (omega (arith, leb-true (length (wireOf f)) 120 y))) (λ y. simp y tt))
+    draft-short (frameDraft f) room
+    (by-bool (leb (length (wireOf f)) 120) (λ y. simp y (omega (arith, leb-true (length (wireOf f)) 120 y)))
+    (λ y. simp y tt))
 
-pub workout-short : (limits : Limits) (w : Programmed) (room : ℕ) → WriteShort (draftAnswer (workoutDraft limits w) room)
+pub workout-short : (limits : Limits) (w : Programmed) (room : ℕ)
+    → WriteShort (draftAnswer (workoutDraft limits w) room)
 unfolding workoutDraft
 workout-short limits w room =
-    draft-short (workoutDraft limits w) room (by-bool (withinLimits limits w) (λ y. simp y (omega (arith, contents-length w))) (λ y. simp y tt))
+    draft-short (workoutDraft limits w) room
+    (by-bool (withinLimits limits w) (λ y. simp y (omega (arith, contents-length w))) (λ y. simp y tt))
 
 token-fits : (a t room held : ℕ) → WriteShort (writtenLength (answerOf held (stop a t room)))
 unfolding answerOf
 token-fits a t room held =
     by-bool (inRange a)
     (λ r. by-bool (owns t held)
-    (λ o. by-bool (leb (length (stopFrame a)) room) (λ l. simp (r, o, l) (omega (arith, stop-short a))) (λ l. simp (r, o, l) tt))
+    (λ o. by-bool (leb (length (stopFrame a)) room) (λ l. simp (r, o, l) (omega (arith, stop-short a)))
+    (λ l. simp (r, o, l) tt))
     (λ o. simp (r, o) tt))
     (λ r. simp r tt)
 

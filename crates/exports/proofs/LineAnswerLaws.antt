@@ -16,7 +16,8 @@ use Rattle.exports.specs.LineState.{packedState, stateIn, readerIn}
 use Rattle.exports.specs.LineAnswers.{lineFields, fedTo, finished, FedAs, FinishedAs}
 use Rattle.exports.proofs.LineStateLaws.{state-tells}
 
-module _ (bytes input left : List ℕ) (before : State) (s : ChunkStep) (is : ChunkStepIs left s (feedOf (lentReader bytes before) input)) where
+module _ (bytes input left : List ℕ) (before : State) (s : ChunkStep)
+    (is : ChunkStepIs left s (feedOf (lentReader bytes before) input)) where
   -- the length that is left has room in the state's number
   pub fed-len-fits : (n : ℕ) → n < 2 ^ 64 → before ≡ stateIn n → s .state .len < 2 ^ 62
   fed-len-fits n h e =
@@ -28,7 +29,8 @@ module _ (bytes input left : List ℕ) (before : State) (s : ChunkStep) (is : Ch
   pub fed-within : ContentsFit 118 (toldMeans (s .told))
   fed-within = subst (ContentsFit 118) (sym (is .told-is)) (feed-within (lentReader bytes before) input)
 
-  pub fed-as : (answer n₀ n : ℕ) → before ≡ stateIn n₀ → n ≡ packedState (s .state) → Tells answer (lineFields (toldMeans (s .told)))
+  pub fed-as : (answer n₀ n : ℕ) → before ≡ stateIn n₀ → n ≡ packedState (s .state)
+      → Tells answer (lineFields (toldMeans (s .told)))
       → FedAs answer left n (s .taken) (fedTo bytes n₀ input)
   fed-as answer n₀ n e es t =
       subst (λ (x : State). FedAs answer left n (s .taken) (feedOf (lentReader bytes x) input)) e (record {
@@ -38,14 +40,16 @@ module _ (bytes input left : List ℕ) (before : State) (s : ChunkStep) (is : Ch
         count = is .taken-is;
       })
 
-module _ (before : State) (s : LentStep) (is : (bytes : List ℕ) → LentStepIs bytes s (finishOf (lentReader bytes before))) where
+module _ (before : State) (s : LentStep)
+    (is : (bytes : List ℕ) → LentStepIs bytes s (finishOf (lentReader bytes before))) where
   pub finish-len : s .state .len ≡ 0
   finish-len = ap (λ (u : LineReader). u .state .len) (is [] .next-is)
 
   pub finish-fits : ContentsFit 118 (toldMeans (s .told))
   finish-fits = subst (ContentsFit 118) (sym (is [] .told-is)) (finish-within (lentReader [] before))
 
-  pub finished-as : (answer n₀ n : ℕ) → before ≡ stateIn n₀ → n ≡ packedState (s .state) → Tells answer (lineFields (toldMeans (s .told)))
+  pub finished-as : (answer n₀ n : ℕ) → before ≡ stateIn n₀ → n ≡ packedState (s .state)
+      → Tells answer (lineFields (toldMeans (s .told)))
       → (bytes : List ℕ) → FinishedAs answer n (finished bytes n₀)
   finished-as answer n₀ n e es t bytes =
       let k = is bytes in
@@ -54,10 +58,15 @@ module _ (before : State) (s : LentStep) (is : (bytes : List ℕ) → LentStepIs
         state-left = es ∙ ap (λ (u : LineReader). packedState (u .state)) (k .next-is);
       })
 
--- The reader that the next call finds in the array and the number is the one that the bytes left, so a portal's calls are the line reader's.
-pub fed-next : (answer : ℕ) (bytes : List ℕ) (n taken : ℕ) (f : ChunkTurn) → FedAs answer bytes n taken f → readerIn bytes n ≡ f .next
+-- The reader that the next call finds in the array and the number is the one that the bytes left, so a portal's calls
+-- are the line reader's.
+pub fed-next : (answer : ℕ) (bytes : List ℕ) (n taken : ℕ) (f : ChunkTurn) → FedAs answer bytes n taken f
+    → readerIn bytes n ≡ f .next
 fed-next answer bytes n taken f k =
-    ap (readerIn bytes) (k .state-left) ∙ state-tells bytes (f .next .state) ∙ ap (λ (b : List ℕ). lentReader b (f .next .state)) (k .bytes-left)
+    ap (readerIn bytes) (k .state-left) ∙ state-tells bytes (f .next .state)
+    ∙ ap (λ (b : List ℕ). lentReader b (f .next .state)) (k .bytes-left)
 
-pub finished-next : (answer : ℕ) (bytes : List ℕ) (n₀ n : ℕ) → FinishedAs answer n (finished bytes n₀) → readerIn bytes n ≡ finished bytes n₀ .next
-finished-next answer bytes n₀ n k = ap (readerIn bytes) (k .state-left) ∙ state-tells bytes (finished bytes n₀ .next .state)
+pub finished-next : (answer : ℕ) (bytes : List ℕ) (n₀ n : ℕ) → FinishedAs answer n (finished bytes n₀)
+    → readerIn bytes n ≡ finished bytes n₀ .next
+finished-next answer bytes n₀ n k =
+    ap (readerIn bytes) (k .state-left) ∙ state-tells bytes (finished bytes n₀ .next .state)

@@ -1,4 +1,5 @@
--- Packing a line reader's state and taking it apart are inverse, and an answer that tells nothing is told from every other.
+-- Packing a line reader's state and taking it apart are inverse, and an answer that tells nothing is told from every
+-- other.
 use Prim.Native.Nat.{ℕ, _+_, _*_, _/_, _%_, _<_}
 use mathlib.Core.Path.{_≡_, refl, sym, ap, _∙_}
 use mathlib.Core.Bool.{Bool, true, false}
@@ -41,7 +42,8 @@ state-tells bytes s =
 digit-of-mode : (n : ℕ) → n < 4 → digitOf (modeOf n) ≡ n
 digit-of-mode n h = by-tests (eqb n 0) (eqb n 1) (eqb n 2) refl refl refl
   where
-    by-tests : (t₀ t₁ t₂ : Bool) → eqb n 0 ≡ t₀ → eqb n 1 ≡ t₁ → eqb n 2 ≡ t₂ → digitOf (pick t₀ Outside (pick t₁ InStandard (pick t₂ InExtended Overlong))) ≡ n
+    by-tests : (t₀ t₁ t₂ : Bool) → eqb n 0 ≡ t₀ → eqb n 1 ≡ t₁ → eqb n 2 ≡ t₂
+        → digitOf (pick t₀ Outside (pick t₁ InStandard (pick t₂ InExtended Overlong))) ≡ n
     by-tests true t₁ t₂ a b c = sym (eqb-true n 0 a)
     by-tests false true t₂ a b c = sym (eqb-true n 1 b)
     by-tests false false true a b c = sym (eqb-true n 2 c)
@@ -55,6 +57,9 @@ state-packs n =
 
 -- The number of an answer that tells nothing is that of no frame and of no refusal.
 pub silence-apart : (n : ℕ) (a : Answer FrameOutline) → Tells n (lineFields silent) → Tells n (lineFields (tells a)) → ⊥
-silence-apart n (result (standardOutline len)) s t = let k : _≡_ {A = ℕ} 2 0 = ap (λ (f : Fields). f .kind) (sym (s .unpacks) ∙ t .unpacks) in omega arith
-silence-apart n (result (extendedOutline to from len)) s t = let k : _≡_ {A = ℕ} 2 1 = ap (λ (f : Fields). f .kind) (sym (s .unpacks) ∙ t .unpacks) in omega arith
-silence-apart n (refused m) s t = let k : _≡_ {A = ℕ} 2 0 = ap (λ (f : Fields). f .kind) (sym (s .unpacks) ∙ t .unpacks) in omega arith
+silence-apart n (result (standardOutline len)) s t =
+    let k : _≡_ {A = ℕ} 2 0 = ap (λ (f : Fields). f .kind) (sym (s .unpacks) ∙ t .unpacks) in omega arith
+silence-apart n (result (extendedOutline to from len)) s t =
+    let k : _≡_ {A = ℕ} 2 1 = ap (λ (f : Fields). f .kind) (sym (s .unpacks) ∙ t .unpacks) in omega arith
+silence-apart n (refused m) s t =
+    let k : _≡_ {A = ℕ} 2 0 = ap (λ (f : Fields). f .kind) (sym (s .unpacks) ∙ t .unpacks) in omega arith

@@ -9,7 +9,8 @@ use Rattle.exports.specs.Packed.{Fields, Tells}
 use Rattle.exports.specs.Answers.{resultFields, readFields}
 use Rattle.exports.specs.LineState.{packedState, readerIn}
 
--- Where nothing is told the kind is 2, which is no kind of frame, and all else is 0. A frame or a refusal is told as reading tells it.
+-- Where nothing is told the kind is 2, which is no kind of frame, and all else is 0. A frame or a refusal is told as
+-- reading tells it.
 abbrev pub lineFields : Summary → Fields
 lineFields silent = resultFields 2 0 0 0
 lineFields (tells a) = readFields a

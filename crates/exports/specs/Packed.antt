@@ -17,7 +17,14 @@ packed f = f .number + 2 ^ 8 * f .kind + 2 ^ 16 * f .to + 2 ^ 24 * f .from + 2 ^
 
 -- The fields of a number, which is what the portal takes apart.
 unfoldable pub unpacked : ℕ → Fields
-unpacked n = record { number = n % 2 ^ 8; kind = n / 2 ^ 8 % 2 ^ 8; to = n / 2 ^ 16 % 2 ^ 8; from = n / 2 ^ 24 % 2 ^ 8; len = n / 2 ^ 32 }
+unpacked n =
+    record {
+      number = n % 2 ^ 8;
+      kind = n / 2 ^ 8 % 2 ^ 8;
+      to = n / 2 ^ 16 % 2 ^ 8;
+      from = n / 2 ^ 24 % 2 ^ 8;
+      len = n / 2 ^ 32;
+    }
 
 -- Every field has room in its bits.
 pub record FieldsFit (f : Fields) : Type 0 where

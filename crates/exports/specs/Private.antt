@@ -1,4 +1,5 @@
--- Contracts of private functions, which no caller reads: lengths that have room in 32 bits, as those of every answer do.
+-- Contracts of private functions, which no caller reads: lengths that have room in 32 bits, as those of every answer
+-- do.
 use Prim.Native.Nat.{ℕ, _^_, _<_}
 use Rattle.answer.specs.Answer.{Answer, result, refused}
 use Rattle.frame.specs.Answers.{FrameOutline, standardOutline, extendedOutline}

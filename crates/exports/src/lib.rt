@@ -28,7 +28,8 @@ ghost use Rattle.exports.specs.LineAnswers.{fedTo, finished, FedAs, Fini
 // Writes a standard frame. Refusals 2 and 1.
 #[no_mangle]
 pub extern "C" fn csafe_write_standard(contents: &[u8], out: &mut [u8]) -> u64
-    ensures { λ r. ⌜ Tells r (writeFields (draftAnswer (frameDraft (standard (now (contents .entry)))) (length (now (out .entry))))) ⌝ }
+    ensures { λ r. ⌜ Tells r
+        (writeFields (draftAnswer (frameDraft (standard (now (contents .entry)))) (length (now (out .entry))))) ⌝ }
     ensures { λ r. ⌜ now (out .exit) ≡ draftOut (frameDraft (standard (now (contents .entry)))) (now (out .entry)) ⌝ }
 {
     let written = frame::write_standard(contents, out);
@@ -38,8 +39,11 @@ pub extern "C" fn csafe_write_standard(contents: &[u8], out: &mut [u8]) -> u64
 // Writes an extended frame. Refusals 2 and 1.
 #[no_mangle]
 pub extern "C" fn csafe_write_extended(to: u8, from: u8, contents: &[u8], out: &mut [u8]) -> u64
-    ensures { λ r. ⌜ Tells r (writeFields (draftAnswer (frameDraft (extended to from (now (contents .entry)))) (length (now (out .entry))))) ⌝ }
-    ensures { λ r. ⌜ now (out .exit) ≡ draftOut (frameDraft (extended to from (now (contents .entry)))) (now (out .entry)) ⌝ }
+    ensures { λ r. ⌜ Tells r
+        (writeFields (draftAnswer (frameDraft (extended to from (now (contents .entry))))
+        (length (now (out .entry))))) ⌝ }
+    ensures { λ r. ⌜ now (out .exit) ≡ draftOut (frameDraft (extended to from (now (contents .entry))))
+        (now (out .entry)) ⌝ }
 {
     let written = frame::write_extended(to, from, contents, out);
     packed::of_written(written)
@@ -55,8 +59,8 @@ pub extern "C" fn csafe_read(wire: &[u8], out: &mut [u8]) -> u64
     packed::of_read(read)
 }
 
-// Feeds bytes to a line reader up to the first that is answered, and counts those taken. With no answer all are taken. The reader is its array
-// and the number that holds its state, 0 for a new one.
+// Feeds bytes to a line reader up to the first that is answered, and counts those taken. With no answer all are taken.
+// The reader is its array and the number that holds its state, 0 for a new one.
 #[no_mangle]
 pub extern "C" fn csafe_feed(
     bytes: &mut [u8; 118],
@@ -64,7 +68,8 @@ pub extern "C" fn csafe_feed(
     input: &[u8],
     taken: &mut u64,
 ) -> u64
-    ensures { λ r. ⌜ FedAs r (now (bytes .exit)) (now (state .exit)) (now (taken .exit)) (fedTo (now (bytes .entry)) (now (state .entry)) (now (input .entry))) ⌝ }
+    ensures { λ r. ⌜ FedAs r (now (bytes .exit)) (now (state .exit)) (now (taken .exit))
+        (fedTo (now (bytes .entry)) (now (state .entry)) (now (input .entry))) ⌝ }
 {
     let before = line_state::state_in(*state);
     let fed = line::feed_in(bytes, before, input);
@@ -96,8 +101,11 @@ pub extern "C" fn csafe_write_distance_workout(
     watts: u16,
     out: &mut [u8],
 ) -> u64
-    ensures { λ r. ⌜ Tells r (writeFields (draftAnswer (workoutDraft pm3Limits (distance metres split watts)) (length (now (out .entry))))) ⌝ }
-    ensures { λ r. ⌜ now (out .exit) ≡ draftOut (workoutDraft pm3Limits (distance metres split watts)) (now (out .entry)) ⌝ }
+    ensures { λ r. ⌜ Tells r
+        (writeFields (draftAnswer (workoutDraft pm3Limits (distance metres split watts))
+        (length (now (out .entry))))) ⌝ }
+    ensures { λ r. ⌜ now (out .exit) ≡ draftOut (workoutDraft pm3Limits (distance metres split watts))
+        (now (out .entry)) ⌝ }
 {
     let goal = Goal::Distance {
         goal: Metres(metres),
@@ -115,8 +123,10 @@ pub extern "C" fn csafe_write_time_workout(
     watts: u16,
     out: &mut [u8],
 ) -> u64
-    ensures { λ r. ⌜ Tells r (writeFields (draftAnswer (workoutDraft pm3Limits (time seconds split watts)) (length (now (out .entry))))) ⌝ }
-    ensures { λ r. ⌜ now (out .exit) ≡ draftOut (workoutDraft pm3Limits (time seconds split watts)) (now (out .entry)) ⌝ }
+    ensures { λ r. ⌜ Tells r
+        (writeFields (draftAnswer (workoutDraft pm3Limits (time seconds split watts)) (length (now (out .entry))))) ⌝ }
+    ensures { λ r. ⌜ now (out .exit) ≡ draftOut (workoutDraft pm3Limits (time seconds split watts))
+        (now (out .entry)) ⌝ }
 {
     let goal = Goal::Time {
         goal: Seconds(seconds),
@@ -152,7 +162,8 @@ pub extern "C" fn csafe_stop(table: &[u8], address: u32, token: u64, out: &mut [
     ensures { λ r. ⌜ Tells r (writeFields
         (writtenLength (lentAnswer (now (table .entry)) (stop address token (length (now (out .entry))))))) ⌝ }
     ensures { λ r. ⌜ now (out .exit)
-        ≡ outAfter (lentAnswer (now (table .entry)) (stop address token (length (now (out .entry))))) (now (out .entry)) ⌝ }
+        ≡ outAfter (lentAnswer (now (table .entry)) (stop address token (length (now (out .entry)))))
+        (now (out .entry)) ⌝ }
 {
     let written = lease::stop_lent(table, address, token, out);
     packed::of_written(written)

@@ -36,7 +36,8 @@ struct Fields {
 }
 
 fn pack(f: Fields) -> u64
-    ensures { λ r. ⌜ Tells r (record { number = f .number; kind = f .kind; to = f .to; from = f .from; len = f .len }) ⌝ }
+    ensures { λ r. ⌜ Tells r
+        (record { number = f .number; kind = f .kind; to = f .to; from = f .from; len = f .len }) ⌝ }
 {
     let low = (f.number as u64)
         + 0x100 * (f.kind as u64)

@@ -4,7 +4,8 @@ use mathlib.Core.Path.{_≡_, refl, sym, ap, _∙_}
 use mathlib.Core.List.{List, [], _∷_, _++_}
 use native.Mathlib.Numerals.{add-one}
 use native.Mathlib.Omega.{arith}
-use lib.Bits.{bitXor, xor-self, xor-comm, xor-zero-l, xor-zero-r, xor-shr, xor-mod, xor-shifted, xor-add-and, and-le-l, and-le-r}
+use lib.Bits.{bitXor, xor-self, xor-comm, xor-zero-l, xor-zero-r, xor-shr, xor-mod, xor-shifted, xor-add-and, and-le-l}
+use lib.Bits.{and-le-r}
 use lib.ListN.{length, getD, take, drop, length-drop, drop-of-length-le}
 use lib.Seq.{take-suc, drop-cons, take-all, getD-drop}
 use Rattle.lists.proofs.Lists.{last-apart}
@@ -12,7 +13,8 @@ use Rattle.frame.specs.Checksum.{sumFrom, checksum}
 use Rattle.frame.specs.Verdict.{contentsIn, lastOf}
 
 -- a turn of the loop that sums
-pub sumFrom-at : (acc : ℕ) (s : List ℕ) (i : ℕ) → i < length s → sumFrom acc (drop i s) ≡ sumFrom (bitXor acc (getD s i 0)) (drop (i + 1) s)
+pub sumFrom-at : (acc : ℕ) (s : List ℕ) (i : ℕ) → i < length s
+    → sumFrom acc (drop i s) ≡ sumFrom (bitXor acc (getD s i 0)) (drop (i + 1) s)
 unfolding sumFrom
 sumFrom-at acc s i h = rw (add-one, drop-cons s i 0 h)
 
@@ -26,7 +28,8 @@ sumFrom-last acc [] b = refl
 sumFrom-last acc (x ∷ c) b = sumFrom-last (bitXor acc x) c b
 
 -- the last byte, known by itself, after the sum of those before it
-pub sum-last : (s : List ℕ) (sum last : ℕ) → 1 ≤ length s → last ≡ getD s (length s - 1) 0 → sum ≡ checksum (take (length s - 1) s) → bitXor sum last ≡ checksum s
+pub sum-last : (s : List ℕ) (sum last : ℕ) → 1 ≤ length s → last ≡ getD s (length s - 1) 0
+    → sum ≡ checksum (take (length s - 1) s) → bitXor sum last ≡ checksum s
 sum-last s sum last h e q =
     ap (λ (n : ℕ). bitXor n last) q ∙ ap (bitXor (checksum (take (length s - 1) s))) e
     ∙ sym (sumFrom-last 0 (take (length s - 1) s) (getD s (length s - 1) 0))

@@ -1,7 +1,8 @@
 -- Laws of a sound body's contents, copied out or brought to the front of the body itself.
 use borrow.Author.Tests.{leb-true}
 use lib.ListN.{length-drop, length, getD, take, drop, length-append, take-append-drop}
-use Rattle.frame.specs.Verdict.{judge, judgeBytes, frameIn, addressCount, lastOf, contentsIn, Verdict, bodyOf, isTerminated, verdict}
+use Rattle.frame.specs.Verdict.{judge, judgeBytes, frameIn, addressCount, lastOf, contentsIn, Verdict, bodyOf}
+use Rattle.frame.specs.Verdict.{isTerminated, verdict}
 use Rattle.frame.specs.Flags.{kindOf}
 use Rattle.answer.specs.Answer.{result, refused}
 use Prim.Native.Nat.{_-_, ℕ, _+_, _≤_}
@@ -30,32 +31,42 @@ use Rattle.frame.proofs.VerdictLaws.{contents-of}
 module _ {kind : Kind} {body : List ℕ} {header : Header} {start len : ℕ} (s : SoundAt kind body header start len) where
   pub rest-length : length (unstuffedBytes (unstuff false (drop start body))) ≡ len + 1
   unfolding unstuffedBytes
-  rest-length = ap (λ (r : _). length (unstuffedBytes r)) (s .follows) ∙ length-append (s .contents) (checksum (s .contents) ∷ []) ∙ omega (arith, s .counted)
+  rest-length =
+      ap (λ (r : _). length (unstuffedBytes r)) (s .follows) ∙ length-append (s .contents) (checksum (s .contents) ∷ [])
+      ∙ omega (arith, s .counted)
 
   pub rest-contents : take len (unstuffedBytes (unstuff false (drop start body))) ≡ s .contents
   unfolding unstuffedBytes
-  rest-contents = ap (λ (r : _). take len (unstuffedBytes r)) (s .follows) ∙ take-at (s .contents) (checksum (s .contents) ∷ []) len (s .counted)
+  rest-contents =
+      ap (λ (r : _). take len (unstuffedBytes r)) (s .follows)
+      ∙ take-at (s .contents) (checksum (s .contents) ∷ []) len (s .counted)
 
   -- the contents put first in a list, as the code counts them
   pub rest-first : (d last : List ℕ) → last ≡ take len (unstuffedBytes (unstuff false (drop start body))) ++ drop len d
       → last ≡ contentsOf (frameOf header (s .contents)) ++ drop (length (contentsOf (frameOf header (s .contents)))) d
   rest-first d last e =
-      e ∙ ap (λ (l : List ℕ). l ++ drop len d) rest-contents ∙ ap (λ (n : ℕ). s .contents ++ drop n d) (sym (s .counted))
+      e ∙ ap (λ (l : List ℕ). l ++ drop len d) rest-contents
+      ∙ ap (λ (n : ℕ). s .contents ++ drop n d) (sym (s .counted))
       ∙ ap (λ (l : List ℕ). l ++ drop (length l) d) (sym (contents-of header (s .contents)))
 
 -- ---- bytes without an escape
 
 -- a part as long as its unstuffed bytes, copied as it is
-pub copied-plain : (rest out last : List ℕ) (len : ℕ) → length (unstuffedBytes (unstuff false rest)) ≡ len + 1 → length rest ≡ len + 1
+pub copied-plain : (rest out last : List ℕ) (len : ℕ) → length (unstuffedBytes (unstuff false rest)) ≡ len + 1
+    → length rest ≡ len + 1
     → last ≡ splice out 0 (take len rest) → last ≡ take len (unstuffedBytes (unstuff false rest)) ++ drop len out
 copied-plain rest out last len n l e =
     let k : 0 + length (take len rest) ≡ len = omega (arith, length-take-le len rest (omega arith)) in
-    e ∙ ap (λ (m : ℕ). take len rest ++ drop m out) k ∙ ap (λ (x : List ℕ). take len x ++ drop len out) (sym (unstuff-same rest (n ∙ sym l)))
+    e ∙ ap (λ (m : ℕ). take len rest ++ drop m out) k
+    ∙ ap (λ (x : List ℕ). take len x ++ drop len out) (sym (unstuff-same rest (n ∙ sym l)))
 
 -- the same, brought to the front
-pub shifted-plain : (s last : List ℕ) (start len : ℕ) → length (unstuffedBytes (unstuff false (drop start s))) ≡ len + 1 → length (drop start s) ≡ len + 1
-    → last ≡ take len (drop start s) ++ drop len s → last ≡ take len (unstuffedBytes (unstuff false (drop start s))) ++ drop len s
-shifted-plain s last start len n l e = e ∙ ap (λ (x : List ℕ). take len x ++ drop len s) (sym (unstuff-same (drop start s) (n ∙ sym l)))
+pub shifted-plain : (s last : List ℕ) (start len : ℕ) → length (unstuffedBytes (unstuff false (drop start s))) ≡ len + 1
+    → length (drop start s) ≡ len + 1
+    → last ≡ take len (drop start s) ++ drop len s
+    → last ≡ take len (unstuffedBytes (unstuff false (drop start s))) ++ drop len s
+shifted-plain s last start len n l e =
+    e ∙ ap (λ (x : List ℕ). take len x ++ drop len s) (sym (unstuff-same (drop start s) (n ∙ sym l)))
 
 -- ---- what a verdict leaves
 
@@ -63,7 +74,8 @@ pub left-refused : (v : Verdict) (s : List ℕ) (n : ℕ) → v ≡ refused n �
 unfolding leftIn
 left-refused v s n q = ap (λ (w : Verdict). leftIn w s) (sym q)
 
-pub left-accepted : (v : Verdict) (s last : List ℕ) (f : Frame) → v ≡ result f → last ≡ contentsOf f ++ drop (length (contentsOf f)) s → last ≡ leftIn v s
+pub left-accepted : (v : Verdict) (s last : List ℕ) (f : Frame) → v ≡ result f
+    → last ≡ contentsOf f ++ drop (length (contentsOf f)) s → last ≡ leftIn v s
 unfolding leftIn
 left-accepted v s last f q e = e ∙ ap (λ (w : Verdict). leftIn w s) (sym q)
 
@@ -71,15 +83,19 @@ left-accepted v s last f q e = e ∙ ap (λ (w : Verdict). leftIn w s) (sym q)
 pub left-whole : (v : Verdict) (s : List ℕ) → frameRead (judgeAnswer v) (leftIn v s) ≡ v
 unfolding judgeAnswer leftIn frameRead contentsOf
 left-whole (refused n) s = refl
-left-whole (result (standard c)) s = ap (λ (l : List ℕ). result (standard l)) (take-at c (drop (length c) s) (length c) refl)
-left-whole (result (extended to from c)) s = ap (λ (l : List ℕ). result (extended to from l)) (take-at c (drop (length c) s) (length c) refl)
+left-whole (result (standard c)) s =
+    ap (λ (l : List ℕ). result (standard l)) (take-at c (drop (length c) s) (length c) refl)
+left-whole (result (extended to from c)) s =
+    ap (λ (l : List ℕ). result (extended to from l)) (take-at c (drop (length c) s) (length c) refl)
 
 -- a part that was judged, in the whole
-pub left-part : (v : Verdict) (s last : List ℕ) (n : ℕ) → n ≤ length s → length last ≡ n → last ≡ leftIn v (take n s) → last ++ drop n s ≡ leftIn v s
+pub left-part : (v : Verdict) (s last : List ℕ) (n : ℕ) → n ≤ length s → length last ≡ n → last ≡ leftIn v (take n s)
+    → last ++ drop n s ≡ leftIn v s
 unfolding leftIn
 left-part (refused m) s last n h l e = ap (λ (x : List ℕ). x ++ drop n s) e ∙ take-append-drop n s
 left-part (result f) s last n h l e =
-    back-in s last (contentsOf f) n h (omega (arith, ap length e, length-append (contentsOf f) (drop (length (contentsOf f)) (take n s)))) e
+    back-in s last (contentsOf f) n h
+    (omega (arith, ap length e, length-append (contentsOf f) (drop (length (contentsOf f)) (take n s)))) e
 
 -- ---- the length is kept
 
@@ -92,21 +108,28 @@ frame-shorter Standard u = take-shorter (length u - 1) u
 frame-shorter Extended u = omega (arith, take-shorter (length u - 3) (drop 2 u), length-drop 2 u)
 
 -- the contents of a body that is accepted are no longer than the body, which is within the limit
-judge-shrinks : (kind : Kind) (body : List ℕ) (f : Frame) → judge kind body ≡ result f → (length (contentsOf f) ≤ length body) × (length body ≤ 118)
+judge-shrinks : (kind : Kind) (body : List ℕ) (f : Frame) → judge kind body ≡ result f
+    → (length (contentsOf f) ≤ length body) × (length body ≤ 118)
 unfolding judge judgeBytes unstuffedBytes
 judge-shrinks kind body f e =
     by-bool (leb (length body + 2) 120)
-    (λ l. (of-bytes (unstuff false body) (simp l at e) (unstuff-shrinks false body), omega (arith, leb-true (length body + 2) 120 l)))
+    (λ l. (
+      of-bytes (unstuff false body) (simp l at e) (unstuff-shrinks false body),
+      omega
+          (arith, leb-true (length body + 2) 120 l),
+    ))
     (λ l. let q : refused 2 ≡ result f = simp l at e in
     let z : _≡_ {A = ℕ} 0 1 = cc in absurd (omega arith))
   where
-    of-bytes : (r : Unstuffed) → judgeBytes kind r ≡ result f → length (unstuffedBytes r) ≤ length body → length (contentsOf f) ≤ length body
+    of-bytes : (r : Unstuffed) → judgeBytes kind r ≡ result f → length (unstuffedBytes r) ≤ length body
+        → length (contentsOf f) ≤ length body
     of-bytes badEscape e h = let z : _≡_ {A = ℕ} 0 1 = cc in absurd (omega arith)
     of-bytes (bytes u) e h =
         by-bool (leb (addressCount kind + 1) (length u))
         (λ y. by-bool (eqb (lastOf u) (checksum (contentsIn (addressCount kind) u)))
         (λ s. let q : result (frameIn kind u) ≡ result f = simp (y, s) at e in
-        let g : frameIn kind u ≡ f = cc in omega (arith, frame-shorter kind u, ap (λ (x : Frame). length (contentsOf x)) g))
+        let g : frameIn kind u ≡ f = cc in
+        omega (arith, frame-shorter kind u, ap (λ (x : Frame). length (contentsOf x)) g))
         (λ s. let q : refused 5 ≡ result f = simp (y, s) at e in
         let z : _≡_ {A = ℕ} 0 1 = cc in absurd (omega arith)))
         (λ y. let q : refused 4 ≡ result f = simp y at e in
@@ -120,7 +143,14 @@ left-length kind n s = of-verdict (judge kind (take n s)) refl
     of-verdict : (v : Verdict) → judge kind (take n s) ≡ v → length (leftIn v s) ≡ length s
     of-verdict (refused m) e = refl
     of-verdict (result f) e =
-        omega (arith, length-append (contentsOf f) (drop (length (contentsOf f)) s), length-drop (length (contentsOf f)) s, judge-shrinks kind (take n s) f e .0, take-shorter n s)
+        omega (
+          arith,
+          length-append (contentsOf f) (drop (length (contentsOf f)) s),
+          length-drop
+              (length (contentsOf f)) s,
+          judge-shrinks kind (take n s) f e .0,
+          take-shorter n s,
+        )
 
 -- the contents of a frame that is accepted are at most the bytes that may stand between flags
 pub accepted-short : (w : List ℕ) (f : Frame) → verdict w ≡ result f → length (contentsOf f) ≤ 118

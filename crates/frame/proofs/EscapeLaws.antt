@@ -29,21 +29,24 @@ escape-yes b y = let e : b ≡ 0xF3 = eqb-true b 0xF3 y in within-yes 0xF3 0xF3 
 
 escape-no : (b : ℕ) → eqb b 0xF3 ≡ false → within 0xF3 0xF3 b ≡ false
 escape-no b n =
-    by-bool (within 0xF3 0xF3 b) (λ y. let w = within-true 0xF3 0xF3 b y in absurd (eqb-false b 0xF3 n (omega arith))) (λ m. m)
+    by-bool (within 0xF3 0xF3 b) (λ y. let w = within-true 0xF3 0xF3 b y in absurd (eqb-false b 0xF3 n (omega arith)))
+    (λ m. m)
 
 -- a byte of 00 to 03 is no escape
 low-no : (e : ℕ) → leb e 3 ≡ true → eqb e 0xF3 ≡ false
 low-no e y = ne-eqb e 0xF3 (λ q. let l = leb-true e 3 y in omega arith)
 
 -- the marks of a bad pair
-pub pair-mark : (b after m n : ℕ) → after ≤ 0xFF → m ≡ pick (within 0xF3 0xF3 b) 1 0 → n ≡ pick (within 4 0xFF after) 1 0
+pub pair-mark : (b after m n : ℕ) → after ≤ 0xFF → m ≡ pick (within 0xF3 0xF3 b) 1 0
+    → n ≡ pick (within 4 0xFF after) 1 0
     → bitAnd m n ≡ pick (goodPair b after) 0 1
 pair-mark b after m n h p q =
     by-bool (eqb b 0xF3)
     (λ y. let one : m ≡ 1 = p ∙ simp (escape-yes b y) in
     by-bool (leb after 3)
     (λ z. let l = leb-true after 3 z in
-    let w : within 4 0xFF after ≡ false = by-bool (within 4 0xFF after) (λ v. let g = within-true 4 0xFF after v in absurd (omega arith)) (λ v. v) in
+    let w : within 4 0xFF after ≡ false =
+    by-bool (within 4 0xFF after) (λ v. let g = within-true 4 0xFF after v in absurd (omega arith)) (λ v. v) in
     let none : n ≡ 0 = q ∙ simp w in
     simp (one, none, y, z))
     (λ z. let l = leb-false after 3 z in
@@ -95,18 +98,21 @@ ends-bad (b ∷ e ∷ p) = by-bool (goodPair b e) (λ y. simp y (ends-bad (e ∷
 -- ---- the loop over pairs
 
 module _ (s : List ℕ) (i : ℕ) where
-  good-pair : i + 1 < length s → good (drop i s) ≡ pick (goodPair (getD s i 0) (getD s (i + 1) 0)) (good (drop (i + 1) s)) false
+  good-pair : i + 1 < length s
+      → good (drop i s) ≡ pick (goodPair (getD s i 0) (getD s (i + 1) 0)) (good (drop (i + 1) s)) false
   unfolding good
   good-pair h =
       let n : suc (i + 1) ≡ i + 2 = omega arith in
       let next : drop (i + 1) s ≡ getD s (i + 1) 0 ∷ drop (i + 2) s =
       drop-cons s (i + 1) 0 h ∙ ap (λ (k : ℕ). getD s (i + 1) 0 ∷ drop k s) n in
-      ap good (drop-two s i h) ∙ ap (λ (l : List ℕ). pick (goodPair (getD s i 0) (getD s (i + 1) 0)) (good l) false) (sym next)
+      ap good (drop-two s i h)
+      ∙ ap (λ (l : List ℕ). pick (goodPair (getD s i 0) (getD s (i + 1) 0)) (good l) false) (sym next)
 
   good-last : i + 1 ≡ length s → (getD s i 0 ≡ 0xF3 → ⊥) → good (drop i s) ≡ true
   unfolding good
   good-last h n =
-      ap good (drop-cons s i 0 (omega arith) ∙ ap (λ (l : List ℕ). getD s i 0 ∷ l) (drop-of-length-le s {i = suc i} (omega arith)))
+      ap good (drop-cons s i 0 (omega arith)
+      ∙ ap (λ (l : List ℕ). getD s i 0 ∷ l) (drop-of-length-le s {i = suc i} (omega arith)))
       ∙ simp (ne-eqb (getD s i 0) 0xF3 n)
 
 -- the pairs up to an index are good or not, as the loop has marked
@@ -116,7 +122,8 @@ Paired s bad i = (t : Bool) × (bad ≡ pick t 0 1) × (good s ≡ pick t (good 
 pub paired-none : (s : List ℕ) → Paired s 0 0
 paired-none s = (true, refl, refl)
 
-pub paired-more : (s : List ℕ) (bad i hit : ℕ) → i + 1 < length s → hit ≡ pick (goodPair (getD s i 0) (getD s (i + 1) 0)) 0 1
+pub paired-more : (s : List ℕ) (bad i hit : ℕ) → i + 1 < length s
+    → hit ≡ pick (goodPair (getD s i 0) (getD s (i + 1) 0)) 0 1
     → Paired s bad i → Paired s (bitOr bad hit) (i + 1)
 paired-more s bad i hit h e p =
     let t = p .0 in
@@ -136,10 +143,12 @@ paired-more s bad i hit h e p =
     both true g x = refl
     both false g x = refl
 
-pub paired-all : (s : List ℕ) (bad i : ℕ) → i + 1 ≡ length s → (getD s i 0 ≡ 0xF3 → ⊥) → Paired s bad i → eqb bad 0 ≡ isSound (unstuff false s)
+pub paired-all : (s : List ℕ) (bad i : ℕ) → i + 1 ≡ length s → (getD s i 0 ≡ 0xF3 → ⊥) → Paired s bad i
+    → eqb bad 0 ≡ isSound (unstuff false s)
 paired-all s bad i h n p =
     let t = p .0 in
-    ap (λ (m : ℕ). eqb m 0) (p .1) ∙ mark-all t ∙ sym (alone t) ∙ ap (λ (x : Bool). pick t x false) (sym (good-last s i h n)) ∙ sym (p .2) ∙ good-unstuff s
+    ap (λ (m : ℕ). eqb m 0) (p .1) ∙ mark-all t ∙ sym (alone t)
+    ∙ ap (λ (x : Bool). pick t x false) (sym (good-last s i h n)) ∙ sym (p .2) ∙ good-unstuff s
   where
     alone : (t : Bool) → pick t true false ≡ t
     alone true = refl
@@ -163,7 +172,8 @@ lowered-append (x ∷ a) b = ap (λ (l : List ℕ). lowerByte x ∷ l) (lowered-
 
 -- the unstuffed bytes have as many bytes fewer as there are escapes, and the sum with escapes lowered
 abbrev Counts : List ℕ → List ℕ → Type 0
-Counts s u = (length u + countOf (within 0xF3 0xF3) s ≡ length s) × ((acc : ℕ) → sumFrom acc u ≡ sumFrom acc (lowered s))
+Counts s u =
+    (length u + countOf (within 0xF3 0xF3) s ≡ length s) × ((acc : ℕ) → sumFrom acc u ≡ sumFrom acc (lowered s))
 
 counts-plain : (b : ℕ) (s u v : List ℕ) → eqb b 0xF3 ≡ false → u ≡ b ∷ v → Counts s v → Counts (b ∷ s) u
 unfolding countOf sumFrom lowered
@@ -172,11 +182,13 @@ counts-plain b s u v n e c = (
   λ acc. ap (sumFrom acc) e ∙ c .1 (bitXor acc b) ∙ simp n,
 )
 
-counts-escape : (b e : ℕ) (s u v : List ℕ) → eqb b 0xF3 ≡ true → leb e 3 ≡ true → u ≡ (0xF0 + e) ∷ v → Counts s v → Counts (b ∷ e ∷ s) u
+counts-escape : (b e : ℕ) (s u v : List ℕ) → eqb b 0xF3 ≡ true → leb e 3 ≡ true → u ≡ (0xF0 + e) ∷ v → Counts s v
+    → Counts (b ∷ e ∷ s) u
 unfolding countOf sumFrom lowered
 counts-escape b e s u v y z q c = (
   simp (escape-yes b y, escape-no e (low-no e z)) (omega (arith, ap length q, c .0)),
-  λ acc. ap (sumFrom acc) q ∙ c .1 (bitXor acc (0xF0 + e)) ∙ ap (λ (n : ℕ). sumFrom n (lowered s)) (sum-escape acc e (leb-true e 3 z)) ∙ simp (y, low-no e z),
+  λ acc. ap (sumFrom acc) q ∙ c .1 (bitXor acc (0xF0 + e))
+      ∙ ap (λ (n : ℕ). sumFrom n (lowered s)) (sum-escape acc e (leb-true e 3 z)) ∙ simp (y, low-no e z),
 )
 
 counts-none : (u : List ℕ) → u ≡ [] → Counts [] u
@@ -190,22 +202,27 @@ counts (b ∷ []) u q =
     by-bool (eqb b 0xF3)
     (λ y. let z : badEscape ≡ bytes u = simp y at q in
     let n : _≡_ {A = ℕ} 0 1 = cc in absurd (omega arith))
-    (λ n. let p = prepend-inv b (unstuff false []) u (simp n at q) in counts-plain b [] u (p .0) n (p .2) (counts [] (p .0) (p .1)))
+    (λ n. let p = prepend-inv b (unstuff false []) u (simp n at q) in
+    counts-plain b [] u (p .0) n (p .2) (counts [] (p .0) (p .1)))
 counts (b ∷ e ∷ s) u q =
     by-bool (eqb b 0xF3)
     (λ y. by-bool (leb e 3)
-    (λ z. let p = prepend-inv (0xF0 + e) (unstuff false s) u (simp (y, z) at q) in counts-escape b e s u (p .0) y z (p .2) (counts s (p .0) (p .1)))
+    (λ z. let p = prepend-inv (0xF0 + e) (unstuff false s) u (simp (y, z) at q) in
+    counts-escape b e s u (p .0) y z (p .2) (counts s (p .0) (p .1)))
     (λ z. let k : badEscape ≡ bytes u = simp (y, z) at q in
     let n : _≡_ {A = ℕ} 0 1 = cc in absurd (omega arith)))
-    (λ n. let p = prepend-inv b (unstuff false (e ∷ s)) u (simp n at q) in counts-plain b (e ∷ s) u (p .0) n (p .2) (counts (e ∷ s) (p .0) (p .1)))
+    (λ n. let p = prepend-inv b (unstuff false (e ∷ s)) u (simp n at q) in
+    counts-plain b (e ∷ s) u (p .0) n (p .2) (counts (e ∷ s) (p .0) (p .1)))
 
 -- ---- the scan by these
 
 -- bytes without an escape
-pub scan-as-is : (s : List ℕ) → noneOf (within 0xF3 0xF3) s ≡ true → (len sum : ℕ) → len ≡ length s → sum ≡ checksum s → Good len sum ≡ scanFrom 0 0 (unstuff false s)
+pub scan-as-is : (s : List ℕ) → noneOf (within 0xF3 0xF3) s ≡ true → (len sum : ℕ) → len ≡ length s → sum ≡ checksum s
+    → Good len sum ≡ scanFrom 0 0 (unstuff false s)
 unfolding scanFrom
 scan-as-is s n len sum p q =
-    ap (λ (m : ℕ). Good m sum) (p ∙ sym (zero-add (length s))) ∙ ap (Good (0 + length s)) q ∙ sym (ap (scanFrom 0 0) (unstuff-plain s n))
+    ap (λ (m : ℕ). Good m sum) (p ∙ sym (zero-add (length s))) ∙ ap (Good (0 + length s)) q
+    ∙ sym (ap (scanFrom 0 0) (unstuff-plain s n))
 
 sound-bytes : (r : Unstuffed) → isSound r ≡ true → r ≡ bytes (unstuffedBytes r)
 unfolding unstuffedBytes
@@ -226,18 +243,23 @@ module _ (s : List ℕ) (last : ℕ) (some : 1 ≤ length s) (is : last ≡ getD
 
   pub scan-ends-bad : last ≡ 0xF3 → Fault ≡ scanFrom 0 0 (unstuff false s)
   scan-ends-bad e =
-      scan-unsound (sym (good-unstuff s) ∙ ap good (parts ∙ ap (λ (b : ℕ). take (length s - 1) s ++ (b ∷ [])) e) ∙ ends-bad (take (length s - 1) s))
+      scan-unsound (sym (good-unstuff s) ∙ ap good (parts ∙ ap (λ (b : ℕ). take (length s - 1) s ++ (b ∷ [])) e)
+      ∙ ends-bad (take (length s - 1) s))
 
   -- the last byte is no escape
   count-here : (last ≡ 0xF3 → ⊥) → countOf (within 0xF3 0xF3) (take (length s - 1) s) ≡ countOf (within 0xF3 0xF3) s
   count-here n = count-last (within 0xF3 0xF3) s last some is (escape-no last (ne-eqb last 0xF3 n))
 
   -- without an escape all is sound
-  pub scan-none : (count : ℕ) → (last ≡ 0xF3 → ⊥) → count ≡ countOf (within 0xF3 0xF3) (take (length s - 1) s) → count ≡ 0 → isSound (unstuff false s) ≡ true
-  scan-none count n c z = ap isSound (unstuff-plain s (count-none (within 0xF3 0xF3) s (sym (count-here n) ∙ sym c ∙ z)))
+  pub scan-none : (count : ℕ) → (last ≡ 0xF3 → ⊥) → count ≡ countOf (within 0xF3 0xF3) (take (length s - 1) s)
+      → count ≡ 0 → isSound (unstuff false s) ≡ true
+  scan-none count n c z =
+      ap isSound (unstuff-plain s (count-none (within 0xF3 0xF3) s (sym (count-here n) ∙ sym c ∙ z)))
 
-  pub scan-counted : (len sum count : ℕ) → (last ≡ 0xF3 → ⊥) → isSound (unstuff false s) ≡ true → count ≡ countOf (within 0xF3 0xF3) (take (length s - 1) s)
-      → len ≡ length s - count → sum ≡ checksum (lowered (take (length s - 1) s)) → Good len (bitXor sum last) ≡ scanFrom 0 0 (unstuff false s)
+  pub scan-counted : (len sum count : ℕ) → (last ≡ 0xF3 → ⊥) → isSound (unstuff false s) ≡ true
+      → count ≡ countOf (within 0xF3 0xF3) (take (length s - 1) s)
+      → len ≡ length s - count → sum ≡ checksum (lowered (take (length s - 1) s))
+      → Good len (bitXor sum last) ≡ scanFrom 0 0 (unstuff false s)
   unfolding scanFrom lowered
   scan-counted len sum count n y c′ l q =
       let c : count ≡ countOf (within 0xF3 0xF3) s = c′ ∙ count-here n in

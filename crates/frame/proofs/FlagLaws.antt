@@ -22,7 +22,8 @@ kind-start Extended = refl
 
 pub start-kind : (b : ℕ) → 0xF0 ≤ b → b ≤ 0xF1 → startFlag (kindOf b) ≡ b
 start-kind b h k =
-    by-bool (eqb b 0xF0) (λ y. (simp y) ∙ sym (eqb-true b 0xF0 y)) (λ n. let z : 0xF1 ≡ b = omega (arith, eqb-false b 0xF0 n) in (simp n) ∙ z)
+    by-bool (eqb b 0xF0) (λ y. (simp y) ∙ sym (eqb-true b 0xF0 y))
+    (λ n. let z : 0xF1 ≡ b = omega (arith, eqb-false b 0xF0 n) in (simp n) ∙ z)
 
 pub start-between : (kind : Kind) → (0xF0 ≤ startFlag kind) × (startFlag kind ≤ 0xF1)
 start-between Standard = omega arith
@@ -55,8 +56,10 @@ role-tests b = by-flag (eqb b 0xF0) (eqb b 0xF1) (eqb b 0xF2) refl refl refl
         let p = eqb-false b 0xF0 e₀ in
         let q = eqb-false b 0xF1 e₁ in
         let r = eqb-false b 0xF2 e₂ in (
-          by-bool (isStart b) (λ y. let h = within-true 0xF0 0xF1 b y in absurd (omega (arith, h .0, h .1, p, q))) (λ n. n),
-          by-bool (isFlag b) (λ y. let h = within-true 0xF0 0xF2 b y in absurd (omega (arith, h .0, h .1, p, q, r))) (λ n. n),
+          by-bool (isStart b) (λ y. let h = within-true 0xF0 0xF1 b y in absurd (omega (arith, h .0, h .1, p, q)))
+              (λ n. n),
+          by-bool (isFlag b) (λ y. let h = within-true 0xF0 0xF2 b y in absurd (omega (arith, h .0, h .1, p, q, r)))
+              (λ n. n),
         )
 
 -- The byte of a start flag is that of its kind, and only the stop flag stops.

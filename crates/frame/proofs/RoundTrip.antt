@@ -54,7 +54,8 @@ reads-back f l =
     ∙ judge-bytes (frameKind f) b (omega (arith, ap length e, whole-length (frameKind f) b))
     ∙ ap (judgeBytes (frameKind f)) (unstuff-stuff (payload f)) ∙ judge-payload f
 
-payload-in : (kind : Kind) (u : List ℕ) → addressCount kind + 1 ≤ length u → lastOf u ≡ checksum (contentsIn (addressCount kind) u)
+payload-in : (kind : Kind) (u : List ℕ) → addressCount kind + 1 ≤ length u
+    → lastOf u ≡ checksum (contentsIn (addressCount kind) u)
     → (payload (frameIn kind u) ≡ u) × (frameKind (frameIn kind u) ≡ kind)
 unfolding payload addressesOf contentsOf frameIn
 payload-in Standard u h r = (ap (λ (b : ℕ). contentsIn 0 u ++ (b ∷ [])) (sym r) ∙ sym (contents-last 0 u h), refl)
@@ -73,8 +74,10 @@ writes-back w f e =
     let t = s .candidate in
     let u = s .unstuffed in
     let p = payload-in (t .kind) u (omega (arith, s .enough, fewest-is (t .kind))) (s .sum) in
-    let b : stuff u ≡ t .body = stuff-unstuff false (t .body) u (unstuffs-bytes (s .unstuffs)) (free-flagless (t .body) (t .inside)) in (
-      ap wireOf (s .frame) ∙ ap (λ (k : Kind). startFlag k ∷ stuff (payload (frameIn (t .kind) u)) ++ (stopFlag ∷ [])) (p .1)
+    let b : stuff u ≡ t .body =
+    stuff-unstuff false (t .body) u (unstuffs-bytes (s .unstuffs)) (free-flagless (t .body) (t .inside)) in (
+      ap wireOf (s .frame) ∙ ap (λ (k : Kind). startFlag k ∷ stuff (payload (frameIn (t .kind) u)) ++ (stopFlag ∷ []))
+          (p .1)
           ∙ ap (λ (l : List ℕ). startFlag (t .kind) ∷ stuff l ++ (0xF2 ∷ [])) (p .0)
           ∙ ap (λ (l : List ℕ). startFlag (t .kind) ∷ l ++ (0xF2 ∷ [])) b
           ∙ sym (t .shape),
@@ -84,16 +87,21 @@ writes-back w f e =
 -- ---- the same of the answers and the lent slices
 
 -- what reading with room leaves tells the frame, whole
-read-whole : (f : Frame) (out : List ℕ) → length (contentsOf f) ≤ length out → frameRead (readAnswer (result f) (length out)) (readOut (result f) out) ≡ result f
+read-whole : (f : Frame) (out : List ℕ) → length (contentsOf f) ≤ length out
+    → frameRead (readAnswer (result f) (length out)) (readOut (result f) out) ≡ result f
 unfolding readAnswer readOut draftOut frameRead contentsOf
 read-whole (standard c) out h =
-    simp (le-leb (length c) (length out) h) (ap (λ (l : List ℕ). result (standard l)) (take-at c (drop (length c) out) (length c) refl))
+    simp (le-leb (length c) (length out) h)
+    (ap (λ (l : List ℕ). result (standard l)) (take-at c (drop (length c) out) (length c) refl))
 read-whole (extended to from c) out h =
-    simp (le-leb (length c) (length out) h) (ap (λ (l : List ℕ). result (extended to from l)) (take-at c (drop (length c) out) (length c) refl))
+    simp (le-leb (length c) (length out) h)
+    (ap (λ (l : List ℕ). result (extended to from l)) (take-at c (drop (length c) out) (length c) refl))
 
 -- A frame that was written, read from the bytes that were written into any output with room, is told as that frame.
-pub written-reads-back : (f : Frame) (out into : List ℕ) (n : ℕ) → draftAnswer (frameDraft f) (length out) ≡ result n → length (contentsOf f) ≤ length into
-    → frameRead (readAnswer (verdict (take n (draftOut (frameDraft f) out))) (length into)) (readOut (verdict (take n (draftOut (frameDraft f) out))) into) ≡ result f
+pub written-reads-back : (f : Frame) (out into : List ℕ) (n : ℕ) → draftAnswer (frameDraft f) (length out) ≡ result n
+    → length (contentsOf f) ≤ length into
+    → frameRead (readAnswer (verdict (take n (draftOut (frameDraft f) out))) (length into))
+    (readOut (verdict (take n (draftOut (frameDraft f) out))) into) ≡ result f
 unfolding frameDraft
 written-reads-back f out into n e room =
     let k = written-first (frameDraft f) out n e in
@@ -106,7 +114,8 @@ written-reads-back f out into n e room =
     (λ y. let q : refused 2 ≡ result (k .0) = simp y at (k .1) in
     let x : _≡_ {A = ℕ} 0 1 = cc in absurd (omega arith))
 
-told-accepted : (v : Verdict) (out : List ℕ) (f : Frame) → frameRead (readAnswer v (length out)) (readOut v out) ≡ result f → v ≡ result f
+told-accepted : (v : Verdict) (out : List ℕ) (f : Frame)
+    → frameRead (readAnswer v (length out)) (readOut v out) ≡ result f → v ≡ result f
 unfolding readAnswer readOut draftOut frameRead
 told-accepted (refused n) out f e = e
 told-accepted (result g) out f e =
@@ -115,10 +124,16 @@ told-accepted (result g) out f e =
     (λ n. let q : refused 1 ≡ result f = simp n at e in
     let x : _≡_ {A = ℕ} 0 1 = cc in absurd (omega arith))
 
--- A slice that was read as a frame, written again from what was told into any output with room, gives the slice's bytes.
-pub read-writes-back : (w out into : List ℕ) (f : Frame) → frameRead (readAnswer (verdict w) (length out)) (readOut (verdict w) out) ≡ result f → length w ≤ length into
-    → (draftAnswer (frameDraft f) (length into) ≡ result (length w)) × (draftOut (frameDraft f) into ≡ w ++ drop (length w) into)
+-- A slice that was read as a frame, written again from what was told into any output with room, gives the slice's
+-- bytes.
+pub read-writes-back : (w out into : List ℕ) (f : Frame)
+    → frameRead (readAnswer (verdict w) (length out)) (readOut (verdict w) out) ≡ result f → length w ≤ length into
+    → (draftAnswer (frameDraft f) (length into) ≡ result (length w))
+    × (draftOut (frameDraft f) into ≡ w ++ drop (length w) into)
 unfolding frameDraft draftAnswer draftOut
 read-writes-back w out into f e room =
-    let b = writes-back w f (told-accepted (verdict w) out f e) in
-    (rw (b .0) (simp (le-leb (length w) 120 (b .1), le-leb (length w) (length into) room)), rw (b .0) (simp (le-leb (length w) 120 (b .1), le-leb (length w) (length into) room)))
+    let b = writes-back w f (told-accepted (verdict w) out f e) in (
+      rw (b .0) (simp (le-leb (length w) 120 (b .1), le-leb (length w) (length into) room)),
+      rw (b .0)
+          (simp (le-leb (length w) 120 (b .1), le-leb (length w) (length into) room)),
+    )

@@ -9,7 +9,8 @@ use native.Mathlib.Omega.{arith}
 use lib.Dec.{leb, ltb, eqb}
 use lib.ListN.{length, getD, take, drop, set, length-drop, length-set, drop-of-length-le}
 use lib.Seq.{drop-cons, length-take-le}
-use borrow.Author.Tests.{leb-true, leb-false, ltb-true, ltb-false, eqb-true, eqb-false, lt-leb, le-leb, lt-ltb, le-ltb, eq-eqb, ne-eqb}
+use borrow.Author.Tests.{leb-true, leb-false, ltb-true, ltb-false, eqb-true, eqb-false, lt-leb, le-leb, lt-ltb, le-ltb}
+use borrow.Author.Tests.{eq-eqb, ne-eqb}
 use Rattle.lists.proofs.Cases.{by-bool}
 use Rattle.lists.proofs.Lists.{drop-two, fill, get-behind}
 use Rattle.frame.specs.Stuffing.{Unstuffed, badEscape, bytes, prepend, unstuff}
@@ -40,17 +41,38 @@ module _ (s : List ℕ) (at : ℕ) where
   next-last : at < length s → getD s at 0 ≡ 0xF3 → length s ≤ at + 1 → Goal
   unfolding nextAt unstuff afterNext
   next-last h e k =
-      simp (drop-cons s at 0 h, lt-ltb at (length s) h, eq-eqb (getD s at 0) 0xF3 e, le-ltb (at + 1) (length s) k, drop-of-length-le s {i = suc at} (omega arith))
+      simp (
+        drop-cons s at 0 h,
+        lt-ltb at (length s) h,
+        eq-eqb (getD s at 0) 0xF3 e,
+        le-ltb (at + 1)
+            (length s) k,
+        drop-of-length-le s {i = suc at} (omega arith),
+      )
 
   next-bad : at < length s → getD s at 0 ≡ 0xF3 → at + 1 < length s → 3 < getD s (at + 1) 0 → Goal
   unfolding nextAt unstuff afterNext
   next-bad h e k b =
-      simp (drop-two s at k, lt-ltb at (length s) h, eq-eqb (getD s at 0) 0xF3 e, lt-ltb (at + 1) (length s) k, lt-leb (getD s (at + 1) 0) 3 b)
+      simp (
+        drop-two s at k,
+        lt-ltb at (length s) h,
+        eq-eqb (getD s at 0) 0xF3 e,
+        lt-ltb (at + 1) (length s) k,
+        lt-leb
+            (getD s (at + 1) 0) 3 b,
+      )
 
   next-escape : at < length s → getD s at 0 ≡ 0xF3 → at + 1 < length s → getD s (at + 1) 0 ≤ 3 → Goal
   unfolding nextAt unstuff afterNext
   next-escape h e k b =
-      simp (drop-two s at k, lt-ltb at (length s) h, eq-eqb (getD s at 0) 0xF3 e, lt-ltb (at + 1) (length s) k, le-leb (getD s (at + 1) 0) 3 b)
+      simp (
+        drop-two s at k,
+        lt-ltb at (length s) h,
+        eq-eqb (getD s at 0) 0xF3 e,
+        lt-ltb (at + 1) (length s) k,
+        le-leb
+            (getD s (at + 1) 0) 3 b,
+      )
 
   pub unstuff-next : Goal
   unstuff-next =
@@ -59,7 +81,8 @@ module _ (s : List ℕ) (at : ℕ) where
       by-bool (eqb (getD s at 0) 0xF3)
       (λ e′. let e = eqb-true (getD s at 0) 0xF3 e′ in
       by-bool (ltb (at + 1) (length s))
-      (λ k. by-bool (leb (getD s (at + 1) 0) 3) (λ b. next-escape h e (ltb-true _ _ k) (leb-true _ _ b)) (λ b. next-bad h e (ltb-true _ _ k) (leb-false _ _ b)))
+      (λ k. by-bool (leb (getD s (at + 1) 0) 3) (λ b. next-escape h e (ltb-true _ _ k) (leb-true _ _ b))
+      (λ b. next-bad h e (ltb-true _ _ k) (leb-false _ _ b)))
       (λ k. next-last h e (ltb-false _ _ k)))
       (λ n. next-plain h (eqb-false _ _ n)))
       (λ n. next-end (ltb-false _ _ n))
@@ -94,14 +117,21 @@ module _ (s : List ℕ) (at : ℕ) where
     pub next-second : at + 1 < length s
     unfolding nextAt
     next-second =
-        by-bool (ltb (at + 1) (length s)) (λ y. ltb-true (at + 1) (length s) y) (λ y. absurd (n (simp (lt-ltb at (length s) h, eq-eqb (getD s at 0) 0xF3 e, y))))
+        by-bool (ltb (at + 1) (length s)) (λ y. ltb-true (at + 1) (length s) y)
+        (λ y. absurd (n (simp (lt-ltb at (length s) h, eq-eqb (getD s at 0) 0xF3 e, y))))
 
     pub next-low : getD s (at + 1) 0 ≤ 3
     unfolding nextAt
     next-low =
         by-bool (leb (getD s (at + 1) 0) 3)
         (λ y. leb-true (getD s (at + 1) 0) 3 y)
-        (λ y. absurd (n (simp (lt-ltb at (length s) h, eq-eqb (getD s at 0) 0xF3 e, lt-ltb (at + 1) (length s) next-second, y))))
+        (λ y. absurd (n (simp (
+          lt-ltb at (length s) h,
+          eq-eqb (getD s at 0) 0xF3 e,
+          lt-ltb (at + 1)
+              (length s) next-second,
+          y,
+        ))))
 
 -- ---- what a call of next_at and the match on it tell
 
@@ -114,13 +144,15 @@ module _ (s : List ℕ) (at : ℕ) (x : Next) (e : x ≡ nextAt s at) where
 
 -- ---- filling a list with unstuffed bytes
 
-bytes-prepend : (b : ℕ) (r : Unstuffed) → 0 < length (unstuffedBytes (prepend b r)) → unstuffedBytes (prepend b r) ≡ b ∷ unstuffedBytes r
+bytes-prepend : (b : ℕ) (r : Unstuffed) → 0 < length (unstuffedBytes (prepend b r))
+    → unstuffedBytes (prepend b r) ≡ b ∷ unstuffedBytes r
 unfolding unstuffedBytes prepend
 bytes-prepend b badEscape h = absurd (not-suc-le-zero h)
 bytes-prepend b (bytes u) h = refl
 
 -- k of the bytes v are taken, and the next is unstuffed at an index of s
-module _ (s v : List ℕ) (at k : ℕ) (more : k < length v) (here : unstuffedBytes (unstuff false (drop at s)) ≡ drop k v) (x : Next) (e : x ≡ nextAt s at) where
+module _ (s v : List ℕ) (at k : ℕ) (more : k < length v) (here : unstuffedBytes (unstuff false (drop at s)) ≡ drop k v)
+    (x : Next) (e : x ≡ nextAt s at) where
   seen : (y : Next) → x ≡ y → drop k v ≡ unstuffedBytes (afterNext s y)
   seen y f = sym here ∙ ap unstuffedBytes (told s at x e y f)
 
@@ -146,18 +178,23 @@ module _ (s v : List ℕ) (at k : ℕ) (more : k < length v) (here : unstuffedBy
 
 -- ---- reading behind the index where is written
 
-next-behind : (s s₀ p : List ℕ) (k : ℕ) → s ≡ p ++ drop k s₀ → length p ≡ k → (at : ℕ) → k ≤ at → length s ≡ length s₀ → nextAt s at ≡ nextAt s₀ at
+next-behind : (s s₀ p : List ℕ) (k : ℕ) → s ≡ p ++ drop k s₀ → length p ≡ k → (at : ℕ) → k ≤ at → length s ≡ length s₀
+    → nextAt s at ≡ nextAt s₀ at
 unfolding nextAt
 next-behind s s₀ p k e l at h q =
     let z : at + 0 ≡ at = omega arith in
-    let a : getD s at 0 ≡ getD s₀ at 0 = ap (λ (i : ℕ). getD s i 0) (sym z) ∙ get-behind s s₀ p k e l at 0 h ∙ ap (λ (i : ℕ). getD s₀ i 0) z in
+    let a : getD s at 0 ≡ getD s₀ at 0 =
+    ap (λ (i : ℕ). getD s i 0) (sym z) ∙ get-behind s s₀ p k e l at 0 h ∙ ap (λ (i : ℕ). getD s₀ i 0) z in
     simp (q, a, get-behind s s₀ p k e l at 1 h)
 
 -- k of the bytes v are brought to the front of s₀, and the next is unstuffed at an index of it
 abbrev pub Fronted : (s₀ v : List ℕ) (at k : ℕ) (s : List ℕ) → Type 0
-Fronted s₀ v at k s = (k ≤ at) × (length s ≡ length s₀) × (unstuffedBytes (unstuff false (drop at s₀)) ≡ drop k v) × (s ≡ take k v ++ drop k s₀)
+Fronted s₀ v at k s =
+    (k ≤ at) × (length s ≡ length s₀) × (unstuffedBytes (unstuff false (drop at s₀)) ≡ drop k v)
+    × (s ≡ take k v ++ drop k s₀)
 
-module _ (s₀ v : List ℕ) (at k : ℕ) (s : List ℕ) (f : Fronted s₀ v at k s) (more : k < length v) (x : Next) (e : x ≡ nextAt s at) where
+module _ (s₀ v : List ℕ) (at k : ℕ) (s : List ℕ) (f : Fronted s₀ v at k s) (more : k < length v) (x : Next)
+    (e : x ≡ nextAt s at) where
   same : x ≡ nextAt s₀ at
   same = e ∙ next-behind s s₀ (take k v) k (f .3) (length-take-le k v (omega arith)) at (f .0) (f .1)
 

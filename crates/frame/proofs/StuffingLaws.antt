@@ -32,7 +32,8 @@ stuffByte-no b h = ap (λ (t : Bool). pick t (0xF3 ∷ (b - 0xF0) ∷ []) (b ∷
 -- a byte takes one or two bytes
 pub stuffByte-between : (b : ℕ) → (1 ≤ length (stuffByte b)) × (length (stuffByte b) ≤ 2)
 stuffByte-between b =
-    by-bool (isStuffed b) (λ y. omega (arith, ap length (stuffByte-yes b y))) (λ n. omega (arith, ap length (stuffByte-no b n)))
+    by-bool (isStuffed b) (λ y. omega (arith, ap length (stuffByte-yes b y)))
+    (λ n. omega (arith, ap length (stuffByte-no b n)))
 
 -- a byte that is neither a flag nor F3 is sent as it is
 flag-no : (b : ℕ) → isFlag b ≡ false → (b ≡ 0xF3 → ⊥) → isStuffed b ≡ false
@@ -48,7 +49,8 @@ flag-no b h n =
 pub stuff-append : (a b : List ℕ) → stuff (a ++ b) ≡ stuff a ++ stuff b
 unfolding stuff
 stuff-append [] b = refl
-stuff-append (x ∷ a) b = ap (λ (l : List ℕ). stuffByte x ++ l) (stuff-append a b) ∙ sym (append-assoc (stuffByte x) (stuff a) (stuff b))
+stuff-append (x ∷ a) b =
+    ap (λ (l : List ℕ). stuffByte x ++ l) (stuff-append a b) ∙ sym (append-assoc (stuffByte x) (stuff a) (stuff b))
 
 pub stuff-one : (b : ℕ) → stuff (b ∷ []) ≡ stuffByte b
 unfolding stuff
@@ -58,7 +60,8 @@ stuff-one b = append-nil (stuffByte b)
 pub stuff-between : (s : List ℕ) → (length s ≤ length (stuff s)) × (length (stuff s) ≤ 2 * length s)
 unfolding stuff
 stuff-between [] = omega arith
-stuff-between (b ∷ s) = let h = stuff-between s in omega (arith, length-append (stuffByte b) (stuff s), stuffByte-between b)
+stuff-between (b ∷ s) =
+    let h = stuff-between s in omega (arith, length-append (stuffByte b) (stuff s), stuffByte-between b)
 
 -- it makes it longer by the number of bytes that are sent as two
 pub stuff-count : (s : List ℕ) → length s + countOf isStuffed s ≡ length (stuff s)
@@ -78,7 +81,8 @@ stuff-none [] h = refl
 stuff-none (b ∷ s) h =
     by-bool (isStuffed b)
     (λ y. absurd (true≢false (sym h ∙ simp y)))
-    (λ n. ap (λ (l : List ℕ). l ++ stuff s) (stuffByte-no b n) ∙ ap (λ (l : List ℕ). b ∷ l) (stuff-none s (simp n at h)))
+    (λ n. ap (λ (l : List ℕ). l ++ stuff s) (stuffByte-no b n)
+    ∙ ap (λ (l : List ℕ). b ∷ l) (stuff-none s (simp n at h)))
 
 -- and a list that grows by nothing has nothing to stuff
 pub stuff-same : (s : List ℕ) → length (stuff s) ≡ length s → stuff s ≡ s
@@ -94,24 +98,29 @@ stuff-same (b ∷ s) e =
 
 -- ---- a loop that stuffs a list into a slice
 
-pub stuff-next : (s : List ℕ) (i : ℕ) → i < length s → stuff (take (i + 1) s) ≡ stuff (take i s) ++ stuffByte (getD s i 0)
+pub stuff-next : (s : List ℕ) (i : ℕ) → i < length s
+    → stuff (take (i + 1) s) ≡ stuff (take i s) ++ stuffByte (getD s i 0)
 stuff-next s i h =
-    ap (λ (n : ℕ). stuff (take n s)) (add-one i) ∙ ap stuff (take-suc s i 0 h) ∙ stuff-append (take i s) (getD s i 0 ∷ [])
+    ap (λ (n : ℕ). stuff (take n s)) (add-one i) ∙ ap stuff (take-suc s i 0 h)
+    ∙ stuff-append (take i s) (getD s i 0 ∷ [])
     ∙ ap (λ (l : List ℕ). stuff (take i s) ++ l) (stuff-one (getD s i 0))
 
 -- the next byte has room where all have
-pub stuff-room : (s : List ℕ) (i : ℕ) → i < length s → length (stuff (take i s)) + length (stuffByte (getD s i 0)) ≤ length (stuff s)
+pub stuff-room : (s : List ℕ) (i : ℕ) → i < length s
+    → length (stuff (take i s)) + length (stuffByte (getD s i 0)) ≤ length (stuff s)
 stuff-room s i h =
     omega (arith, ap length (stuff-next s i h), length-append (stuff (take i s)) (stuffByte (getD s i 0)), parts)
   where
     parts : length (stuff (take (i + 1) s)) + length (stuff (drop (i + 1) s)) ≡ length (stuff s)
     parts =
-        sym (length-append (stuff (take (i + 1) s)) (stuff (drop (i + 1) s))) ∙ ap length (sym (stuff-append (take (i + 1) s) (drop (i + 1) s)))
+        sym (length-append (stuff (take (i + 1) s)) (stuff (drop (i + 1) s)))
+        ∙ ap length (sym (stuff-append (take (i + 1) s) (drop (i + 1) s)))
         ∙ ap (λ (l : List ℕ). length (stuff l)) (take-append-drop (i + 1) s)
 
 -- i bytes of s are written into out₀ from index `from` on, and the next goes to `at`
 abbrev pub Stuffed : (s out₀ : List ℕ) (from i at : ℕ) (out : List ℕ) → Type 0
-Stuffed s out₀ from i at out = (at ≡ from + length (stuff (take i s))) × (out ≡ splice out₀ from (stuff (take i s))) × (length out ≡ length out₀)
+Stuffed s out₀ from i at out =
+    (at ≡ from + length (stuff (take i s))) × (out ≡ splice out₀ from (stuff (take i s))) × (length out ≡ length out₀)
 
 module _ (s out₀ : List ℕ) (from : ℕ) (room : from + length (stuff s) ≤ length out₀) where
   pub stuffed-none : Stuffed s out₀ from 0 from out₀
@@ -119,7 +128,8 @@ module _ (s out₀ : List ℕ) (from : ℕ) (room : from + length (stuff s) ≤ 
   stuffed-none = (sym (add-zero from), sym (splice-nil out₀ from), refl)
 
   pub stuffed-more : (i at at′ : ℕ) (out out′ : List ℕ) → i < length s → Stuffed s out₀ from i at out
-      → at′ ≡ at + length (stuffByte (getD s i 0)) → out′ ≡ splice out at (stuffByte (getD s i 0)) → Stuffed s out₀ from (i + 1) at′ out′
+      → at′ ≡ at + length (stuffByte (getD s i 0)) → out′ ≡ splice out at (stuffByte (getD s i 0))
+      → Stuffed s out₀ from (i + 1) at′ out′
   stuffed-more i at at′ out out′ h inv e d =
       let b = stuffByte (getD s i 0) in
       let done = stuff (take i s) in
@@ -159,7 +169,8 @@ flagless-byte : (b : ℕ) → flagless (stuffByte b) ≡ true
 unfolding noneOf
 flagless-byte b =
     by-bool (isStuffed b)
-    (λ y. let w = within-true 0xF0 0xF3 b y in ap flagless (stuffByte-yes b y) ∙ simp (lt-leb 0xF0 (b - 0xF0) (omega arith)))
+    (λ y. let w = within-true 0xF0 0xF3 b y in
+    ap flagless (stuffByte-yes b y) ∙ simp (lt-leb 0xF0 (b - 0xF0) (omega arith)))
     (λ n. ap flagless (stuffByte-no b n)
     ∙ by-bool (leb 0xF0 b)
     (λ y. let f : leb b 0xF3 ≡ false = simp y at n in
@@ -173,12 +184,14 @@ unfolding stuff noneOf
 flagless-stuff [] = refl
 flagless-stuff (b ∷ u) = none-append isFlag (stuffByte b) (stuff u) ∙ simp (flagless-byte b, flagless-stuff u)
 
-pub prepend-inv : (b : ℕ) (r : Unstuffed) (u : List ℕ) → prepend b r ≡ bytes u → (v : List ℕ) × (r ≡ bytes v) × (u ≡ b ∷ v)
+pub prepend-inv : (b : ℕ) (r : Unstuffed) (u : List ℕ) → prepend b r ≡ bytes u
+    → (v : List ℕ) × (r ≡ bytes v) × (u ≡ b ∷ v)
 unfolding prepend
 prepend-inv b badEscape u e = let z : _≡_ {A = ℕ} 0 1 = cc in absurd (omega arith)
 prepend-inv b (bytes v) u e = let q : u ≡ b ∷ v = cc in (v, refl, q)
 
-pub stuff-unstuff : (t : Bool) (s u : List ℕ) → unstuff t s ≡ bytes u → flagless s ≡ true → stuff u ≡ pick t (0xF3 ∷ s) s
+pub stuff-unstuff : (t : Bool) (s u : List ℕ) → unstuff t s ≡ bytes u → flagless s ≡ true
+    → stuff u ≡ pick t (0xF3 ∷ s) s
 unfolding unstuff stuff noneOf
 stuff-unstuff false [] u e h = let q : u ≡ [] = cc in ap stuff q
 stuff-unstuff true [] u e h = let z : _≡_ {A = ℕ} 0 1 = cc in absurd (omega arith)
@@ -199,7 +212,8 @@ stuff-unstuff true (x ∷ s) u e h =
     (λ y. let z = leb-true x 3 y in
     let p = prepend-inv (0xF0 + x) (unstuff false s) u (simp y at e) in
     let d : 0xF0 + x - 0xF0 ≡ x = omega arith in
-    ap stuff (p .2) ∙ ap (λ (l : List ℕ). l ++ stuff (p .0)) (stuffByte-yes (0xF0 + x) (within-yes 0xF0 0xF3 (0xF0 + x) (omega arith) (omega arith)))
+    ap stuff (p .2) ∙ ap (λ (l : List ℕ). l ++ stuff (p .0))
+    (stuffByte-yes (0xF0 + x) (within-yes 0xF0 0xF3 (0xF0 + x) (omega arith) (omega arith)))
     ∙ ap (λ (b : ℕ). 0xF3 ∷ b ∷ stuff (p .0)) d
     ∙ ap (λ (l : List ℕ). 0xF3 ∷ x ∷ l) (stuff-unstuff false s (p .0) (p .1) k))
     (λ m. let q : badEscape ≡ bytes u = simp m at e in
@@ -212,7 +226,8 @@ unfolding noneOf unstuff prepend
 unstuff-plain [] h = refl
 unstuff-plain (b ∷ s) h =
     by-bool (eqb b 0xF3)
-    (λ y. let e : b ≡ 0xF3 = eqb-true b 0xF3 y in absurd (true≢false (sym h ∙ simp (within-yes 0xF3 0xF3 b (omega arith) (omega arith)))))
+    (λ y. let e : b ≡ 0xF3 = eqb-true b 0xF3 y in
+    absurd (true≢false (sym h ∙ simp (within-yes 0xF3 0xF3 b (omega arith) (omega arith)))))
     (λ n. by-bool (within 0xF3 0xF3 b)
     (λ y. let w = within-true 0xF3 0xF3 b y in absurd (eqb-false b 0xF3 n (omega arith)))
     (λ m. simp (n, unstuff-plain s (simp m at h))))
@@ -228,19 +243,25 @@ unfolding unstuff unstuffedBytes
 unstuff-shrinks false [] = omega arith
 unstuff-shrinks true [] = omega arith
 unstuff-shrinks false (b ∷ s) =
-    by-bool (eqb b 0xF3) (λ y. simp y (omega (arith, unstuff-shrinks true s))) (λ n. simp n (omega (arith, prepend-length b (unstuff false s), unstuff-shrinks false s)))
+    by-bool (eqb b 0xF3) (λ y. simp y (omega (arith, unstuff-shrinks true s)))
+    (λ n. simp n (omega (arith, prepend-length b (unstuff false s), unstuff-shrinks false s)))
 unstuff-shrinks true (b ∷ s) =
-    by-bool (leb b 3) (λ y. simp y (omega (arith, prepend-length (0xF0 + b) (unstuff false s), unstuff-shrinks false s))) (λ n. simp n (omega arith))
+    by-bool (leb b 3) (λ y. simp y
+    (omega (arith, prepend-length (0xF0 + b) (unstuff false s), unstuff-shrinks false s))) (λ n. simp n (omega arith))
 
 -- and a list that it makes no shorter has no escape
-pub unstuff-same : (s : List ℕ) → length (unstuffedBytes (unstuff false s)) ≡ length s → unstuffedBytes (unstuff false s) ≡ s
+pub unstuff-same : (s : List ℕ) → length (unstuffedBytes (unstuff false s)) ≡ length s
+    → unstuffedBytes (unstuff false s) ≡ s
 unfolding unstuff unstuffedBytes prepend
 unstuff-same [] e = refl
 unstuff-same (b ∷ s) e =
     by-bool (eqb b 0xF3)
-    (λ y. let q : length (unstuffedBytes (unstuff true s)) ≡ suc (length s) = simp y at e in absurd (omega (arith, unstuff-shrinks true s)))
-    (λ n. let q : length (unstuffedBytes (prepend b (unstuff false s))) ≡ suc (length s) = simp n at e in simp n (keeps (unstuff false s) q (unstuff-same s)))
+    (λ y. let q : length (unstuffedBytes (unstuff true s)) ≡ suc (length s) = simp y at e in
+    absurd (omega (arith, unstuff-shrinks true s)))
+    (λ n. let q : length (unstuffedBytes (prepend b (unstuff false s))) ≡ suc (length s) = simp n at e in
+    simp n (keeps (unstuff false s) q (unstuff-same s)))
   where
-    keeps : (r : Unstuffed) → length (unstuffedBytes (prepend b r)) ≡ suc (length s) → (length (unstuffedBytes r) ≡ length s → unstuffedBytes r ≡ s) → unstuffedBytes (prepend b r) ≡ b ∷ s
+    keeps : (r : Unstuffed) → length (unstuffedBytes (prepend b r)) ≡ suc (length s)
+        → (length (unstuffedBytes r) ≡ length s → unstuffedBytes r ≡ s) → unstuffedBytes (prepend b r) ≡ b ∷ s
     keeps badEscape q f = absurd (omega arith)
     keeps (bytes u) q f = ap (λ (l : List ℕ). b ∷ l) (f (omega arith))

@@ -1,7 +1,9 @@
 -- Which verdict is given exactly when: document 01's table of refusals, and demand 2's "accepted exactly when".
 use Rattle.frame.specs.Frame.{contentsOf, Frame}
 use Rattle.frame.specs.Answers.{readAnswer, FrameOutline}
-use Rattle.frame.specs.Conditions.{ReadJudged, refusedBy, noRoom, fits, Terminated, WithinLimit, EscapesSound, Unstuffs, none, plain, escape, fewest, SoundFrame, Judged, truncated, long, badEscape as badEscapes, short, badSum, sound}
+use Rattle.frame.specs.Conditions.{ReadJudged, refusedBy, noRoom, fits, Terminated, WithinLimit, EscapesSound}
+use Rattle.frame.specs.Conditions.{Unstuffs, none, plain, escape, fewest, SoundFrame, Judged, truncated, long}
+use Rattle.frame.specs.Conditions.{badEscape as badEscapes, short, badSum, sound}
 use Rattle.framing.specs.Reference.{FlagFree}
 use Prim.Native.Nat.{ℕ, zero, suc, _+_, _≤_, _<_}
 use mathlib.Core.Path.{_≡_, refl, sym, ap, _∙_, subst}
@@ -18,12 +20,15 @@ use Rattle.lists.proofs.Tests.{none-at, at-none}
 use Rattle.frame.specs.Flags.{isFlag, flagless, kindOf}
 use Rattle.frame.specs.Stuffing.{Unstuffed, badEscape, bytes, prepend, unstuff}
 use Rattle.frame.specs.Checksum.{checksum}
-use Rattle.frame.specs.Verdict.{Verdict, addressCount, contentsIn, lastOf, frameIn, judge, bodyOf, isTerminated, verdict}
+use Rattle.frame.specs.Verdict.{Verdict, addressCount, contentsIn, lastOf, frameIn, judge, bodyOf, isTerminated}
+use Rattle.frame.specs.Verdict.{verdict}
 use Rattle.answer.specs.Answer.{result, refused, Answer}
 use Rattle.frame.specs.declared.Kind.{Kind}
 use Rattle.frame.specs.declared.Kind.the-variants.{Standard, Extended}
 use Rattle.frame.proofs.StuffingLaws.{prepend-inv}
-use Rattle.frame.proofs.VerdictLaws.{whole-length, whole-terminated, whole-verdict, terminated-means, terminated-whole, verdict-truncated, judge-long, judge-escape, judge-short, judge-sum, judge-sound}
+use Rattle.frame.proofs.VerdictLaws.{whole-length, whole-terminated, whole-verdict, terminated-means}
+use Rattle.frame.proofs.VerdictLaws.{terminated-whole, verdict-truncated, judge-long, judge-escape, judge-short}
+use Rattle.frame.proofs.VerdictLaws.{judge-sum, judge-sound}
 use Rattle.frame.proofs.FlagLaws.{flagless-free, free-flagless}
 
 -- ---- the conditions, and what the definitions compute
@@ -43,11 +48,13 @@ bytes-unstuffs false (x ∷ s) u e =
     by-bool (eqb x 0xF3)
     (λ y. subst (λ (b : ℕ). Unstuffs (b ∷ s) u) (sym (eqb-true x 0xF3 y)) (bytes-unstuffs true s u (simp y at e)))
     (λ n. let p = prepend-inv x (unstuff false s) u (simp n at e) in
-    subst (λ (v : List ℕ). Unstuffs (x ∷ s) v) (sym (p .2)) (plain (eqb-false x 0xF3 n) (bytes-unstuffs false s (p .0) (p .1))))
+    subst (λ (v : List ℕ). Unstuffs (x ∷ s) v) (sym (p .2))
+    (plain (eqb-false x 0xF3 n) (bytes-unstuffs false s (p .0) (p .1))))
 bytes-unstuffs true (x ∷ s) u e =
     by-bool (leb x 3)
     (λ y. let p = prepend-inv (0xF0 + x) (unstuff false s) u (simp y at e) in
-    subst (λ (v : List ℕ). Unstuffs (0xF3 ∷ x ∷ s) v) (sym (p .2)) (escape (leb-true x 3 y) (bytes-unstuffs false s (p .0) (p .1))))
+    subst (λ (v : List ℕ). Unstuffs (0xF3 ∷ x ∷ s) v) (sym (p .2))
+    (escape (leb-true x 3 y) (bytes-unstuffs false s (p .0) (p .1))))
     (λ m. let q : badEscape ≡ bytes u = simp m at e in
     let z : _≡_ {A = ℕ} 0 1 = cc in absurd (omega arith))
 
@@ -59,7 +66,8 @@ after-cons b s i = let e : suc i + 1 ≡ suc (i + 1) = omega arith in ap (λ (n 
 unstuffs-sound : {s u : List ℕ} → Unstuffs s u → EscapesSound s
 unstuffs-sound none i h e = absurd (omega arith)
 unstuffs-sound (plain n r) zero h e = absurd (n e)
-unstuffs-sound (plain {b = b} {s = s} n r) (suc i) h e = let q = unstuffs-sound r i (omega arith) e in (omega (arith, q .0), omega (arith, q .1, after-cons b s i))
+unstuffs-sound (plain {b = b} {s = s} n r) (suc i) h e =
+    let q = unstuffs-sound r i (omega arith) e in (omega (arith, q .0), omega (arith, q .1, after-cons b s i))
 unstuffs-sound (escape k r) zero h e = (omega arith, k)
 unstuffs-sound (escape k r) (suc zero) h e = absurd (omega arith)
 unstuffs-sound (escape {k = k} {s = s} l r) (suc (suc i)) h e =
@@ -77,9 +85,13 @@ sound-unstuffs (b ∷ []) h =
 sound-unstuffs (b ∷ k ∷ s) h =
     by-bool (eqb b 0xF3)
     (λ y. let low : k ≤ 3 = h 0 (omega arith) (eqb-true b 0xF3 y) .1 in
-    let r = sound-unstuffs s (λ i l e. let q = h (suc (suc i)) (omega arith) e in (omega (arith, q .0), omega (arith, q .1, after-cons b (k ∷ s) (suc i), after-cons k s i))) in
+    let r = sound-unstuffs s
+    (λ i l e. let q = h (suc (suc i)) (omega arith) e in
+    (omega (arith, q .0), omega (arith, q .1, after-cons b (k ∷ s) (suc i), after-cons k s i))) in
     ((0xF0 + k) ∷ r .0, simp (y, le-leb k 3 low, r .1)))
-    (λ n. let r = sound-unstuffs (k ∷ s) (λ i l e. let q = h (suc i) (omega arith) e in (omega (arith, q .0), omega (arith, q .1, after-cons b (k ∷ s) i))) in
+    (λ n. let r = sound-unstuffs (k ∷ s)
+    (λ i l e. let q = h (suc i) (omega arith) e in (omega (arith, q .0), omega (arith, q .1, after-cons b (k ∷ s) i)))
+    in
     (b ∷ r .0, (simp n) ∙ ap (prepend b) (r .1)))
 
 pub fewest-is : (kind : Kind) → fewest kind ≡ addressCount kind + 1
@@ -88,7 +100,12 @@ fewest-is Extended = refl
 
 terminated-of : (w : List ℕ) → isTerminated w ≡ true → Terminated w
 terminated-of w h =
-    record { kind = kindOf (getD w 0 0); body = bodyOf w; shape = terminated-whole w h; inside = flagless-free (bodyOf w) (terminated-means w h .4) }
+    record {
+      kind = kindOf (getD w 0 0);
+      body = bodyOf w;
+      shape = terminated-whole w h;
+      inside = flagless-free (bodyOf w) (terminated-means w h .4);
+    }
 
 -- ---- the verdict on a terminated candidate
 
@@ -97,7 +114,8 @@ module _ (w : List ℕ) (t : Terminated w) where
   long-as = ap length (t .shape) ∙ whole-length (t .kind) (t .body)
 
   is-terminated : isTerminated w ≡ true
-  is-terminated = ap isTerminated (t .shape) ∙ whole-terminated (t .kind) (t .body) (free-flagless (t .body) (t .inside))
+  is-terminated =
+      ap isTerminated (t .shape) ∙ whole-terminated (t .kind) (t .body) (free-flagless (t .body) (t .inside))
 
   of-body : verdict w ≡ judge (t .kind) (t .body)
   of-body = ap verdict (t .shape) ∙ whole-verdict (t .kind) (t .body) (free-flagless (t .body) (t .inside))
@@ -106,9 +124,11 @@ module _ (w : List ℕ) (t : Terminated w) where
 
 -- what the table says is the verdict
 table-verdict : (w : List ℕ) (v : Verdict) → Judged w v → verdict w ≡ v
-table-verdict w v (truncated n) = by-bool (isTerminated w) (λ y. absurd (n (terminated-of w y))) (λ y. verdict-truncated w y)
+table-verdict w v (truncated n) =
+    by-bool (isTerminated w) (λ y. absurd (n (terminated-of w y))) (λ y. verdict-truncated w y)
 table-verdict w v (long t n) =
-    of-body w t ∙ by-bool (leb (length w) 120) (λ y. absurd (n (leb-true _ _ y))) (λ y. judge-long (t .kind) (t .body) (omega (arith, long-as w t, leb-false (length w) 120 y)))
+    of-body w t ∙ by-bool (leb (length w) 120) (λ y. absurd (n (leb-true _ _ y)))
+    (λ y. judge-long (t .kind) (t .body) (omega (arith, long-as w t, leb-false (length w) 120 y)))
 table-verdict w v (badEscapes t l n) =
     of-body w t ∙ judge-escape (t .kind) (t .body) (omega (arith, long-as w t)) (bad (unstuff false (t .body)) refl)
   where
@@ -118,13 +138,16 @@ table-verdict w v (badEscapes t l n) =
 table-verdict w v (short t u l e x n) =
     of-body w t
     ∙ judge-short (t .kind) (t .body) (omega (arith, long-as w t)) u (unstuffs-bytes x)
-    (by-bool (leb (fewest (t .kind)) (length u)) (λ y. absurd (n (leb-true _ _ y))) (λ y. omega (arith, leb-false (fewest (t .kind)) (length u) y, fewest-is (t .kind))))
+    (by-bool (leb (fewest (t .kind)) (length u)) (λ y. absurd (n (leb-true _ _ y)))
+    (λ y. omega (arith, leb-false (fewest (t .kind)) (length u) y, fewest-is (t .kind))))
 table-verdict w v (badSum t u l e x k n) =
-    of-body w t ∙ judge-sum (t .kind) (t .body) (omega (arith, long-as w t)) u (unstuffs-bytes x) (omega (arith, k, fewest-is (t .kind))) n
+    of-body w t ∙ judge-sum (t .kind) (t .body) (omega (arith, long-as w t)) u (unstuffs-bytes x)
+    (omega (arith, k, fewest-is (t .kind))) n
 table-verdict w v (sound f s) =
     let t = s .candidate in
     of-body w t
-    ∙ judge-sound (t .kind) (t .body) (omega (arith, long-as w t, s .limit)) (s .unstuffed) (unstuffs-bytes (s .unstuffs)) (omega (arith, s .enough, fewest-is (t .kind))) (s .sum)
+    ∙ judge-sound (t .kind) (t .body) (omega (arith, long-as w t, s .limit)) (s .unstuffed)
+    (unstuffs-bytes (s .unstuffs)) (omega (arith, s .enough, fewest-is (t .kind))) (s .sum)
     ∙ ap result (sym (s .frame))
 
 -- every slice has a line of the table
@@ -137,10 +160,12 @@ some-line w =
     (λ l. (refused 2, long t (λ k. absurd (omega (arith, k, leb-false (length w) 120 l))))))
     (λ y. (refused 6, truncated (λ t. true≢false (sym (is-terminated w t) ∙ y))))
   where
-    line : (t : Terminated w) → WithinLimit w → (r : Unstuffed) → unstuff false (t .body) ≡ r → (v : Verdict) × Judged w v
+    line : (t : Terminated w) → WithinLimit w → (r : Unstuffed) → unstuff false (t .body) ≡ r
+        → (v : Verdict) × Judged w v
     line t l badEscape e = (
       refused 3,
-      badEscapes t l (λ x. let q : badEscape ≡ bytes (sound-unstuffs (t .body) x .0) = sym e ∙ sound-unstuffs (t .body) x .1 in
+      badEscapes t l (λ x. let q : badEscape ≡ bytes (sound-unstuffs (t .body) x .0) = sym e
+          ∙ sound-unstuffs (t .body) x .1 in
           let z : _≡_ {A = ℕ} 0 1 = cc in omega arith),
     )
     line t l (bytes u) e =
@@ -151,12 +176,22 @@ some-line w =
         (λ q. (
           result (frameIn (t .kind) u),
           sound (frameIn (t .kind) u)
-              (record { candidate = t; limit = l; escapes = g; unstuffed = u; unstuffs = x; enough = leb-true _ _ k; sum = eqb-true _ _ q; frame = refl }),
+              (record {
+                candidate = t;
+                limit = l;
+                escapes = g;
+                unstuffed = u;
+                unstuffs = x;
+                enough = leb-true _ _ k;
+                sum = eqb-true _ _ q;
+                frame = refl;
+              }),
         ))
         (λ q. (refused 5, badSum t u l g x (leb-true _ _ k) (eqb-false _ _ q))))
         (λ k. (refused 4, short t u l g x (λ m. absurd (omega (arith, m, leb-false (fewest (t .kind)) (length u) k)))))
 
--- Every verdict is given exactly when the table gives it: a refusal where the rule that it names fails and all before it hold.
+-- Every verdict is given exactly when the table gives it: a refusal where the rule that it names fails and all before
+-- it hold.
 pub verdict-by-table : (w : List ℕ) (v : Verdict) → (verdict w ≡ v → Judged w v) × (Judged w v → verdict w ≡ v)
 verdict-by-table w v = (
   (λ e. let l = some-line w in subst (λ (x : Verdict). Judged w x) (sym (table-verdict w (l .0) (l .1)) ∙ e) (l .1)),
@@ -164,8 +199,10 @@ verdict-by-table w v = (
 )
 
 -- Accepted exactly when every condition holds, and then as that frame.
-pub accepted-exactly : (w : List ℕ) (f : Frame) → (verdict w ≡ result f → SoundFrame w f) × (SoundFrame w f → verdict w ≡ result f)
-accepted-exactly w f = ((λ e. found (result f) (verdict-by-table w (result f) .0 e) f refl), (λ s. table-verdict w (result f) (sound f s)))
+pub accepted-exactly : (w : List ℕ) (f : Frame)
+    → (verdict w ≡ result f → SoundFrame w f) × (SoundFrame w f → verdict w ≡ result f)
+accepted-exactly w f =
+    ((λ e. found (result f) (verdict-by-table w (result f) .0 e) f refl), (λ s. table-verdict w (result f) (sound f s)))
   where
     found : (v : Verdict) → Judged w v → (f : Frame) → v ≡ result f → SoundFrame w f
     found v (truncated n) f e = let z : _≡_ {A = ℕ} 0 1 = cc in absurd (omega arith)
@@ -189,12 +226,16 @@ told-by w room (result f) j =
 by-told : (w : List ℕ) (room : ℕ) (a : Answer FrameOutline) → ReadJudged w room a → readAnswer (verdict w) room ≡ a
 unfolding readAnswer
 by-told w room a (refusedBy {n = n} j) = ap (λ (v : Verdict). readAnswer v room) (table-verdict w (refused n) j)
-by-told w room a (noRoom {f = f} s h) = ap (λ (v : Verdict). readAnswer v room) (accepted-exactly w f .1 s) ∙ simp (lt-leb (length (contentsOf f)) room h)
-by-told w room a (fits {f = f} s h) = ap (λ (v : Verdict). readAnswer v room) (accepted-exactly w f .1 s) ∙ simp (le-leb (length (contentsOf f)) room h)
+by-told w room a (noRoom {f = f} s h) =
+    ap (λ (v : Verdict). readAnswer v room) (accepted-exactly w f .1 s) ∙ simp (lt-leb (length (contentsOf f)) room h)
+by-told w room a (fits {f = f} s h) =
+    ap (λ (v : Verdict). readAnswer v room) (accepted-exactly w f .1 s) ∙ simp (le-leb (length (contentsOf f)) room h)
 
 -- Every answer to reading a slice is given exactly when the table gives it, 1 included.
-pub read-by-table : (w : List ℕ) (room : ℕ) (a : Answer FrameOutline) → (readAnswer (verdict w) room ≡ a → ReadJudged w room a) × (ReadJudged w room a → readAnswer (verdict w) room ≡ a)
+pub read-by-table : (w : List ℕ) (room : ℕ) (a : Answer FrameOutline)
+    → (readAnswer (verdict w) room ≡ a → ReadJudged w room a) × (ReadJudged w room a → readAnswer (verdict w) room ≡ a)
 read-by-table w room a = (
-  (λ e. subst (λ (x : Answer FrameOutline). ReadJudged w room x) e (told-by w room (verdict w) (verdict-by-table w (verdict w) .0 refl))),
+  (λ e. subst (λ (x : Answer FrameOutline). ReadJudged w room x) e
+      (told-by w room (verdict w) (verdict-by-table w (verdict w) .0 refl))),
   by-told w room a,
 )

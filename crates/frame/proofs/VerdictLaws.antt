@@ -17,11 +17,13 @@ use Rattle.frame.specs.Flags.{isFlag, flagless, kindOf, startFlag}
 use Rattle.frame.specs.Stuffing.{isStuffed, Unstuffed, badEscape, bytes, prepend, unstuff}
 use Rattle.frame.specs.Checksum.{sumFrom, checksum}
 use Rattle.frame.specs.Frame.{Frame, contentsOf}
-use Rattle.frame.specs.Verdict.{Verdict, addressCount, contentsIn, lastOf, frameIn, judgeBytes, judge, bodyOf, isTerminated, verdict}
+use Rattle.frame.specs.Verdict.{Verdict, addressCount, contentsIn, lastOf, frameIn, judgeBytes, judge, bodyOf}
+use Rattle.frame.specs.Verdict.{isTerminated, verdict}
 use Rattle.answer.specs.Answer.{result, refused}
 use Rattle.answer.specs.Draft.{draftOut}
 use Rattle.frame.specs.Answers.{outlineOf, judgeAnswer, readAnswer, readOut}
-use Rattle.frame.specs.Private.{isBounded, frameOf, headerKind, headed, readAs, scanFrom, unstuffedBytes, SoundAt, Unescaped, UnescapedAfter, Examines, judgeWhole, ExaminesWhole}
+use Rattle.frame.specs.Private.{isBounded, frameOf, headerKind, headed, readAs, scanFrom, unstuffedBytes, SoundAt}
+use Rattle.frame.specs.Private.{Unescaped, UnescapedAfter, Examines, judgeWhole, ExaminesWhole}
 use Rattle.frame.specs.declared.Kind.{Kind}
 use Rattle.frame.specs.declared.Kind.the-variants.{Standard, Extended}
 use Rattle.frame.specs.declared.Header.{Header}
@@ -53,7 +55,14 @@ module _ (kind : Kind) (body : List ℕ) where
   unfolding isTerminated
   whole-terminated f =
       let b = start-between kind in
-      simp (le-leb 2 (length (whole kind body)) (omega (arith, whole-length)), within-yes 0xF0 0xF1 (startFlag kind) (b .0) (b .1), eq-eqb (lastOf (whole kind body)) 0xF2 whole-stop, whole-body, f)
+      simp (
+        le-leb 2 (length (whole kind body)) (omega (arith, whole-length)),
+        within-yes 0xF0 0xF1 (startFlag kind)
+            (b .0) (b .1),
+        eq-eqb (lastOf (whole kind body)) 0xF2 whole-stop,
+        whole-body,
+        f,
+      )
 
   -- the verdict on such a list is the one on its body
   pub whole-verdict : flagless body ≡ true → verdict (whole kind body) ≡ judge kind body
@@ -80,7 +89,8 @@ terminated-whole w h =
     ∙ ap (λ (t : List ℕ). getD w 0 0 ∷ t)
     (sym (take-all (suc (length w - 2)) (drop 1 w) (omega arith))
     ∙ take-suc (drop 1 w) (length w - 2) 0 (omega arith)
-    ∙ ap (λ (b : ℕ). bodyOf w ++ (b ∷ [])) (getD-drop 1 w (length w - 2) 0 ∙ ap (λ (i : ℕ). getD w i 0) last-index ∙ m .3))
+    ∙ ap (λ (b : ℕ). bodyOf w ++ (b ∷ []))
+    (getD-drop 1 w (length w - 2) 0 ∙ ap (λ (i : ℕ). getD w i 0) last-index ∙ m .3))
     ∙ ap (λ (b : ℕ). b ∷ bodyOf w ++ (0xF2 ∷ [])) (sym (start-kind (getD w 0 0) (m .1) (m .2)))
   where
     last-index : 1 + (length w - 2) ≡ length w - 1
@@ -90,7 +100,8 @@ pub verdict-truncated : (w : List ℕ) → isTerminated w ≡ false → verdict 
 unfolding verdict
 verdict-truncated w h = simp h
 
--- a slice is truncated where it lacks a start flag first or the stop flag last, and else where a flag stands between them
+-- a slice is truncated where it lacks a start flag first or the stop flag last, and else where a flag stands between
+-- them
 pub bounded-no : (w : List ℕ) → isBounded w ≡ false → verdict w ≡ refused 6
 unfolding isBounded isTerminated verdict
 bounded-no w h =
@@ -132,13 +143,27 @@ module _ (kind : Kind) (body : List ℕ) (limit : length body ≤ 118) where
     unfolding judgeBytes
     judge-short h = judge-bytes ∙ ap (judgeBytes kind) e ∙ simp (lt-leb (addressCount kind + 1) (length u) h)
 
-    pub judge-sum : addressCount kind + 1 ≤ length u → (lastOf u ≡ checksum (contentsIn (addressCount kind) u) → ⊥) → judge kind body ≡ refused 5
+    pub judge-sum : addressCount kind + 1 ≤ length u → (lastOf u ≡ checksum (contentsIn (addressCount kind) u) → ⊥)
+        → judge kind body ≡ refused 5
     unfolding judgeBytes
-    judge-sum h n = judge-bytes ∙ ap (judgeBytes kind) e ∙ simp (le-leb (addressCount kind + 1) (length u) h, ne-eqb (lastOf u) (checksum (contentsIn (addressCount kind) u)) n)
+    judge-sum h n =
+        judge-bytes ∙ ap (judgeBytes kind) e
+        ∙ simp (
+          le-leb (addressCount kind + 1) (length u) h,
+          ne-eqb (lastOf u)
+              (checksum (contentsIn (addressCount kind) u)) n,
+        )
 
-    pub judge-sound : addressCount kind + 1 ≤ length u → lastOf u ≡ checksum (contentsIn (addressCount kind) u) → judge kind body ≡ result (frameIn kind u)
+    pub judge-sound : addressCount kind + 1 ≤ length u → lastOf u ≡ checksum (contentsIn (addressCount kind) u)
+        → judge kind body ≡ result (frameIn kind u)
     unfolding judgeBytes
-    judge-sound h q = judge-bytes ∙ ap (judgeBytes kind) e ∙ simp (le-leb (addressCount kind + 1) (length u) h, eq-eqb (lastOf u) (checksum (contentsIn (addressCount kind) u)) q)
+    judge-sound h q =
+        judge-bytes ∙ ap (judgeBytes kind) e
+        ∙ simp (
+          le-leb (addressCount kind + 1) (length u) h,
+          eq-eqb (lastOf u)
+              (checksum (contentsIn (addressCount kind) u)) q,
+        )
 
 -- ---- the verdict on the bytes after the addresses
 
@@ -166,12 +191,14 @@ under-drop Plain v = refl
 under-drop (Addressed to from) v = refl
 
 -- the frame of a header's addresses, contents and a checksum
-under-frame : (h : Header) (v : List ℕ) → 1 ≤ length v → frameIn (headerKind h) (under h v) ≡ frameOf h (contentsIn (addressCount (headerKind h)) (under h v))
+under-frame : (h : Header) (v : List ℕ) → 1 ≤ length v
+    → frameIn (headerKind h) (under h v) ≡ frameOf h (contentsIn (addressCount (headerKind h)) (under h v))
 unfolding frameIn
 under-frame Plain v l = refl
 under-frame (Addressed to from) v l = refl
 
-module _ (h : Header) (body : List ℕ) (next : ℕ) (limit : length body ≤ 118) (here : unstuff false body ≡ headed h (unstuff false (drop next body))) where
+module _ (h : Header) (body : List ℕ) (next : ℕ) (limit : length body ≤ 118)
+    (here : unstuff false body ≡ headed h (unstuff false (drop next body))) where
   pub rest-escape : scanFrom 0 0 (unstuff false (drop next body)) ≡ Fault → judge (headerKind h) body ≡ refused 3
   unfolding scanFrom
   rest-escape e = judge-escape (headerKind h) body limit (here ∙ bad (unstuff false (drop next body)) e)
@@ -189,7 +216,8 @@ module _ (h : Header) (body : List ℕ) (next : ℕ) (limit : length body ≤ 11
     unfolding rest scanFrom unstuffedBytes
     scanned = split (unstuff false (drop next body)) e
       where
-        split : (r : Unstuffed) → Good len sum ≡ scanFrom 0 0 r → (r ≡ bytes (unstuffedBytes r)) × (len ≡ length (unstuffedBytes r)) × (sum ≡ checksum (unstuffedBytes r))
+        split : (r : Unstuffed) → Good len sum ≡ scanFrom 0 0 r
+            → (r ≡ bytes (unstuffedBytes r)) × (len ≡ length (unstuffedBytes r)) × (sum ≡ checksum (unstuffedBytes r))
         split badEscape e = let z : _≡_ {A = ℕ} 0 1 = cc in absurd (omega arith)
         split (bytes u) e =
             let l : len ≡ 0 + length u = cc in
@@ -200,7 +228,8 @@ module _ (h : Header) (body : List ℕ) (next : ℕ) (limit : length body ≤ 11
     all = here ∙ ap (headed h) (scanned .0) ∙ headed-bytes h rest
 
     pub rest-short : len < 1 → judge (headerKind h) body ≡ refused 4
-    rest-short k = judge-short (headerKind h) body limit (under h rest) all (omega (arith, under-length h rest, scanned .1))
+    rest-short k =
+        judge-short (headerKind h) body limit (under h rest) all (omega (arith, under-length h rest, scanned .1))
 
     module _ (k : 1 ≤ len) where
       abbrev skip : ℕ
@@ -213,7 +242,9 @@ module _ (h : Header) (body : List ℕ) (next : ℕ) (limit : length body ≤ 11
       summed = scanned .2 ∙ ap checksum (sym (under-drop h rest))
 
       pub rest-sum : (sum ≡ 0 → ⊥) → judge (headerKind h) body ≡ refused 5
-      rest-sum n = judge-sum (headerKind h) body limit (under h rest) all (omega (arith, long)) (sum-wrong skip (under h rest) long (λ q. n (summed ∙ q)))
+      rest-sum n =
+          judge-sum (headerKind h) body limit (under h rest) all (omega (arith, long))
+          (sum-wrong skip (under h rest) long (λ q. n (summed ∙ q)))
 
       pub rest-sound : sum ≡ 0 → next ≤ length body → SoundAt (headerKind h) body h next (len - 1)
       unfolding frameIn
@@ -224,7 +255,9 @@ module _ (h : Header) (body : List ℕ) (next : ℕ) (limit : length body ≤ 11
           sym (under-drop h rest) ∙ contents-last skip (under h rest) long ∙ ap (λ (b : ℕ). c ++ (b ∷ [])) right in
           record {
             contents = c;
-            judged = judge-sound (headerKind h) body limit (under h rest) all (omega (arith, long)) right ∙ ap result (under-frame h rest (omega (arith, scanned .1)));
+            judged =
+                judge-sound (headerKind h) body limit (under h rest) all (omega (arith, long)) right
+                ∙ ap result (under-frame h rest (omega (arith, scanned .1)));
             counted = omega (arith, ap length parts, length-append c (checksum c ∷ []), scanned .1);
             follows = scanned .0 ∙ ap bytes parts;
             inside = inside;
@@ -235,7 +268,8 @@ module _ (h : Header) (body : List ℕ) (next : ℕ) (limit : length body ≤ 11
 pub whole-judged : (kind : Kind) (body : List ℕ) → flagless body ≡ true → judgeWhole kind body ≡ judge kind body
 whole-judged kind body f = simp f
 
-pub whole-examined : (kind : Kind) (body : List ℕ) → flagless body ≡ true → (x : Examined) → Examines kind body x → ExaminesWhole kind body x
+pub whole-examined : (kind : Kind) (body : List ℕ) → flagless body ≡ true → (x : Examined) → Examines kind body x
+    → ExaminesWhole kind body x
 whole-examined kind body f (Unsound why) e = whole-judged kind body f ∙ e
 whole-examined kind body f (Sound header start len) e = (f, e)
 
@@ -243,51 +277,69 @@ whole-examined kind body f (Sound header start len) e = (f, e)
 module _ (body : List ℕ) (sum : ℕ) (p : Unescaped body sum) where
   escapeless : noneOf (within 0xF3 0xF3) body ≡ true
   escapeless =
-      none-stronger isStuffed (within 0xF3 0xF3) (λ x y. let w = within-true 0xF3 0xF3 x y in within-yes 0xF0 0xF3 x (omega arith) (omega arith)) body (p .clear)
+      none-stronger isStuffed (within 0xF3 0xF3)
+      (λ x y. let w = within-true 0xF3 0xF3 x y in within-yes 0xF0 0xF3 x (omega arith) (omega arith)) body (p .clear)
 
   pub plain-whole : (kind : Kind) → judge kind body ≡ judgeWhole kind body
   plain-whole kind =
-      sym (whole-judged kind body (none-stronger isStuffed isFlag (λ x y. let w = within-true 0xF0 0xF2 x y in within-yes 0xF0 0xF3 x (omega arith) (omega arith)) body (p .clear)))
+      sym (whole-judged kind body
+      (none-stronger isStuffed isFlag
+      (λ x y. let w = within-true 0xF0 0xF2 x y in within-yes 0xF0 0xF3 x (omega arith) (omega arith)) body (p .clear)))
 
   pub plain-standard : UnescapedAfter Plain body 0 sum
-  plain-standard = record { limit = p .limit; clear = escapeless; inside = omega arith; addressed = refl; summed = p .summed }
+  plain-standard =
+      record { limit = p .limit; clear = escapeless; inside = omega arith; addressed = refl; summed = p .summed }
 
   pub plain-short : length body < 2 → judge Extended body ≡ refused 4
   plain-short h = judge-short Extended body (p .limit) body (unstuff-plain body escapeless) (omega arith)
 
-  pub plain-extended : 2 ≤ length body → (to from : ℕ) → to ≡ getD body 0 0 → from ≡ getD body 1 0 → UnescapedAfter (Addressed to from) body 2 (bitXor sum (bitXor to from))
+  pub plain-extended : 2 ≤ length body → (to from : ℕ) → to ≡ getD body 0 0 → from ≡ getD body 1 0
+      → UnescapedAfter (Addressed to from) body 2 (bitXor sum (bitXor to from))
   unfolding prepend
   plain-extended h to from t f =
       let rest = drop 2 body in
-      let parts : body ≡ to ∷ from ∷ rest = drop-two body 0 (omega arith) ∙ ap (λ (b : ℕ). b ∷ getD body 1 0 ∷ rest) (sym t) ∙ ap (λ (b : ℕ). to ∷ b ∷ rest) (sym f) in
+      let parts : body ≡ to ∷ from ∷ rest =
+      drop-two body 0 (omega arith) ∙ ap (λ (b : ℕ). b ∷ getD body 1 0 ∷ rest) (sym t)
+      ∙ ap (λ (b : ℕ). to ∷ b ∷ rest) (sym f) in
       let clear-rest = unstuff-plain rest (none-drop (within 0xF3 0xF3) 2 body escapeless) in
       record {
         limit = p .limit;
         clear = escapeless;
         inside = h;
-        addressed = unstuff-plain body escapeless ∙ ap bytes parts ∙ sym (ap (λ (r : Unstuffed). prepend to (prepend from r)) clear-rest);
+        addressed =
+            unstuff-plain body escapeless ∙ ap bytes parts
+            ∙ sym (ap (λ (r : Unstuffed). prepend to (prepend from r)) clear-rest);
         summed = ap (λ (n : ℕ). bitXor n (bitXor to from)) (p .summed ∙ ap checksum parts) ∙ sum-after to from rest;
       }
 
 -- and the addresses of which are known
 module _ (header : Header) (body : List ℕ) (start sum : ℕ) (p : UnescapedAfter header body start sum) where
   after-scan : Good (length body - start) sum ≡ scanFrom 0 0 (unstuff false (drop start body))
-  after-scan = scan-as-is (drop start body) (none-drop (within 0xF3 0xF3) start body (p .clear)) (length body - start) sum (sym (length-drop start body)) (p .summed)
+  after-scan =
+      scan-as-is (drop start body) (none-drop (within 0xF3 0xF3) start body (p .clear)) (length body - start) sum
+      (sym (length-drop start body)) (p .summed)
 
   pub after-short : length body ≤ start → judge (headerKind header) body ≡ refused 4
-  after-short h = rest-short header body start (p .limit) (p .addressed) (length body - start) sum after-scan (omega arith)
+  after-short h =
+      rest-short header body start (p .limit) (p .addressed) (length body - start) sum after-scan (omega arith)
 
   module _ (h : start < length body) where
     pub after-sum : (sum ≡ 0 → ⊥) → judge (headerKind header) body ≡ refused 5
-    after-sum n = rest-sum header body start (p .limit) (p .addressed) (length body - start) sum after-scan (omega arith) n
+    after-sum n =
+        rest-sum header body start (p .limit) (p .addressed) (length body - start) sum after-scan (omega arith) n
 
     pub after-sound : sum ≡ 0 → SoundAt (headerKind header) body header start (length body - start - 1)
-    after-sound z = rest-sound header body start (p .limit) (p .addressed) (length body - start) sum after-scan (omega arith) z (p .inside)
+    after-sound z =
+        rest-sound header body start (p .limit) (p .addressed) (length body - start) sum after-scan (omega arith) z
+        (p .inside)
 
     -- the contents are the bytes after the addresses, without the last
     pub after-length : length (unstuffedBytes (unstuff false (drop start body))) ≡ length body - start - 1 + 1
     unfolding unstuffedBytes
-    after-length = ap (λ (r : Unstuffed). length (unstuffedBytes r)) (unstuff-plain (drop start body) (none-drop (within 0xF3 0xF3) start body (p .clear))) ∙ omega (arith, length-drop start body)
+    after-length =
+        ap (λ (r : Unstuffed). length (unstuffedBytes r))
+        (unstuff-plain (drop start body) (none-drop (within 0xF3 0xF3) start body (p .clear)))
+        ∙ omega (arith, length-drop start body)
 
 -- ---- the answers of a reader and of a judge
 
@@ -308,9 +360,11 @@ pub judge-accepted : (v : Verdict) (f : Frame) → v ≡ result f → result (ou
 unfolding judgeAnswer
 judge-accepted v f e = ap judgeAnswer (sym e)
 
-pub answer-refused : (v : Verdict) (n : ℕ) (out : List ℕ) → v ≡ refused n → (refused n ≡ readAnswer v (length out)) × (out ≡ readOut v out)
+pub answer-refused : (v : Verdict) (n : ℕ) (out : List ℕ) → v ≡ refused n
+    → (refused n ≡ readAnswer v (length out)) × (out ≡ readOut v out)
 unfolding readAnswer readOut draftOut
-answer-refused v n out e = (ap (λ (x : Verdict). readAnswer x (length out)) (sym e), ap (λ (x : Verdict). readOut x out) (sym e))
+answer-refused v n out e =
+    (ap (λ (x : Verdict). readAnswer x (length out)) (sym e), ap (λ (x : Verdict). readOut x out) (sym e))
 
 pub answer-no-room : (v : Verdict) (f : Frame) (out : List ℕ) → v ≡ result f → length out < length (contentsOf f)
     → (refused 1 ≡ readAnswer v (length out)) × (out ≡ readOut v out)
@@ -321,7 +375,8 @@ answer-no-room v f out e h = (
 )
 
 pub answer-done : (v : Verdict) (f : Frame) (out : List ℕ) → v ≡ result f → length (contentsOf f) ≤ length out
-    → (result (outlineOf f) ≡ readAnswer v (length out)) × (contentsOf f ++ drop (length (contentsOf f)) out ≡ readOut v out)
+    → (result (outlineOf f) ≡ readAnswer v (length out))
+    × (contentsOf f ++ drop (length (contentsOf f)) out ≡ readOut v out)
 unfolding readAnswer readOut draftOut
 answer-done v f out e h = (
   (simp (le-leb (length (contentsOf f)) (length out) h)) ∙ ap (λ (x : Verdict). readAnswer x (length out)) (sym e),

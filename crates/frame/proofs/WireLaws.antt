@@ -24,14 +24,16 @@ tail c = stuff c ++ (stuffByte (checksum c) ++ (0xF2 ∷ []))
 
 stuff-tail : (c : List ℕ) → stuff (c ++ (checksum c ∷ [])) ++ (0xF2 ∷ []) ≡ tail c
 stuff-tail c =
-    ap (λ (l : List ℕ). l ++ (0xF2 ∷ [])) (stuff-append c (checksum c ∷ []) ∙ ap (λ (l : List ℕ). stuff c ++ l) (stuff-one (checksum c)))
+    ap (λ (l : List ℕ). l ++ (0xF2 ∷ []))
+    (stuff-append c (checksum c ∷ []) ∙ ap (λ (l : List ℕ). stuff c ++ l) (stuff-one (checksum c)))
     ∙ append-assoc (stuff c) (stuffByte (checksum c)) (0xF2 ∷ [])
 
 stuff-two : (a b : ℕ) → stuff (a ∷ b ∷ []) ≡ stuffByte a ++ stuffByte b
 unfolding stuff
 stuff-two a b = ap (λ (l : List ℕ). stuffByte a ++ l) (append-nil (stuffByte b))
 
-pub wire-parts : (h : Header) (c : List ℕ) → wireOf (frameOf h c) ≡ headerWire h ++ (stuff c ++ (stuffByte (checksum c) ++ (0xF2 ∷ [])))
+pub wire-parts : (h : Header) (c : List ℕ)
+    → wireOf (frameOf h c) ≡ headerWire h ++ (stuff c ++ (stuffByte (checksum c) ++ (0xF2 ∷ [])))
 unfolding wireOf payload addressesOf contentsOf
 wire-parts Plain c = ap (λ (l : List ℕ). 0xF1 ∷ l) (stuff-tail c)
 wire-parts (Addressed to from) c =
@@ -48,7 +50,8 @@ wire-length h c = ap length (wire-parts h c) ∙ simp length-append (omega arith
 -- a header takes one to five bytes
 pub header-between : (h : Header) → (1 ≤ length (headerWire h)) × (length (headerWire h) ≤ 5)
 header-between Plain = omega arith
-header-between (Addressed to from) = omega (arith, length-append (stuffByte to) (stuffByte from), stuffByte-between to, stuffByte-between from)
+header-between (Addressed to from) =
+    omega (arith, length-append (stuffByte to) (stuffByte from), stuffByte-between to, stuffByte-between from)
 
 -- ---- the draft of a frame
 
@@ -66,7 +69,8 @@ module _ (out : List ℕ) (to from : ℕ) (room : length (headerWire (Addressed 
   pub addressed-length : length (headerWire (Addressed to from)) ≡ 1 + length (stuffByte to) + length (stuffByte from)
   addressed-length = omega (arith, length-append (stuffByte to) (stuffByte from))
 
-  pub put-addressed : (out₁ out₂ : List ℕ) (a r : ℕ) → a ≡ 1 + length (stuffByte to) → out₁ ≡ splice (set out 0 0xF0) 1 (stuffByte to)
+  pub put-addressed : (out₁ out₂ : List ℕ) (a r : ℕ) → a ≡ 1 + length (stuffByte to)
+      → out₁ ≡ splice (set out 0 0xF0) 1 (stuffByte to)
       → r ≡ a + length (stuffByte from) → out₂ ≡ splice out₁ a (stuffByte from)
       → (r ≡ length (headerWire (Addressed to from))) × (out₂ ≡ splice out 0 (headerWire (Addressed to from)))
   put-addressed out₁ out₂ a r p q e f =
@@ -77,17 +81,23 @@ module _ (out : List ℕ) (to from : ℕ) (room : length (headerWire (Addressed 
 
 -- ---- the parts written one after the other
 
-pub put-parts : (h : Header) (c out out₁ out₂ out₃ : List ℕ) (sum a b d : ℕ) → sum ≡ checksum c → length (wireOf (frameOf h c)) ≤ length out
-    → length out₃ ≡ length out → a ≡ length (headerWire h) → out₁ ≡ splice out 0 (headerWire h) → b ≡ a + length (stuff c) → out₂ ≡ splice out₁ a (stuff c)
-    → d ≡ b + length (stuffByte sum) → out₃ ≡ splice out₂ b (stuffByte sum) → set out₃ d 0xF2 ≡ splice out 0 (wireOf (frameOf h c))
+pub put-parts : (h : Header) (c out out₁ out₂ out₃ : List ℕ) (sum a b d : ℕ) → sum ≡ checksum c
+    → length (wireOf (frameOf h c)) ≤ length out
+    → length out₃ ≡ length out → a ≡ length (headerWire h) → out₁ ≡ splice out 0 (headerWire h)
+    → b ≡ a + length (stuff c) → out₂ ≡ splice out₁ a (stuff c)
+    → d ≡ b + length (stuffByte sum) → out₃ ≡ splice out₂ b (stuffByte sum)
+    → set out₃ d 0xF2 ≡ splice out 0 (wireOf (frameOf h c))
 put-parts h c out out₁ out₂ out₃ sum a b d s room len ea e₁ eb e₂ ed e₃ =
     let w = wire-length h c in
     let n : length (stuffByte sum) ≡ length (stuffByte (checksum c)) = ap (λ (k : ℕ). length (stuffByte k)) s in
     let l₂ = length-append (headerWire h) (stuff c) in
     let l₃ = length-append (headerWire h ++ stuff c) (stuffByte sum) in
-    let two : out₂ ≡ splice out 0 (headerWire h ++ stuff c) = splice-next out 0 (headerWire h) (stuff c) a (omega arith) e₁ (omega arith) e₂ in
+    let two : out₂ ≡ splice out 0 (headerWire h ++ stuff c) =
+    splice-next out 0 (headerWire h) (stuff c) a (omega arith) e₁ (omega arith) e₂ in
     let three : out₃ ≡ splice out 0 (headerWire h ++ stuff c ++ stuffByte sum) =
     splice-next out 0 (headerWire h ++ stuff c) (stuffByte sum) b (omega arith) two (omega arith) e₃ in
-    splice-next out 0 (headerWire h ++ stuff c ++ stuffByte sum) (0xF2 ∷ []) d (omega arith) three (omega arith) (set-splice out₃ d 0xF2 (omega arith))
+    splice-next out 0 (headerWire h ++ stuff c ++ stuffByte sum) (0xF2 ∷ []) d (omega arith) three (omega arith)
+    (set-splice out₃ d 0xF2 (omega arith))
     ∙ ap (λ (k : ℕ). splice out 0 (headerWire h ++ stuff c ++ stuffByte k ++ (0xF2 ∷ []))) s
-    ∙ ap (splice out 0) (append-assoc (headerWire h ++ stuff c) (stuffByte (checksum c)) (0xF2 ∷ []) ∙ append-assoc (headerWire h) (stuff c) (stuffByte (checksum c) ++ (0xF2 ∷ [])) ∙ sym (wire-parts h c))
+    ∙ ap (splice out 0) (append-assoc (headerWire h ++ stuff c) (stuffByte (checksum c)) (0xF2 ∷ [])
+    ∙ append-assoc (headerWire h) (stuff c) (stuffByte (checksum c) ++ (0xF2 ∷ [])) ∙ sym (wire-parts h c))

@@ -1,4 +1,5 @@
--- What each case of an answer means, in document 01's numbers, and what each public function answers and leaves in the slice that it is lent.
+-- What each case of an answer means, in document 01's numbers, and what each public function answers and leaves in the
+-- slice that it is lent.
 use Prim.Native.Nat.{ℕ}
 use mathlib.Core.List.{List, _++_}
 use lib.Dec.{leb}

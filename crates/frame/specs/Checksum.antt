@@ -1,5 +1,5 @@
--- The checksum of a frame: document 01, "Frames on the wire".
--- It covers the contents alone. Addresses are not covered, so nothing here vouches for the addresses of a frame that was damaged on the line.
+-- The checksum of a frame: document 01, "Frames on the wire". It covers the contents alone. Addresses are not covered,
+-- so nothing here vouches for the addresses of a frame that was damaged on the line.
 use Prim.Native.Nat.{ℕ}
 use mathlib.Core.List.{List, [], _∷_}
 use lib.Bits.{bitXor}

@@ -64,8 +64,10 @@ pub data Judged (w : List ℕ) : Verdict → Type 0 where
   truncated : (Terminated w → ⊥) → Judged w (refused 6)
   long : Terminated w → (WithinLimit w → ⊥) → Judged w (refused 2)
   badEscape : (t : Terminated w) → WithinLimit w → (EscapesSound (t .body) → ⊥) → Judged w (refused 3)
-  short : (t : Terminated w) (u : List ℕ) → WithinLimit w → EscapesSound (t .body) → Unstuffs (t .body) u → (LongEnough (t .kind) u → ⊥) → Judged w (refused 4)
-  badSum : (t : Terminated w) (u : List ℕ) → WithinLimit w → EscapesSound (t .body) → Unstuffs (t .body) u → LongEnough (t .kind) u
+  short : (t : Terminated w) (u : List ℕ) → WithinLimit w → EscapesSound (t .body) → Unstuffs (t .body) u
+      → (LongEnough (t .kind) u → ⊥) → Judged w (refused 4)
+  badSum : (t : Terminated w) (u : List ℕ) → WithinLimit w → EscapesSound (t .body) → Unstuffs (t .body) u
+      → LongEnough (t .kind) u
       → (ChecksumRight (t .kind) u → ⊥) → Judged w (refused 5)
   sound : (f : Frame) → SoundFrame w f → Judged w (result f)
 

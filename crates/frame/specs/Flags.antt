@@ -18,13 +18,16 @@ stopFlag = 0xF2
 
 -- The role of a byte: a start flag, the stop flag, or any other byte.
 abbrev pub roleOf : ℕ → Role
-roleOf b = pick (eqb b (startFlag Extended)) starts (pick (eqb b (startFlag Standard)) starts (pick (eqb b stopFlag) stops plain))
+roleOf b =
+    pick (eqb b (startFlag Extended)) starts
+    (pick (eqb b (startFlag Standard)) starts (pick (eqb b stopFlag) stops plain))
 
 -- The kind of frame that a start flag opens.
 abbrev pub kindOf : ℕ → Kind
 kindOf b = pick (eqb b (startFlag Extended)) Extended Standard
 
--- Whether a byte is a start flag, and whether it is any flag: the flags are three numbers in a row, so that one test for a range finds them.
+-- Whether a byte is a start flag, and whether it is any flag: the flags are three numbers in a row, so that one test
+-- for a range finds them.
 abbrev pub isStart : ℕ → Bool
 isStart b = within (startFlag Extended) (startFlag Standard) b
 

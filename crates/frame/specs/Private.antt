@@ -64,7 +64,8 @@ unfoldable pub nextAt : List ℕ → ℕ → Next
 nextAt s at =
     pick (ltb at (length s))
     (pick (eqb (getD s at 0) 0xF3)
-    (pick (ltb (at + 1) (length s)) (pick (leb (getD s (at + 1) 0) 3) (Byte (0xF0 + getD s (at + 1) 0) (at + 2)) Bad) Bad)
+    (pick (ltb (at + 1) (length s)) (pick (leb (getD s (at + 1) 0) 3) (Byte (0xF0 + getD s (at + 1) 0) (at + 2)) Bad)
+    Bad)
     (Byte (getD s at 0) (at + 1)))
     End
 
@@ -99,7 +100,9 @@ unstuffedBytes (bytes u) = u
 abbrev pub AddressesIn : Kind → List ℕ → Addresses → Type 0
 AddressesIn kind body Broken = unstuff false body ≡ badEscape
 AddressesIn kind body Missing = (u : List ℕ) × (unstuff false body ≡ bytes u) × (length u < addressCount kind)
-AddressesIn kind body (Found header next) = (next ≤ length body) × (headerKind header ≡ kind) × (unstuff false body ≡ headed header (unstuff false (drop next body)))
+AddressesIn kind body (Found header next) =
+    (next ≤ length body) × (headerKind header ≡ kind)
+    × (unstuff false body ≡ headed header (unstuff false (drop next body)))
 
 -- A sound body: its frame, and where its stuffed contents stand.
 pub record SoundAt (kind : Kind) (body : List ℕ) (header : Header) (start len : ℕ) : Type 0 where

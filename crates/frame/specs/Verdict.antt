@@ -51,10 +51,12 @@ judge kind body = pick (leb (length body + 2) 120) (judgeBytes kind (unstuff fal
 abbrev pub bodyOf : List ℕ → List ℕ
 bodyOf w = take (length w - 2) (drop 1 w)
 
--- Whether a slice is one terminated candidate (document 01: one whole closed stretch): a start flag, bytes that are no flags, and F2.
+-- Whether a slice is one terminated candidate (document 01: one whole closed stretch): a start flag, bytes that are no
+-- flags, and F2.
 unfoldable pub isTerminated : List ℕ → Bool
 isTerminated w =
-    pick (leb 2 (length w)) (pick (isStart (getD w 0 0)) (pick (eqb (lastOf w) stopFlag) (flagless (bodyOf w)) false) false) false
+    pick (leb 2 (length w)) (pick (isStart (getD w 0 0))
+    (pick (eqb (lastOf w) stopFlag) (flagless (bodyOf w)) false) false) false
 
 -- The verdict on a slice: refusals 6, 2, 3, 4 and 5.
 unfoldable pub verdict : List ℕ → Verdict

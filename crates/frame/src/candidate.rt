@@ -12,7 +12,9 @@ ghost use lib.ListN.{length, getD, take, drop};
 ghost use Rattle.lists.specs.Choice.{pick, within, countOf};
 ghost use Rattle.frame.specs.Stuffing.{unstuff, prepend};
 ghost use Rattle.frame.specs.Checksum.{checksum};
-ghost use Rattle.frame.specs.Private.{isBounded, nextAt, scanFrom, isSound, goodPair, lowerByte, lowered, unstuffedBytes, headerKind, AddressesIn, Unescaped, Examines, ExaminesWhole};
+ghost use Rattle.frame.specs.Private.{isBounded, nextAt, scanFrom, isSound, goodPair, lowerByte, lowered};
+ghost use Rattle.frame.specs.Private.{unstuffedBytes, headerKind, AddressesIn, Unescaped, Examines};
+ghost use Rattle.frame.specs.Private.{ExaminesWhole};
 
 // The most bytes that may stand between the flags.
 const BODY_LIMIT: usize = 118;
@@ -99,8 +101,8 @@ pub(crate) fn next_at(s: &[u8], at: usize) -> Next
 }
 
 // Where every escape is sound, each takes one byte from the number, and its two bytes have the exclusive or of F0 and
-// the second. The last byte is taken by itself: it is the checksum, and a loop whose last turn is compared with 0 is not
-// turned into vector code.
+// the second. The last byte is taken by itself: it is the checksum, and a loop whose last turn is compared with 0 is
+// not turned into vector code.
 fn scan_bytes(s: &[u8]) -> Scan
     requires { ⌜ length (now s) ≤ 118 ⌝ }
     ensures { λ r. ⌜ r ≡ scanFrom 0 0 (unstuff false (now (s .entry))) ⌝ }
@@ -322,7 +324,8 @@ fn unit_at(s: &[u8], at: usize) -> Unit
 pub(crate) fn unstuff_into(s: &[u8], count: usize, out: &mut [u8])
     requires { ⌜ count ≤ length (unstuffedBytes (unstuff false (now s))) ⌝ }
     requires { ⌜ count ≤ length (now out) ⌝ }
-    ensures { λ r. ⌜ now (out .exit) ≡ take count (unstuffedBytes (unstuff false (now (s .entry)))) ++ drop count (now (out .entry)) ⌝ }
+    ensures { λ r. ⌜ now (out .exit) ≡ take count (unstuffedBytes (unstuff false (now (s .entry))))
+        ++ drop count (now (out .entry)) ⌝ }
 {
     let mut at: usize = 0;
     let mut k: usize = 0;
@@ -337,7 +340,8 @@ pub(crate) fn unstuff_into(s: &[u8], count: usize, out: &mut [u8])
 // Brings the first `count` unstuffed bytes, from an index of the stuffed bytes on, to the front.
 pub(crate) fn unstuff_front(s: &mut [u8], from: usize, count: usize)
     requires { ⌜ count ≤ length (unstuffedBytes (unstuff false (drop from (now s)))) ⌝ }
-    ensures { λ r. ⌜ now (s .exit) ≡ take count (unstuffedBytes (unstuff false (drop from (now (s .entry))))) ++ drop count (now (s .entry)) ⌝ }
+    ensures { λ r. ⌜ now (s .exit) ≡ take count (unstuffedBytes (unstuff false (drop from (now (s .entry)))))
+        ++ drop count (now (s .entry)) ⌝ }
 {
     let mut at = from;
     let mut k: usize = 0;

@@ -23,7 +23,8 @@ ghost use Rattle.frame.specs.Private.{frameOf, headerKind, readAs, unstu
 // The longest frame on the wire, flags and escapes included.
 const WIRE_LIMIT: usize = 120;
 
-// The longest contents that a frame can hold. Longer ones are refused before their bytes are counted, so that no sum wraps.
+// The longest contents that a frame can hold. Longer ones are refused before their bytes are counted, so that no sum
+// wraps.
 const CONTENTS_LIMIT: usize = 117;
 
 // The two kinds of frame.
@@ -47,7 +48,8 @@ pub enum Read {
 
 // Writes a standard frame. Refusals 2 and 1.
 pub fn write_standard(contents: &[u8], out: &mut [u8]) -> Written
-    ensures { λ r. ⌜ writtenMeans r ≡ draftAnswer (frameDraft (standard (now (contents .entry)))) (length (now (out .entry))) ⌝ }
+    ensures { λ r. ⌜ writtenMeans r ≡ draftAnswer (frameDraft (standard (now (contents .entry))))
+        (length (now (out .entry))) ⌝ }
     ensures { λ r. ⌜ now (out .exit) ≡ draftOut (frameDraft (standard (now (contents .entry)))) (now (out .entry)) ⌝ }
 {
     write_frame(Header::Plain, contents, out)
@@ -55,8 +57,10 @@ pub fn write_standard(contents: &[u8], out: &mut [u8]) -> Written
 
 // Writes an extended frame. Refusals 2 and 1.
 pub fn write_extended(to: u8, from: u8, contents: &[u8], out: &mut [u8]) -> Written
-    ensures { λ r. ⌜ writtenMeans r ≡ draftAnswer (frameDraft (extended to from (now (contents .entry)))) (length (now (out .entry))) ⌝ }
-    ensures { λ r. ⌜ now (out .exit) ≡ draftOut (frameDraft (extended to from (now (contents .entry)))) (now (out .entry)) ⌝ }
+    ensures { λ r. ⌜ writtenMeans r ≡ draftAnswer (frameDraft (extended to from (now (contents .entry))))
+        (length (now (out .entry))) ⌝ }
+    ensures { λ r. ⌜ now (out .exit) ≡ draftOut (frameDraft (extended to from (now (contents .entry))))
+        (now (out .entry)) ⌝ }
 {
     write_frame(Header::Addressed { to, from }, contents, out)
 }
@@ -90,9 +94,9 @@ pub fn read_frame(wire: &[u8], out: &mut [u8]) -> Read
     }
 }
 
-// The verdict on the first `len` bytes of a slice, or on all where there are fewer, as what stands between a start flag of this kind and
-// the stop flag: refusals 2, 3, 4 and 5. Whoever calls it has found the flags: a byte that is one is taken as it stands.
-// The contents of an accepted frame are brought to the front; a refusal changes nothing.
+// The verdict on the first `len` bytes of a slice, or on all where there are fewer, as what stands between a start flag
+// of this kind and the stop flag: refusals 2, 3, 4 and 5. Whoever calls it has found the flags: a byte that is one is
+// taken as it stands. The contents of an accepted frame are brought to the front; a refusal changes nothing.
 pub fn judge_in_place(kind: Kind, s: &mut [u8], len: usize) -> Read
     ensures { λ r. ⌜ readMeans r ≡ judgeAnswer (judge kind (take len (now (s .entry)))) ⌝ }
     ensures { λ r. ⌜ now (s .exit) ≡ leftIn (judge kind (take len (now (s .entry)))) (now (s .entry)) ⌝ }
@@ -111,8 +115,10 @@ pub fn judge_array(kind: Kind, bytes: &mut [u8; 118], len: usize) -> Read
 
 // The length is found first, so that nothing is written where the frame does not fit.
 fn write_frame(header: Header, contents: &[u8], out: &mut [u8]) -> Written
-    ensures { λ r. ⌜ writtenMeans r ≡ draftAnswer (frameDraft (frameOf header (now (contents .entry)))) (length (now (out .entry))) ⌝ }
-    ensures { λ r. ⌜ now (out .exit) ≡ draftOut (frameDraft (frameOf header (now (contents .entry)))) (now (out .entry)) ⌝ }
+    ensures { λ r. ⌜ writtenMeans r ≡ draftAnswer (frameDraft (frameOf header (now (contents .entry))))
+        (length (now (out .entry))) ⌝ }
+    ensures { λ r. ⌜ now (out .exit) ≡ draftOut (frameDraft (frameOf header (now (contents .entry))))
+        (now (out .entry)) ⌝ }
 {
     if CONTENTS_LIMIT < contents.len() {
         return Written::Refused(Refusal::TooLong);
@@ -157,7 +163,8 @@ fn read_plain(kind: Kind, body: &[u8], sum: u8, out: &mut [u8]) -> Read
 // The same once the addresses are known, with the exclusive or of what follows them.
 fn read_after(header: Header, body: &[u8], start: usize, sum: u8, out: &mut [u8]) -> Read
     requires { ⌜ UnescapedAfter header (now body) start sum ⌝ }
-    ensures { λ r. ⌜ readMeans r ≡ readAnswer (judge (headerKind header) (now (body .entry))) (length (now (out .entry))) ⌝ }
+    ensures { λ r. ⌜ readMeans r ≡ readAnswer (judge (headerKind header) (now (body .entry)))
+        (length (now (out .entry))) ⌝ }
     ensures { λ r. ⌜ now (out .exit) ≡ readOut (judge (headerKind header) (now (body .entry))) (now (out .entry)) ⌝ }
 {
     let n = body.len();
@@ -189,7 +196,8 @@ fn read_as(header: Header, len: usize) -> Read
 fn copy_contents(rest: &[u8], len: usize, out: &mut [u8])
     requires { ⌜ length (unstuffedBytes (unstuff false (now rest))) ≡ len + 1 ⌝ }
     requires { ⌜ len ≤ length (now out) ⌝ }
-    ensures { λ r. ⌜ now (out .exit) ≡ take len (unstuffedBytes (unstuff false (now (rest .entry)))) ++ drop len (now (out .entry)) ⌝ }
+    ensures { λ r. ⌜ now (out .exit) ≡ take len (unstuffedBytes (unstuff false (now (rest .entry))))
+        ++ drop len (now (out .entry)) ⌝ }
 {
     if rest.len() == len + 1 {
         bytes::copy(&rest[..len], out, 0);
@@ -202,7 +210,8 @@ fn copy_contents(rest: &[u8], len: usize, out: &mut [u8])
 fn bring_contents(s: &mut [u8], start: usize, len: usize)
     requires { ⌜ length (unstuffedBytes (unstuff false (drop start (now s)))) ≡ len + 1 ⌝ }
     requires { ⌜ start ≤ length (now s) ⌝ }
-    ensures { λ r. ⌜ now (s .exit) ≡ take len (unstuffedBytes (unstuff false (drop start (now (s .entry))))) ++ drop len (now (s .entry)) ⌝ }
+    ensures { λ r. ⌜ now (s .exit) ≡ take len (unstuffedBytes (unstuff false (drop start (now (s .entry)))))
+        ++ drop len (now (s .entry)) ⌝ }
 {
     if s.len() - start == len + 1 {
         bytes::shift(s, start, len);

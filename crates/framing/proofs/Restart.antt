@@ -5,7 +5,8 @@ use mathlib.Core.List.{List, [], _∷_, _++_}
 use native.Mathlib.Omega.{arith}
 use Prim.Native.Nat.{ℕ}
 use lib.ListN.{drop}
-use Rattle.framing.specs.Reference.{Call, byte, Role, starts, stops, plain, Candidate, none, opened, Protocol, byteAnswer, byteAfter, answerTo, candidateAfter, Reference, FlagFree}
+use Rattle.framing.specs.Reference.{Call, byte, Role, starts, stops, plain, Candidate, none, opened, Protocol}
+use Rattle.framing.specs.Reference.{byteAnswer, byteAfter, answerTo, candidateAfter, Reference, FlagFree}
 use Rattle.lists.specs.Machine.{run, leftAfter}
 use Rattle.framing.specs.Demand3.{feed, LeftOpen, Restarts, Follows, Demand3}
 use Rattle.lists.proofs.Machines.{run-append, left-append, runs-anew, simulates}
@@ -24,7 +25,8 @@ module _ {A : Type 0} (P : Protocol A) where
   fed k bytes = leftAfter (candidateAfter P) k (feed bytes)
 
   fed-append : (k : Candidate) (xs ys : List ℕ) → fed k (xs ++ ys) ≡ fed (fed k xs) ys
-  fed-append k xs ys = ap (leftAfter (candidateAfter P) k) (feed-append xs ys) ∙ left-append (candidateAfter P) k (feed xs) (feed ys)
+  fed-append k xs ys =
+      ap (leftAfter (candidateAfter P) k) (feed-append xs ys) ∙ left-append (candidateAfter P) k (feed xs) (feed ys)
 
   -- a start flag opens a candidate, whatever was open
   opens : (k : Candidate) (w : ℕ) → P .role w ≡ starts → candidateAfter P k (byte w) ≡ opened (w ∷ [])
@@ -41,7 +43,8 @@ module _ {A : Type 0} (P : Protocol A) where
 
   left-opened : (bytes : List ℕ) → LeftOpen P bytes → (t : List ℕ) × (fed none bytes ≡ opened t)
   left-opened bytes o =
-      let k : (t : List ℕ) × (fed (opened (o .flag ∷ [])) (o .rest) ≡ opened t) = keeps (o .flag ∷ []) (o .rest) (o .flag-free) in (
+      let k : (t : List ℕ) × (fed (opened (o .flag ∷ [])) (o .rest) ≡ opened t) =
+      keeps (o .flag ∷ []) (o .rest) (o .flag-free) in (
         k .0,
         ap (fed none) (o .splits) ∙ fed-append none (o .before) (o .flag ∷ o .rest)
             ∙ ap (λ x. fed x (o .rest)) (opens (fed none (o .before)) (o .flag) (o .starting)) ∙ k .1,
@@ -54,10 +57,18 @@ module _ {A : Type 0} (P : Protocol A) where
 
   later : (b : ℕ) (bytes : List ℕ) → LeftOpen P bytes → LeftOpen P (b ∷ bytes)
   later b bytes o =
-      record { before = b ∷ o .before; flag = o .flag; rest = o .rest; splits = ap (λ l. b ∷ l) (o .splits); starting = o .starting; flag-free = o .flag-free }
+      record {
+        before = b ∷ o .before;
+        flag = o .flag;
+        rest = o .rest;
+        splits = ap (λ l. b ∷ l) (o .splits);
+        starting = o .starting;
+        flag-free = o .flag-free;
+      }
 
   since : (b : ℕ) (bytes : List ℕ) → P .role b ≡ starts → Since bytes → LeftOpen P (b ∷ bytes)
-  since b bytes e (flagless n) = record { before = []; flag = b; rest = bytes; splits = refl; starting = e; flag-free = n }
+  since b bytes e (flagless n) =
+      record { before = []; flag = b; rest = bytes; splits = refl; starting = e; flag-free = n }
   since b bytes e (again o) = later b bytes o
 
   plainly : (b : ℕ) (bytes : List ℕ) → P .role b ≡ plain → Since bytes → Since (b ∷ bytes)
@@ -66,14 +77,18 @@ module _ {A : Type 0} (P : Protocol A) where
 
   -- what an open candidate says of the bytes fed, from none and from one that was open
   abbrev Says : List ℕ → Type 0
-  Says bytes = ((t : List ℕ) → fed none bytes ≡ opened t → LeftOpen P bytes) × ((s t : List ℕ) → fed (opened s) bytes ≡ opened t → Since bytes)
+  Says bytes =
+      ((t : List ℕ) → fed none bytes ≡ opened t → LeftOpen P bytes)
+      × ((s t : List ℕ) → fed (opened s) bytes ≡ opened t → Since bytes)
 
-  from-none : (b : ℕ) (bytes : List ℕ) → Says bytes → (t : List ℕ) (ρ : Role) → P .role b ≡ ρ → fed (byteAfter P ρ none b) bytes ≡ opened t → LeftOpen P (b ∷ bytes)
+  from-none : (b : ℕ) (bytes : List ℕ) → Says bytes → (t : List ℕ) (ρ : Role) → P .role b ≡ ρ
+      → fed (byteAfter P ρ none b) bytes ≡ opened t → LeftOpen P (b ∷ bytes)
   from-none b bytes k t starts q e = since b bytes q (k .1 (b ∷ []) t e)
   from-none b bytes k t stops q e = later b bytes (k .0 t e)
   from-none b bytes k t plain q e = later b bytes (k .0 t e)
 
-  from-opened : (b : ℕ) (bytes : List ℕ) → Says bytes → (s t : List ℕ) (ρ : Role) → P .role b ≡ ρ → fed (byteAfter P ρ (opened s) b) bytes ≡ opened t
+  from-opened : (b : ℕ) (bytes : List ℕ) → Says bytes → (s t : List ℕ) (ρ : Role) → P .role b ≡ ρ
+      → fed (byteAfter P ρ (opened s) b) bytes ≡ opened t
       → Since (b ∷ bytes)
   from-opened b bytes k s t starts q e = again (since b bytes q (k .1 (b ∷ []) t e))
   from-opened b bytes k s t stops q e = again (later b bytes (k .0 t e))
@@ -96,17 +111,20 @@ module _ {A : Type 0} (P : Protocol A) where
 
   -- ---- D, W and L
 
-  not-left-open : (D : List ℕ) (w : ℕ) (k : Candidate) → fed none D ≡ k → (LeftOpen P D → ⊥) → byteAnswer P starts k w ≡ P .nothing
+  not-left-open : (D : List ℕ) (w : ℕ) (k : Candidate) → fed none D ≡ k → (LeftOpen P D → ⊥)
+      → byteAnswer P starts k w ≡ P .nothing
   not-left-open D w none e n = refl
   not-left-open D w (opened t) e n = absurd (n (says D .0 t e))
 
   -- Demand 3's second part of the reference decoder.
   pub reference-restarts : (D : List ℕ) (w : ℕ) (W : List ℕ) (L : List Call) → P .role w ≡ starts
-      → Restarts P D (Reference P (feed D ++ (feed (w ∷ W) ++ L))) (Reference P (feed D)) (Reference P (feed (w ∷ W) ++ L))
+      → Restarts P D (Reference P (feed D ++ (feed (w ∷ W) ++ L))) (Reference P (feed D))
+      (Reference P (feed (w ∷ W) ++ L))
   reference-restarts D w W L e = record {
     first = answerTo P (fed none D) (byte w);
     whole = run-append (answerTo P) (candidateAfter P) none (feed D) (feed (w ∷ W) ++ L)
-        ∙ ap (λ k. from none (feed D) ++ answerTo P (fed none D) (byte w) ∷ from k (feed W ++ L)) (opens (fed none D) w e ∙ sym (opens none w e));
+        ∙ ap (λ k. from none (feed D) ++ answerTo P (fed none D) (byte w) ∷ from k (feed W ++ L))
+        (opens (fed none D) w e ∙ sym (opens none w e));
     truncated = λ o. let k : (t : List ℕ) × (fed none D ≡ opened t) = left-opened D o in rw (e, k .1);
     nothing = λ n. rw e (not-left-open D w (fed none D) refl n);
   }
@@ -114,7 +132,8 @@ module _ {A : Type 0} (P : Protocol A) where
   -- ---- after a candidate that was terminated, and after a finish
 
   -- A call that leaves none open leaves the decoder as new; so does everything that answers as it does.
-  pub as-new : (c : Call) → ((k : Candidate) → candidateAfter P k c ≡ none) → (f : List Call → List A) → ((calls : List Call) → f calls ≡ Reference P calls)
+  pub as-new : (c : Call) → ((k : Candidate) → candidateAfter P k c ≡ none) → (f : List Call → List A)
+      → ((calls : List Call) → f calls ≡ Reference P calls)
       → (calls rest : List Call) → f (calls ++ c ∷ rest) ≡ f (calls ++ c ∷ []) ++ f rest
   as-new c ends f e calls rest = simp e (runs-anew (answerTo P) (candidateAfter P) none c ends none calls rest)
 
@@ -122,9 +141,11 @@ module _ {A : Type 0} (P : Protocol A) where
 
   -- Demand 3 of any machine, from a relation that each of its calls keeps.
   pub follows : {S : Type 0} (answer : S → Call → A) (next : S → Call → S) (R : S → Candidate → Type 0)
-      → ((s : S) (k : Candidate) (c : Call) → R s k → (answer s c ≡ answerTo P k c) × R (next s c) (candidateAfter P k c))
+      → ((s : S) (k : Candidate) (c : Call) → R s k
+      → (answer s c ≡ answerTo P k c) × R (next s c) (candidateAfter P k c))
       → (s : S) → R s none → Follows P (run answer next s)
-  follows answer next R step s r = follows-of (run answer next s) (simulates answer next (answerTo P) (candidateAfter P) R step s none r)
+  follows answer next R step s r =
+      follows-of (run answer next s) (simulates answer next (answerTo P) (candidateAfter P) R step s none r)
     where
       follows-of : (f : List Call → List A) → ((calls : List Call) → f calls ≡ Reference P calls) → Follows P f
       follows-of f e = record {
@@ -135,7 +156,8 @@ module _ {A : Type 0} (P : Protocol A) where
       }
 
   -- Demand 3 of any relation whose answers are the reference decoder's.
-  pub demand3-of : (answered : List Call → List A → Type 0) → ((calls : List Call) (answers : List A) → answered calls answers → answers ≡ Reference P calls)
+  pub demand3-of : (answered : List Call → List A → Type 0)
+      → ((calls : List Call) (answers : List A) → answered calls answers → answers ≡ Reference P calls)
       → Demand3 P answered
   demand3-of answered e = record {
     same = e;
@@ -144,7 +166,8 @@ module _ {A : Type 0} (P : Protocol A) where
         record {
           first = k .first;
           whole = e _ all a ∙ k .whole
-              ∙ sym (ap (λ (l : List A). l ++ k .first ∷ drop 1 later) (e _ alone b) ∙ ap (λ (l : List A). Reference P (feed D) ++ k .first ∷ drop 1 l) (e _ later c));
+              ∙ sym (ap (λ (l : List A). l ++ k .first ∷ drop 1 later) (e _ alone b)
+              ∙ ap (λ (l : List A). Reference P (feed D) ++ k .first ∷ drop 1 l) (e _ later c));
           truncated = k .truncated;
           nothing = k .nothing;
         };

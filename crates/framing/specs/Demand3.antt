@@ -19,9 +19,9 @@ module _ {A : Type 0} (P : Protocol A) where
     pub starting : P .role flag ≡ starts
     pub flag-free : FlagFree (P .role) rest
 
-  -- Any bytes D, then bytes W that begin with a start flag, then any calls L: the answers to all of them, to D alone, and to W and L where
-  -- they come first. D is answered as D alone is. The flag is answered with the truncation if D left a candidate open, else with nothing.
-  -- Every later call is answered as it is where W and L come first.
+  -- Any bytes D, then bytes W that begin with a start flag, then any calls L: the answers to all of them, to D alone,
+  -- and to W and L where they come first. D is answered as D alone is. The flag is answered with the truncation if D
+  -- left a candidate open, else with nothing. Every later call is answered as it is where W and L come first.
   pub record Restarts (D : List ℕ) (all alone later : List A) : Type 0 where
     pub first : A
     pub whole : all ≡ alone ++ first ∷ drop 1 later
@@ -34,8 +34,10 @@ module _ {A : Type 0} (P : Protocol A) where
     pub restarts : (D : List ℕ) (w : ℕ) (W : List ℕ) (L : List Call) → P .role w ≡ starts
         → Restarts D (answers (feed D ++ (feed (w ∷ W) ++ L))) (answers (feed D)) (answers (feed (w ∷ W) ++ L))
 
-  -- The same of calls and answers of which no more is known than that each list of answers was given to its list of calls.
+  -- The same of calls and answers of which no more is known than that each list of answers was given to its list of
+  -- calls.
   pub record Demand3 (answered : List Call → List A → Type 0) : Type 0 where
     pub same : (calls : List Call) (answers : List A) → answered calls answers → answers ≡ Reference P calls
     pub restarts : (D : List ℕ) (w : ℕ) (W : List ℕ) (L : List Call) (all alone later : List A) → P .role w ≡ starts
-        → answered (feed D ++ (feed (w ∷ W) ++ L)) all → answered (feed D) alone → answered (feed (w ∷ W) ++ L) later → Restarts D all alone later
+        → answered (feed D ++ (feed (w ∷ W) ++ L)) all → answered (feed D) alone → answered (feed (w ∷ W) ++ L) later
+        → Restarts D all alone later

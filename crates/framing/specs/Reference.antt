@@ -26,7 +26,8 @@ pub data Candidate : Type 0 where
   none : Candidate
   opened : List ℕ → Candidate
 
--- A protocol: the role of each byte, and its answers. A candidate that was terminated is judged whole, both flags included.
+-- A protocol: the role of each byte, and its answers. A candidate that was terminated is judged whole, both flags
+-- included.
 pub record Protocol (A : Type 0) : Type 0 where
   pub role : ℕ → Role
   pub nothing : A

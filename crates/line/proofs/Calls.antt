@@ -1,5 +1,5 @@
--- Demand 3 of the functions themselves: any run of calls, known by nothing but what the contracts tell a caller, is answered as the
--- reference decoder answers.
+-- Demand 3 of the functions themselves: any run of calls, known by nothing but what the contracts tell a caller, is
+-- answered as the reference decoder answers.
 use mathlib.Core.Path.{_≡_, refl, ap, _∙_}
 use mathlib.Core.List.{List}
 use Prim.Native.Nat.{ℕ}
@@ -10,16 +10,19 @@ use Rattle.answer.specs.Answer.{result, refused}
 use Rattle.lists.specs.Machine.{Answered}
 use Rattle.framing.specs.Reference.{Call, byte, finish, Role, starts, stops, plain}
 use Rattle.framing.specs.Demand3.{Demand3}
-use Rattle.framing.specs.Bounded.{BoundedMode, outside, inside, overlong, truncatedIn, terminatedIn, leftIn, boundedTurn}
+use Rattle.framing.specs.Bounded.{BoundedMode, outside, inside, overlong, truncatedIn, terminatedIn, leftIn}
+use Rattle.framing.specs.Bounded.{boundedTurn}
 use Rattle.framing.proofs.Bounded.{bounded-demand-3}
 use Rattle.frame.specs.Flags.{roleOf}
 use Rattle.frame.specs.Verdict.{judge}
 use Rattle.frame.specs.Answers.{standardOutline, extendedOutline, judgeAnswer, frameRead}
 use Rattle.frame.specs.declared.Kind.{Kind}
 use Rattle.frame.proofs.ContentsLaws.{left-whole}
-use Rattle.line.specs.Outcome.{Outcome, judged, Summary, silent, tells, toldMeans, summaryOf, outcomeOf, contentsBeside}
+use Rattle.line.specs.Outcome.{Outcome, judged, Summary, silent, tells, toldMeans, summaryOf, outcomeOf}
+use Rattle.line.specs.Outcome.{contentsBeside}
 use Rattle.line.specs.Rowing.{rowing, rowingBounds}
-use Rattle.line.specs.Reader.{ReaderTurn, lentReader, newReader, modeSeen, seen, roleStep, turnOf, outcomeAt, nextAfter, LentStepIs, StepIs}
+use Rattle.line.specs.Reader.{ReaderTurn, lentReader, newReader, modeSeen, seen, roleStep, turnOf, outcomeAt}
+use Rattle.line.specs.Reader.{nextAfter, LentStepIs, StepIs}
 use Rattle.line.specs.declared.State.{State}
 use Rattle.line.specs.declared.LineReader.{LineReader}
 use Rattle.line.specs.declared.LentStep.{LentStep}
@@ -34,14 +37,16 @@ use Rattle.line.proofs.finish_in.Reads as finish-in-reads
 
 -- ---- the enum and the array that is left make the whole outcome
 
-truncated-whole : (m : BoundedMode Kind) (bytes : List ℕ) → outcomeOf (summaryOf (truncatedIn rowing rowingBounds m)) bytes ≡ truncatedIn rowing rowingBounds m
+truncated-whole : (m : BoundedMode Kind) (bytes : List ℕ)
+    → outcomeOf (summaryOf (truncatedIn rowing rowingBounds m)) bytes ≡ truncatedIn rowing rowingBounds m
 unfolding judgeAnswer frameRead
 truncated-whole outside bytes = refl
 truncated-whole (inside kind) bytes = refl
 truncated-whole overlong bytes = refl
 
 terminated-whole : (m : BoundedMode Kind) (bytes : List ℕ) (len : ℕ)
-    → outcomeOf (summaryOf (terminatedIn rowing rowingBounds m bytes len)) (leftIn rowing rowingBounds m bytes len) ≡ terminatedIn rowing rowingBounds m bytes len
+    → outcomeOf (summaryOf (terminatedIn rowing rowingBounds m bytes len)) (leftIn rowing rowingBounds m bytes len)
+    ≡ terminatedIn rowing rowingBounds m bytes len
 unfolding judgeAnswer frameRead
 terminated-whole outside bytes len = refl
 terminated-whole (inside kind) bytes len = ap judged (left-whole (judge kind (take len bytes)) bytes)
@@ -82,7 +87,8 @@ steps-outcome s r c k =
 abbrev pub lentOutcome : LentStep → List ℕ → Outcome
 lentOutcome s bytes = outcomeOf (toldMeans (s .told)) bytes
 
-pub lent-outcome : (bytes : List ℕ) (s : LentStep) (r : LineReader) (c : Call) → LentStepIs bytes s (turnOf r c) → lentOutcome s bytes ≡ outcomeAt r c
+pub lent-outcome : (bytes : List ℕ) (s : LentStep) (r : LineReader) (c : Call) → LentStepIs bytes s (turnOf r c)
+    → lentOutcome s bytes ≡ outcomeAt r c
 lent-outcome bytes s r c k =
     ap (λ (h : Summary). outcomeOf h bytes) (k .told-is)
     ∙ ap (λ (u : LineReader). outcomeOf (summaryOf (outcomeAt r c)) (u .bytes)) (k .next-is)
@@ -90,10 +96,13 @@ lent-outcome bytes s r c k =
 
 -- ---- one call
 
--- A call on a reader by value, its outcome and the reader that it left, known by what the function's contract tells a caller.
+-- A call on a reader by value, its outcome and the reader that it left, known by what the function's contract tells a
+-- caller.
 pub data Called : LineReader → Call → Outcome → LineReader → Type 0 where
-  stepped : {r : LineReader} {b : ℕ} (s : Stepped) → step-reads.Learnt tt (r, (b, tt)) s (r, (b, tt)) → Called r (byte b) (outcomeIn s) (s .next)
-  finished : {r : LineReader} (s : Stepped) → finish-reads.Learnt tt (r, tt) s (r, tt) → Called r finish (outcomeIn s) (s .next)
+  stepped : {r : LineReader} {b : ℕ} (s : Stepped) → step-reads.Learnt tt (r, (b, tt)) s (r, (b, tt))
+      → Called r (byte b) (outcomeIn s) (s .next)
+  finished : {r : LineReader} (s : Stepped) → finish-reads.Learnt tt (r, tt) s (r, tt)
+      → Called r finish (outcomeIn s) (s .next)
 
 -- The same where a reader is a lent array and a state.
 pub data CalledLent : LineReader → Call → Outcome → LineReader → Type 0 where
@@ -116,7 +125,8 @@ lent-turns r u c o (stepped-lent κs ρ ρ′ s k) = (lent-outcome (ρ′ .now) 
 lent-turns r u c o (finished-lent {bytes = bytes} s k) = (lent-outcome bytes s r c (k bytes), (k bytes) .next-is)
 
 turns-seen : (r u : LineReader) (c : Call) (o : Outcome) → TurnsTo r c o u
-    → (o ≡ boundedTurn rowing rowingBounds (seen r) c .answer) × (seen u ≡ boundedTurn rowing rowingBounds (seen r) c .next)
+    → (o ≡ boundedTurn rowing rowingBounds (seen r) c .answer)
+    × (seen u ≡ boundedTurn rowing rowingBounds (seen r) c .next)
 turns-seen r u c o t = (t .0 ∙ call-seen r c .0, ap seen (t .1) ∙ call-seen r c .1)
 
 -- ---- demand 3
@@ -128,11 +138,13 @@ Made r = new-reads.Learnt tt tt r tt
 -- Demand 3 of `new`, `step` and `finish`, whole.
 pub demand-3 : Demand3 rowing (Answered Called Made)
 demand-3 =
-    bounded-demand-3 rowing rowingBounds rowing-suits Called Made seen (λ r u c o k. turns-seen r u c o (called-turns r u c o k))
+    bounded-demand-3 rowing rowingBounds rowing-suits Called Made seen
+    (λ r u c o k. turns-seen r u c o (called-turns r u c o k))
     (λ r e. (ap (λ (x : LineReader). length (x .bytes)) e, ap (λ (x : LineReader). modeSeen (x .state .mode)) e))
 
 -- Demand 3 of `step_in` and `finish_in`, whole, from the array and the state of a new reader.
 pub lent-demand-3 : Demand3 rowing (Answered CalledLent (λ r. r ≡ newReader))
 lent-demand-3 =
-    bounded-demand-3 rowing rowingBounds rowing-suits CalledLent (λ r. r ≡ newReader) seen (λ r u c o k. turns-seen r u c o (lent-turns r u c o k))
+    bounded-demand-3 rowing rowingBounds rowing-suits CalledLent (λ r. r ≡ newReader) seen
+    (λ r u c o k. turns-seen r u c o (lent-turns r u c o k))
     (λ r e. (ap (λ (x : LineReader). length (x .bytes)) e, ap (λ (x : LineReader). modeSeen (x .state .mode)) e))

@@ -1,4 +1,5 @@
--- Demand 3 of `feed_in` itself: any chunks, known by nothing but what its contract tells a caller, are answered as the reference decoder answers.
+-- Demand 3 of `feed_in` itself: any chunks, known by nothing but what its contract tells a caller, are answered as the
+-- reference decoder answers.
 use mathlib.Core.Path.{_≡_, refl, sym, ap, _∙_, subst}
 use mathlib.Core.Bool.{Bool, true, false}
 use mathlib.Core.List.{List, [], _∷_, _++_}
@@ -32,13 +33,16 @@ feed-whole : (r : LineReader) (s : List ℕ) → WholeFed (feedOf r s)
 unfolding feedOf
 feed-whole r [] = refl
 feed-whole r (b ∷ s) =
-    by-answer (isAnswer (stepOf r b .answer)) (stepOf r b) (byte-whole r b (roleOf b)) (feedOf (stepOf r b .next) s) (feed-whole (stepOf r b .next) s)
+    by-answer (isAnswer (stepOf r b .answer)) (stepOf r b) (byte-whole r b (roleOf b)) (feedOf (stepOf r b .next) s)
+    (feed-whole (stepOf r b .next) s)
   where
-    by-answer : (q : Bool) (t : ReaderTurn) → Whole t → (f : ChunkTurn) → WholeFed f → WholeFed (pick q (chunkTurn (t .answer) (t .next) 1) (laterBy 1 f))
+    by-answer : (q : Bool) (t : ReaderTurn) → Whole t → (f : ChunkTurn) → WholeFed f
+        → WholeFed (pick q (chunkTurn (t .answer) (t .next) 1) (laterBy 1 f))
     by-answer true t h f k = h
     by-answer false t h f k = k
 
-pub feeds-outcome : (bytes : List ℕ) (f : ChunkStep) (r : LineReader) (s : List ℕ) → ChunkStepIs bytes f (feedOf r s) → outcomeOf (toldMeans (f .told)) bytes ≡ feedOf r s .answer
+pub feeds-outcome : (bytes : List ℕ) (f : ChunkStep) (r : LineReader) (s : List ℕ) → ChunkStepIs bytes f (feedOf r s)
+    → outcomeOf (toldMeans (f .told)) bytes ≡ feedOf r s .answer
 feeds-outcome bytes f r s k =
     ap (λ (h : Summary). outcomeOf h bytes) (k .told-is)
     ∙ ap (λ (u : LineReader). outcomeOf (summaryOf (feedOf r s .answer)) (u .bytes)) (k .next-is)
@@ -46,32 +50,40 @@ feeds-outcome bytes f r s k =
 
 -- ---- chunks
 
--- Calls of `feed_in` that take a stream to its end, with the answers that they gave and the reader that the last one leaves. Each is lent
--- the array as the last one left it, and given any part of what is left of the stream.
+-- Calls of `feed_in` that take a stream to its end, with the answers that they gave and the reader that the last one
+-- leaves. Each is lent the array as the last one left it, and given any part of what is left of the stream.
 pub data ChunksLent : LineReader → List ℕ → List Outcome → LineReader → Type 0 where
   done-lent : {r : LineReader} → ChunksLent r [] [] r
-  chunk-lent : (κs : Lfts 2) (ρ ρ′ given : RefT (List ℕ)) {state : State} {s : ChunkStep} {rest : List Outcome} {last : LineReader} (later : List ℕ)
+  chunk-lent : (κs : Lfts 2) (ρ ρ′ given : RefT (List ℕ)) {state : State} {s : ChunkStep} {rest : List Outcome}
+      {last : LineReader} (later : List ℕ)
       → feed-in-reads.Learnt κs (ρ, (state, (given, tt))) s (ρ′, (state, (given, tt)))
       → ChunksLent (lentReader (ρ′ .now) (s .state)) (drop (s .taken) (given .now ++ later)) rest last
-      → ChunksLent (lentReader (ρ .now) state) (given .now ++ later) (withAnswer (outcomeOf (toldMeans (s .told)) (ρ′ .now)) rest) last
+      → ChunksLent (lentReader (ρ .now) state) (given .now ++ later)
+      (withAnswer (outcomeOf (toldMeans (s .told)) (ρ′ .now)) rest) last
 
-one-chunk : (r : LineReader) (left : List ℕ) (s : ChunkStep) (given later : List ℕ) (rest : List Outcome) (last : LineReader)
-    → ChunkStepIs left s (feedOf r given) → Chunks (lentReader left (s .state)) (drop (s .taken) (given ++ later)) rest last
+one-chunk : (r : LineReader) (left : List ℕ) (s : ChunkStep) (given later : List ℕ) (rest : List Outcome)
+    (last : LineReader)
+    → ChunkStepIs left s (feedOf r given)
+    → Chunks (lentReader left (s .state)) (drop (s .taken) (given ++ later)) rest last
     → Chunks r (given ++ later) (withAnswer (outcomeOf (toldMeans (s .told)) left) rest) last
 one-chunk r left s given later rest last k t =
     let u : Chunks (feedOf r given .next) (drop (feedOf r given .taken) (given ++ later)) rest last =
     subst (λ (n : ℕ). Chunks (feedOf r given .next) (drop n (given ++ later)) rest last) (k .taken-is)
     (subst (λ (x : LineReader). Chunks x (drop (s .taken) (given ++ later)) rest last) (k .next-is) t) in
-    subst (λ (o : Outcome). Chunks r (given ++ later) (withAnswer o rest) last) (sym (feeds-outcome left s r given k)) (chunk given later u)
+    subst (λ (o : Outcome). Chunks r (given ++ later) (withAnswer o rest) last) (sym (feeds-outcome left s r given k))
+    (chunk given later u)
 
-chunks-lent : {r last : LineReader} {stream : List ℕ} {answers : List Outcome} → ChunksLent r stream answers last → Chunks r stream answers last
+chunks-lent : {r last : LineReader} {stream : List ℕ} {answers : List Outcome} → ChunksLent r stream answers last
+    → Chunks r stream answers last
 chunks-lent done-lent = done
 chunks-lent (chunk-lent κs ρ ρ′ given {state = state} {s = s} {rest = rest} {last = last} later k t) =
     one-chunk (lentReader (ρ .now) state) (ρ′ .now) s (given .now) later rest last k (chunks-lent t)
 
--- However a stream is cut, from any array and any length outside of a candidate: the answers are those of the reference decoder, and the
--- reader left is that of the bytes fed singly.
-pub lent-chunks-follow : (bytes : List ℕ) (len : ℕ) → length bytes ≡ 118 → (stream : List ℕ) (answers : List Outcome) (last : LineReader)
+-- However a stream is cut, from any array and any length outside of a candidate: the answers are those of the reference
+-- decoder, and the reader left is that of the bytes fed singly.
+pub lent-chunks-follow : (bytes : List ℕ) (len : ℕ) → length bytes ≡ 118
+    → (stream : List ℕ) (answers : List Outcome) (last : LineReader)
     → ChunksLent (reader bytes len Outside) stream answers last
     → (answers ≡ answersIn (Reference rowing (feed stream))) × (last ≡ afterBytes (reader bytes len Outside) stream)
-lent-chunks-follow bytes len h stream answers last t = (chunks-follow bytes len h (chunks-lent t), chunks-singly (chunks-lent t) .1)
+lent-chunks-follow bytes len h stream answers last t =
+    (chunks-follow bytes len h (chunks-lent t), chunks-singly (chunks-lent t) .1)

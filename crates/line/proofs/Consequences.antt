@@ -3,7 +3,8 @@ use mathlib.Core.Path.{_≡_, refl, sym, subst}
 use mathlib.Core.List.{List, [], _∷_, _++_}
 use native.Mathlib.Omega.{arith}
 use Prim.Native.Nat.{ℕ, _+_}
-use Rattle.framing.specs.Reference.{Call, byte, finish, Role, starts, stops, plain, Candidate, none, opened, byteAnswer, answerTo, candidateAfter}
+use Rattle.framing.specs.Reference.{Call, byte, finish, Role, starts, stops, plain, Candidate, none, opened, byteAnswer}
+use Rattle.framing.specs.Reference.{answerTo, candidateAfter}
 use Rattle.lists.specs.Choice.{Every}
 use Rattle.lists.specs.Machine.{run}
 use Rattle.framing.proofs.Restart.{as-new}
@@ -17,10 +18,12 @@ use Rattle.line.specs.Rowing.{rowing}
 use Rattle.line.specs.Reader.{readerAnswers}
 use Rattle.line.proofs.Follows.{reader-follows}
 
-pub as-new-after-stop : (calls rest : List Call) → readerAnswers (calls ++ byte stopFlag ∷ rest) ≡ readerAnswers (calls ++ byte stopFlag ∷ []) ++ readerAnswers rest
+pub as-new-after-stop : (calls rest : List Call)
+    → readerAnswers (calls ++ byte stopFlag ∷ rest) ≡ readerAnswers (calls ++ byte stopFlag ∷ []) ++ readerAnswers rest
 as-new-after-stop = as-new rowing (byte stopFlag) (λ k. refl) readerAnswers (reader-follows .same)
 
-pub as-new-after-finish : (calls rest : List Call) → readerAnswers (calls ++ finish ∷ rest) ≡ readerAnswers (calls ++ finish ∷ []) ++ readerAnswers rest
+pub as-new-after-finish : (calls rest : List Call)
+    → readerAnswers (calls ++ finish ∷ rest) ≡ readerAnswers (calls ++ finish ∷ []) ++ readerAnswers rest
 as-new-after-finish = as-new rowing finish (λ k. refl) readerAnswers (reader-follows .same)
 
 -- ---- never 1

@@ -36,10 +36,12 @@ judged-short kind body f e =
     (λ y. let q : refused 2 ≡ result f = sym (judge-long kind body (ltb-true 118 (length body) y)) ∙ e in
     let z : _≡_ {A = ℕ} 0 1 = cc in absurd (omega arith))
     (λ y. let k : length (leftIn (result f) body) ≡ length body =
-    ap (λ (v : Verdict). length (leftIn v body)) (sym (ap (judge kind) (take-all (length body) body (omega arith)) ∙ e)) ∙ left-length kind (length body) body in
+    ap (λ (v : Verdict). length (leftIn v body)) (sym (ap (judge kind) (take-all (length body) body (omega arith)) ∙ e))
+    ∙ left-length kind (length body) body in
     omega (arith, k, ltb-false 118 (length body) y, length-append (contentsOf f) (drop (length (contentsOf f)) body)))
 
-verdict-within : (v : Verdict) → ((f : Frame) → v ≡ result f → length (contentsOf f) ≤ 118) → ContentsFit 118 (tells (judgeAnswer v))
+verdict-within : (v : Verdict) → ((f : Frame) → v ≡ result f → length (contentsOf f) ≤ 118)
+    → ContentsFit 118 (tells (judgeAnswer v))
 unfolding judgeAnswer contentsOf
 verdict-within (refused n) h = tt
 verdict-within (result (standard c)) h = h (standard c) refl
@@ -52,10 +54,12 @@ truncated-within outside = tt
 truncated-within (inside kind) = tt
 truncated-within overlong = tt
 
-terminated-within : (m : BoundedMode Kind) (bytes : List ℕ) (len : ℕ) → ContentsFit 118 (summaryOf (terminatedIn rowing rowingBounds m bytes len))
+terminated-within : (m : BoundedMode Kind) (bytes : List ℕ) (len : ℕ)
+    → ContentsFit 118 (summaryOf (terminatedIn rowing rowingBounds m bytes len))
 unfolding judgeAnswer
 terminated-within outside bytes len = tt
-terminated-within (inside kind) bytes len = verdict-within (judge kind (take len bytes)) (judged-short kind (take len bytes))
+terminated-within (inside kind) bytes len =
+    verdict-within (judge kind (take len bytes)) (judged-short kind (take len bytes))
 terminated-within overlong bytes len = tt
 
 byte-within : (r : LineReader) (b : ℕ) (ρ : Role) → ContentsFit 118 (summaryOf (roleStep ρ r b .answer))
@@ -71,9 +75,11 @@ pub feed-within : (r : LineReader) (s : List ℕ) → ContentsFit 118 (summaryOf
 unfolding feedOf
 feed-within r [] = tt
 feed-within r (b ∷ s) =
-    by-answer (isAnswer (stepOf r b .answer)) (stepOf r b) (byte-within r b (roleOf b)) (feedOf (stepOf r b .next) s) (feed-within (stepOf r b .next) s)
+    by-answer (isAnswer (stepOf r b .answer)) (stepOf r b) (byte-within r b (roleOf b)) (feedOf (stepOf r b .next) s)
+    (feed-within (stepOf r b .next) s)
   where
-    by-answer : (q : Bool) (t : ReaderTurn) → ContentsFit 118 (summaryOf (t .answer)) → (f : ChunkTurn) → ContentsFit 118 (summaryOf (f .answer))
+    by-answer : (q : Bool) (t : ReaderTurn) → ContentsFit 118 (summaryOf (t .answer)) → (f : ChunkTurn)
+        → ContentsFit 118 (summaryOf (f .answer))
         → ContentsFit 118 (summaryOf (pick q (chunkTurn (t .answer) (t .next) 1) (laterBy 1 f) .answer))
     by-answer true t h f k = h
     by-answer false t h f k = k
@@ -81,10 +87,12 @@ feed-within r (b ∷ s) =
 -- ---- the length held
 
 module _ (limit : ℕ) (roomy : 118 < limit) where
-  grown-len : (m : BoundedMode Kind) (bytes : List ℕ) (len b : ℕ) → len < limit → grownIn rowing rowingBounds m bytes len b .len < limit
+  grown-len : (m : BoundedMode Kind) (bytes : List ℕ) (len b : ℕ) → len < limit
+      → grownIn rowing rowingBounds m bytes len b .len < limit
   grown-len outside bytes len b h = h
   grown-len (inside kind) bytes len b h =
-      by-bool (ltb len 118) (λ y. simp y (omega (arith, ltb-true len 118 y, roomy))) (λ y. simp y (omega (arith, roomy)))
+      by-bool (ltb len 118) (λ y. simp y (omega (arith, ltb-true len 118 y, roomy)))
+      (λ y. simp y (omega (arith, roomy)))
   grown-len overlong bytes len b h = h
 
   byte-len : (r : LineReader) (b : ℕ) → r .state .len < limit → (ρ : Role) → roleStep ρ r b .next .state .len < limit
@@ -98,9 +106,11 @@ module _ (limit : ℕ) (roomy : 118 < limit) where
   feed-len r [] h = h
   feed-len r (b ∷ s) h =
       let k = byte-len r b h (roleOf b) in
-      by-answer (isAnswer (stepOf r b .answer)) (stepOf r b) k (feedOf (stepOf r b .next) s) (feed-len (stepOf r b .next) s k)
+      by-answer (isAnswer (stepOf r b .answer)) (stepOf r b) k (feedOf (stepOf r b .next) s)
+      (feed-len (stepOf r b .next) s k)
     where
-      by-answer : (q : Bool) (t : ReaderTurn) → t .next .state .len < limit → (f : ChunkTurn) → f .next .state .len < limit
+      by-answer : (q : Bool) (t : ReaderTurn) → t .next .state .len < limit → (f : ChunkTurn)
+          → f .next .state .len < limit
           → pick q (chunkTurn (t .answer) (t .next) 1) (laterBy 1 f) .next .state .len < limit
       by-answer true t h f k = h
       by-answer false t h f k = k

@@ -37,27 +37,36 @@ module _ (r : LineReader) (s : List ℕ) (i : ℕ) (below : i < length s) where
   first = ap (feedOf r) (drop-cons s i 0 below) ∙ ap (λ (n : ℕ). feedOf r (getD s i 0 ∷ drop n s)) (sym (add-one i))
 
   abbrev at : Bool → ChunkTurn
-  at t = pick t (chunkTurn (stepOf r (getD s i 0) .answer) (stepOf r (getD s i 0) .next) 1) (laterBy 1 (feedOf (stepOf r (getD s i 0) .next) (drop (i + 1) s)))
+  at t =
+      pick t (chunkTurn (stepOf r (getD s i 0) .answer) (stepOf r (getD s i 0) .next) 1)
+      (laterBy 1 (feedOf (stepOf r (getD s i 0) .next) (drop (i + 1) s)))
 
   pub not-answered : isAnswer (stepOf r (getD s i 0) .answer) ≡ false
       → laterBy i (feedOf r (drop i s)) ≡ laterBy (i + 1) (feedOf (stepOf r (getD s i 0) .next) (drop (i + 1) s))
-  not-answered e = ap (laterBy i) (first ∙ ap at e) ∙ plus-plus i 1 (i + 1) (feedOf (stepOf r (getD s i 0) .next) (drop (i + 1) s)) refl
+  not-answered e =
+      ap (laterBy i) (first ∙ ap at e)
+      ∙ plus-plus i 1 (i + 1) (feedOf (stepOf r (getD s i 0) .next) (drop (i + 1) s)) refl
 
   answered : isAnswer (stepOf r (getD s i 0) .answer) ≡ true
-      → laterBy i (feedOf r (drop i s)) ≡ chunkTurn (stepOf r (getD s i 0) .answer) (stepOf r (getD s i 0) .next) (i + 1)
+      → laterBy i (feedOf r (drop i s)) ≡ chunkTurn (stepOf r (getD s i 0) .answer) (stepOf r (getD s i 0) .next)
+      (i + 1)
   answered e = ap (laterBy i) (first ∙ ap at e)
 
 -- a turn of a loop over the bytes s, where f is what all of them give
-module _ (f : ChunkTurn) (r : LineReader) (s : List ℕ) (i : ℕ) (below : i < length s) (so-far : f ≡ laterBy i (feedOf r (drop i s))) (bytes : List ℕ) (m : LentStep)
+module _ (f : ChunkTurn) (r : LineReader) (s : List ℕ) (i : ℕ) (below : i < length s)
+    (so-far : f ≡ laterBy i (feedOf r (drop i s))) (bytes : List ℕ) (m : LentStep)
     (moves : LentStepIs bytes m (stepOf r (getD s i 0))) where
-  pub goes-on : says (toldMeans (m .told)) ≡ false → f ≡ laterBy (i + 1) (feedOf (lentReader bytes (m .state)) (drop (i + 1) s))
+  pub goes-on : says (toldMeans (m .told)) ≡ false
+      → f ≡ laterBy (i + 1) (feedOf (lentReader bytes (m .state)) (drop (i + 1) s))
   goes-on e =
       so-far ∙ not-answered r s i below (ap says (sym (moves .told-is)) ∙ e)
       ∙ ap (λ (u : LineReader). laterBy (i + 1) (feedOf u (drop (i + 1) s))) (sym (moves .next-is))
 
-  pub answers : says (toldMeans (m .told)) ≡ true → ChunkStepIs bytes (record { told = m .told; state = m .state; taken = i + 1 }) f
+  pub answers : says (toldMeans (m .told)) ≡ true
+      → ChunkStepIs bytes (record { told = m .told; state = m .state; taken = i + 1 }) f
   answers e =
-      let q : f ≡ chunkTurn (stepOf r (getD s i 0) .answer) (stepOf r (getD s i 0) .next) (i + 1) = so-far ∙ answered r s i below (ap says (sym (moves .told-is)) ∙ e) in
+      let q : f ≡ chunkTurn (stepOf r (getD s i 0) .answer) (stepOf r (getD s i 0) .next) (i + 1) =
+      so-far ∙ answered r s i below (ap says (sym (moves .told-is)) ∙ e) in
       record {
         told-is = moves .told-is ∙ ap (λ (g : ChunkTurn). summaryOf (g .answer)) (sym q);
         next-is = moves .next-is ∙ ap (λ (g : ChunkTurn). g .next) (sym q);
@@ -65,13 +74,15 @@ module _ (f : ChunkTurn) (r : LineReader) (s : List ℕ) (i : ℕ) (below : i < 
       }
 
 -- no byte is left
-pub ends : (f : ChunkTurn) (bytes : List ℕ) (state : State) (s : List ℕ) (i : ℕ) → length s ≤ i → f ≡ laterBy i (feedOf (lentReader bytes state) (drop i s))
+pub ends : (f : ChunkTurn) (bytes : List ℕ) (state : State) (s : List ℕ) (i : ℕ) → length s ≤ i
+    → f ≡ laterBy i (feedOf (lentReader bytes state) (drop i s))
     → (r : ChunkStep) → r ≡ record { told = Nothing; state = state; taken = i } → ChunkStepIs bytes r f
 unfolding feedOf
 ends f bytes state s i h so-far r is =
     let z : i + 0 ≡ i = omega arith in
     let none = ap (λ (l : List ℕ). laterBy i (feedOf (lentReader bytes state) l)) (drop-of-length-le s {i = i} h) in
-    let q : f ≡ chunkTurn nothing (lentReader bytes state) i = so-far ∙ none ∙ ap (chunkTurn nothing (lentReader bytes state)) z in
+    let q : f ≡ chunkTurn nothing (lentReader bytes state) i =
+    so-far ∙ none ∙ ap (chunkTurn nothing (lentReader bytes state)) z in
     record {
       told-is = ap (λ (g : ChunkStep). toldMeans (g .told)) is ∙ ap (λ (g : ChunkTurn). summaryOf (g .answer)) (sym q);
       next-is = ap (λ (g : ChunkStep). lentReader bytes (g .state)) is ∙ ap (λ (g : ChunkTurn). g .next) (sym q);

@@ -1,4 +1,5 @@
--- Demand 3: the line reader answers every list of calls as the reference decoder does, and starts again at each start flag.
+-- Demand 3: the line reader answers every list of calls as the reference decoder does, and starts again at each start
+-- flag.
 use mathlib.Core.Path.{_≡_, refl, sym, ap, _∙_}
 use mathlib.Core.Bool.{Bool, true, false}
 use mathlib.Core.List.{List, [], _∷_, _++_}
@@ -29,7 +30,8 @@ terminated-verdict flag body b s f e =
     ∙ ap (λ (x : ℕ). verdict (startFlag (kindOf flag) ∷ (body ++ x ∷ []))) (role-stop b e)
     ∙ whole-verdict (kindOf flag) body (free-flagless body f)
 
--- A candidate with at most 118 bytes between its flags is judged by them, and one with more is refused with 2 whatever they are.
+-- A candidate with at most 118 bytes between its flags is judged by them, and one with more is refused with 2 whatever
+-- they are.
 pub rowing-suits : Suits rowing rowingBounds
 rowing-suits = record {
   held = λ flag body b s f e l. ap judged (terminated-verdict flag body b s f e);
@@ -38,9 +40,12 @@ rowing-suits = record {
 }
 
 -- Demand 3 of any reader that is outside of a candidate: what its array and its length are doesn't matter.
-pub outside-follows : (bytes : List ℕ) (len : ℕ) → length bytes ≡ 118 → Follows rowing (run outcomeAt nextAfter (reader bytes len Outside))
-outside-follows bytes len h = bounded-follows rowing rowingBounds rowing-suits turnOf seen call-seen (reader bytes len Outside) h refl
+pub outside-follows : (bytes : List ℕ) (len : ℕ) → length bytes ≡ 118
+    → Follows rowing (run outcomeAt nextAfter (reader bytes len Outside))
+outside-follows bytes len h =
+    bounded-follows rowing rowingBounds rowing-suits turnOf seen call-seen (reader bytes len Outside) h refl
 
--- Demand 3, whole: every list of calls on a new reader is answered as the reference decoder answers it, and D, W and L as the minutes say.
+-- Demand 3, whole: every list of calls on a new reader is answered as the reference decoder answers it, and D, W and L
+-- as the minutes say.
 pub reader-follows : Follows rowing readerAnswers
 reader-follows = outside-follows zeros 0 refl

@@ -13,7 +13,8 @@ use Rattle.frame.specs.declared.Kind.{Kind}
 use Rattle.frame.specs.declared.Kind.the-variants.{Standard, Extended}
 use Rattle.line.specs.Outcome.{nothing, room}
 use Rattle.line.specs.Rowing.{rowing, rowingBounds}
-use Rattle.line.specs.Reader.{lentReader, reader, modeSeen, modeIn, seen, readerSeen, roleStep, turnOf, LentStepIs}
+use Rattle.line.specs.Reader.{lentReader, reader, modeSeen, modeIn, seen, readerSeen, roleStep, turnOf}
+use Rattle.line.specs.Reader.{LentStepIs}
 use Rattle.line.specs.Private.{withByte, isHeld}
 use Rattle.line.specs.declared.State.{State}
 use Rattle.line.specs.declared.LineReader.{LineReader}
@@ -34,7 +35,8 @@ seen-again r = ap (bounded (r .bytes) (r .len)) (mode-again (r .mode))
 
 -- Each call on the line reader, whatever its fields are, is the call on the bounded reader.
 pub call-seen : (r : LineReader) (c : Call)
-    → (turnOf r c .answer ≡ boundedTurn rowing rowingBounds (seen r) c .answer) × (seen (turnOf r c .next) ≡ boundedTurn rowing rowingBounds (seen r) c .next)
+    → (turnOf r c .answer ≡ boundedTurn rowing rowingBounds (seen r) c .answer)
+    × (seen (turnOf r c .next) ≡ boundedTurn rowing rowingBounds (seen r) c .next)
 call-seen r (byte b) = (refl, seen-again (boundedTurn rowing rowingBounds (seen r) (byte b) .next))
 call-seen r finish = (refl, seen-again (boundedTurn rowing rowingBounds (seen r) finish .next))
 
@@ -47,19 +49,24 @@ by-room true kind bytes len b = refl
 by-room false kind bytes len b = refl
 
 -- It is held in a candidate that may still be a frame.
-pub held-byte : (m : Mode) (bytes : List ℕ) (len b : ℕ) → isHeld m ≡ true → roleStep plain (reader bytes len m) b .next ≡ withByte (reader bytes len m) b
+pub held-byte : (m : Mode) (bytes : List ℕ) (len b : ℕ) → isHeld m ≡ true
+    → roleStep plain (reader bytes len m) b .next ≡ withByte (reader bytes len m) b
 held-byte Outside bytes len b h = absurd (false≢true h)
 held-byte InStandard bytes len b h = by-room (ltb len room) Standard bytes len b
 held-byte InExtended bytes len b h = by-room (ltb len room) Extended bytes len b
 held-byte Overlong bytes len b h = absurd (false≢true h)
 
-pub held-step : (bytes : List ℕ) (state : State) (b : ℕ) (left : List ℕ) (s : LentStep) (m : Mode) → isHeld m ≡ true → state .mode ≡ m
-    → LentStepIs left s (turn nothing (withByte (lentReader bytes state) b)) → LentStepIs left s (roleStep plain (lentReader bytes state) b)
+pub held-step : (bytes : List ℕ) (state : State) (b : ℕ) (left : List ℕ) (s : LentStep) (m : Mode) → isHeld m ≡ true
+    → state .mode ≡ m
+    → LentStepIs left s (turn nothing (withByte (lentReader bytes state) b))
+    → LentStepIs left s (roleStep plain (lentReader bytes state) b)
 held-step bytes state b left s m h e k =
-    subst (λ (r : LineReader). LentStepIs left s (turn nothing r)) (sym (held-byte (state .mode) bytes (state .len) b (ap isHeld e ∙ h))) k
+    subst (λ (r : LineReader). LentStepIs left s (turn nothing r))
+    (sym (held-byte (state .mode) bytes (state .len) b (ap isHeld e ∙ h))) k
 
 -- Anywhere else it changes nothing.
-pub unheld-byte : (m : Mode) (bytes : List ℕ) (len b : ℕ) → isHeld m ≡ false → roleStep plain (reader bytes len m) b .next ≡ reader bytes len m
+pub unheld-byte : (m : Mode) (bytes : List ℕ) (len b : ℕ) → isHeld m ≡ false
+    → roleStep plain (reader bytes len m) b .next ≡ reader bytes len m
 unheld-byte Outside bytes len b h = refl
 unheld-byte InStandard bytes len b h = absurd (true≢false h)
 unheld-byte InExtended bytes len b h = absurd (true≢false h)

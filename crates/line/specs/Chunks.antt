@@ -22,8 +22,8 @@ answersIn (o ∷ os) = withAnswer o (answersIn os)
 abbrev pub afterBytes : LineReader → List ℕ → LineReader
 afterBytes r bytes = leftAfter (λ s b. stepOf s b .next) r bytes
 
--- Calls on a reader that take a stream to its end, their answers, and the reader that the last one leaves. A call may be given any part
--- of what is left of the stream, so also bytes that it does not take, all, or none.
+-- Calls on a reader that take a stream to its end, their answers, and the reader that the last one leaves. A call may
+-- be given any part of what is left of the stream, so also bytes that it does not take, all, or none.
 pub data Chunks : LineReader → List ℕ → List Outcome → LineReader → Type 0 where
   done : {r : LineReader} → Chunks r [] [] r
   chunk : {r last : LineReader} {rest : List Outcome} (given later : List ℕ)

@@ -34,7 +34,9 @@ laterBy i f = chunkTurn (f .answer) (f .next) (i + f .taken)
 -- The bytes fed singly. With no answer all of them are taken.
 unfoldable pub feedOf : LineReader → List ℕ → ChunkTurn
 feedOf r [] = chunkTurn nothing r 0
-feedOf r (b ∷ bs) = pick (isAnswer (stepOf r b .answer)) (chunkTurn (stepOf r b .answer) (stepOf r b .next) 1) (laterBy 1 (feedOf (stepOf r b .next) bs))
+feedOf r (b ∷ bs) =
+    pick (isAnswer (stepOf r b .answer)) (chunkTurn (stepOf r b .answer) (stepOf r b .next) 1)
+    (laterBy 1 (feedOf (stepOf r b .next) bs))
 
 -- What a function returns, with `bytes` in the lent array afterwards.
 pub record ChunkStepIs (bytes : List ℕ) (s : ChunkStep) (t : ChunkTurn) : Type 0 where

@@ -41,8 +41,8 @@ room = 118
 abbrev pub zeros : List ℕ
 zeros = replicate room 0
 
--- The array beside a summary, where `bytes` is the array that the reader is left with: a frame's contents are its first bytes;
--- no contents stand beside anything else.
+-- The array beside a summary, where `bytes` is the array that the reader is left with: a frame's contents are its first
+-- bytes; no contents stand beside anything else.
 abbrev pub contentsBeside : Summary → List ℕ → List ℕ
 contentsBeside silent bytes = zeros
 contentsBeside (tells (result (standardOutline len))) bytes = bytes

@@ -1,4 +1,5 @@
--- Contracts of private functions, which no caller reads: an open candidate with one byte more, and runs of bytes that are no flags.
+-- Contracts of private functions, which no caller reads: an open candidate with one byte more, and runs of bytes that
+-- are no flags.
 use mathlib.Core.Path.{_≡_}
 use mathlib.Core.Bool.{Bool, true, false}
 use mathlib.Core.List.{List}
@@ -17,7 +18,8 @@ use Rattle.line.specs.declared.Mode.the-variants.{Outside, InStandard, I
 -- A candidate of which bytes are held has one byte more, or is over-long where there is no room for it.
 abbrev pub withByte : LineReader → ℕ → LineReader
 withByte r b =
-    pick (ltb (r .state .len) room) (reader (set (r .bytes) (r .state .len) b) (r .state .len + 1) (r .state .mode)) (reader (r .bytes) 0 Overlong)
+    pick (ltb (r .state .len) room) (reader (set (r .bytes) (r .state .len) b) (r .state .len + 1) (r .state .mode))
+    (reader (r .bytes) 0 Overlong)
 
 -- Whether a reader holds the bytes of a run. It does in a candidate that may still be a frame.
 abbrev pub isHeld : Mode → Bool
@@ -26,7 +28,8 @@ isHeld InStandard = true
 isHeld InExtended = true
 isHeld Overlong = false
 
--- The bytes of s from an index on give one reader what those from a later index on give the other, both counted from the beginning of s.
+-- The bytes of s from an index on give one reader what those from a later index on give the other, both counted from
+-- the beginning of s.
 pub record Reaches (s : List ℕ) (from : ℕ) (r : LineReader) (at : ℕ) (next : LineReader) : Type 0 where
   pub onward : from ≤ at
   pub inside : at ≤ length s
@@ -37,4 +40,5 @@ pub record Kept (s : List ℕ) (from end : ℕ) (bytes : List ℕ) (len : ℕ) (
   pub onward : from ≤ run .at
   pub within : run .at ≤ end
   pub count : run .len + from ≡ len + run .at
-  pub same : (mode : Mode) → isHeld mode ≡ true → Reaches s from (reader bytes len mode) (run .at) (reader bytes′ (run .len) mode)
+  pub same : (mode : Mode) → isHeld mode ≡ true
+      → Reaches s from (reader bytes len mode) (run .at) (reader bytes′ (run .len) mode)

@@ -19,6 +19,14 @@ abbrev pub leftBy : Outcome → List ℕ → List ℕ
 leftBy nothing bytes = bytes
 leftBy (judged v) bytes = leftIn v bytes
 
--- A candidate of 118 bytes between its flags is held, and judged in place; one with more is refused with 2 when it is terminated.
+-- A candidate of 118 bytes between its flags is held, and judged in place; one with more is refused with 2 when it is
+-- terminated.
 abbrev pub rowingBounds : Bounds Kind Outcome
-rowingBounds = record { room = room; kind = kindOf; judge = λ kind body. judged (judge kind body); left = leftBy; long = judged (refused 2) }
+rowingBounds =
+    record {
+      room = room;
+      kind = kindOf;
+      judge = λ kind body. judged (judge kind body);
+      left = leftBy;
+      long = judged (refused 2);
+    }

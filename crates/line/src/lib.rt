@@ -1,5 +1,5 @@
-// The line reader: fed one byte at a time, or several up to the first that is answered, it tells of each frame and each refusal at the
-// call where it ends. Document 01, "The line".
+// The line reader: fed one byte at a time, or several up to the first that is answered, it tells of each frame and each
+// refusal at the call where it ends. Document 01, "The line".
 mod runs;
 
 use answer::Refusal;
@@ -15,7 +15,8 @@ ghost use Rattle.framing.specs.Bounded.{truncatedIn, terminatedIn, leftIn};
 ghost use Rattle.frame.specs.Answers.{readMeans};
 ghost use Rattle.line.specs.Outcome.{toldMeans, tells, summaryOf, nothing, contentsBeside};
 ghost use Rattle.line.specs.Rowing.{rowing, rowingBounds};
-ghost use Rattle.line.specs.Reader.{lentReader, reader, newReader, modeSeen, roleStep, stepOf, finishOf, LentStepIs, StepIs, ReaderTurn};
+ghost use Rattle.line.specs.Reader.{lentReader, reader, newReader, modeSeen, roleStep, stepOf, finishOf};
+ghost use Rattle.line.specs.Reader.{LentStepIs, StepIs, ReaderTurn};
 ghost use Rattle.line.specs.declared.Told.the-variants.{Nothing};
 ghost use Rattle.line.specs.Feed.{says, feedOf, ChunkStepIs};
 ghost use Rattle.line.specs.Private.{withByte};
@@ -42,8 +43,8 @@ pub enum Mode {
     Overlong,
 }
 
-// A line reader without its array: how many bytes of it are held, and the mode. A length of 118 or more counts as a full array, so
-// every value is a state.
+// A line reader without its array: how many bytes of it are held, and the mode. A length of 118 or more counts as a
+// full array, so every value is a state.
 pub struct State {
     pub len: usize,
     pub mode: Mode,
@@ -67,14 +68,15 @@ pub struct Stepped {
     pub next: LineReader,
 }
 
-// The answer to a call over a lent array, and the state afterwards. The array holds the reader's bytes and, where a frame is told, its
-// contents first.
+// The answer to a call over a lent array, and the state afterwards. The array holds the reader's bytes and, where a
+// frame is told, its contents first.
 pub struct LentStep {
     pub told: Told,
     pub state: State,
 }
 
-// The answer to several bytes fed at once over a lent array, the state afterwards, and how many of the bytes were taken.
+// The answer to several bytes fed at once over a lent array, the state afterwards, and how many of the bytes were
+// taken.
 pub struct ChunkStep {
     pub told: Told,
     pub state: State,
@@ -143,7 +145,8 @@ pub fn finish_in(state: State) -> LentStep
 // Feeds such a reader bytes up to the first that is answered; with no answer it takes all of them. Runs of bytes that
 // are no flags have loops of their own, and the flags go through `step_in`.
 pub fn feed_in(bytes: &mut [u8; 118], state: State, input: &[u8]) -> ChunkStep
-    ensures { λ r. ⌜ ChunkStepIs (now (bytes .exit)) r (feedOf (lentReader (now (bytes .entry)) state) (now (input .entry))) ⌝ }
+    ensures { λ r. ⌜ ChunkStepIs (now (bytes .exit)) r
+        (feedOf (lentReader (now (bytes .entry)) state) (now (input .entry))) ⌝ }
 {
     let mut s = state;
     let mut i: usize = 0;
@@ -196,7 +199,8 @@ fn is_answer(told: Told) -> bool
 
 // A start flag, or the end of input: whatever is open is truncated.
 fn restart(mode: Mode, opens: Mode) -> LentStep
-    ensures { λ r. ⌜ ((bytes : List ℕ) → LentStepIs bytes r (turn (truncatedIn rowing rowingBounds (modeSeen mode)) (reader bytes 0 opens))) ⌝ }
+    ensures { λ r. ⌜ ((bytes : List ℕ)
+        → LentStepIs bytes r (turn (truncatedIn rowing rowingBounds (modeSeen mode)) (reader bytes 0 opens))) ⌝ }
 {
     LentStep {
         told: truncated(mode),
@@ -220,7 +224,8 @@ fn truncated(mode: Mode) -> Told
 
 // The stop flag: what is open is judged.
 fn stop(bytes: &mut [u8; 118], state: State) -> LentStep
-    ensures { λ r. ⌜ ((b : ℕ) → LentStepIs (now (bytes .exit)) r (roleStep stops (lentReader (now (bytes .entry)) state) b)) ⌝ }
+    ensures { λ r. ⌜ ((b : ℕ)
+        → LentStepIs (now (bytes .exit)) r (roleStep stops (lentReader (now (bytes .entry)) state) b)) ⌝ }
 {
     let mode = state.mode;
     let told = terminated(bytes, state.len, mode);
@@ -235,7 +240,8 @@ fn stop(bytes: &mut [u8; 118], state: State) -> LentStep
 }
 
 fn terminated(bytes: &mut [u8; 118], len: usize, mode: Mode) -> Told
-    ensures { λ r. ⌜ toldMeans r ≡ summaryOf (terminatedIn rowing rowingBounds (modeSeen mode) (now (bytes .entry)) len) ⌝ }
+    ensures { λ r. ⌜ toldMeans r ≡ summaryOf
+        (terminatedIn rowing rowingBounds (modeSeen mode) (now (bytes .entry)) len) ⌝ }
     ensures { λ r. ⌜ now (bytes .exit) ≡ leftIn rowing rowingBounds (modeSeen mode) (now (bytes .entry)) len ⌝ }
 {
     match mode {
@@ -281,7 +287,8 @@ fn unmoved(len: usize, mode: Mode) -> LentStep
 
 // One byte more in an open candidate.
 fn with_byte(bytes: &mut [u8; 118], len: usize, mode: Mode, b: u8) -> LentStep
-    ensures { λ r. ⌜ LentStepIs (now (bytes .exit)) r (turn nothing (withByte (reader (now (bytes .entry)) len mode) b)) ⌝ }
+    ensures { λ r. ⌜ LentStepIs (now (bytes .exit)) r
+        (turn nothing (withByte (reader (now (bytes .entry)) len mode) b)) ⌝ }
 {
     if len < ROOM {
         bytes[len] = b;

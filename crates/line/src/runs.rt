@@ -25,10 +25,12 @@ pub(crate) struct Consumed {
     pub(crate) state: State,
 }
 
-// Takes the bytes from an index on up to a flag or to the end, those of an open candidate only while there is room for them.
+// Takes the bytes from an index on up to a flag or to the end, those of an open candidate only while there is room for
+// them.
 pub(crate) fn consume(bytes: &mut [u8; 118], state: State, input: &[u8], from: usize) -> Consumed
     requires { ⌜ from ≤ length (now input) ⌝ }
-    ensures { λ r. ⌜ Reaches (now (input .entry)) from (lentReader (now (bytes .entry)) state) (r .at) (lentReader (now (bytes .exit)) (r .state)) ⌝ }
+    ensures { λ r. ⌜ Reaches (now (input .entry)) from (lentReader (now (bytes .entry)) state) (r .at)
+        (lentReader (now (bytes .exit)) (r .state)) ⌝ }
 {
     let mode = state.mode;
     if is_held(mode) {
@@ -56,7 +58,8 @@ fn is_held(mode: Mode) -> bool
 // Bytes that are not held.
 fn skip(input: &[u8], from: usize) -> usize
     requires { ⌜ from ≤ length (now input) ⌝ }
-    ensures { λ at. ⌜ ((r : LineReader) → isHeld (r .state .mode) ≡ false → Reaches (now (input .entry)) from r at r) ⌝ }
+    ensures { λ at. ⌜ ((r : LineReader) → isHeld (r .state .mode) ≡ false
+        → Reaches (now (input .entry)) from r at r) ⌝ }
 {
     from + lists::count_before(&input[from..], flags::EXTENDED_START, flags::STOP)
 }
@@ -74,7 +77,9 @@ fn room_after(len: usize) -> usize
 // Bytes that are held, whole blocks without a flag first.
 fn keep(bytes: &mut [u8; 118], len: usize, input: &[u8], from: usize) -> Run
     requires { ⌜ from ≤ length (now input) ⌝ }
-    ensures { λ run. ⌜ ((mode : Mode) → isHeld mode ≡ true → Reaches (now (input .entry)) from (reader (now (bytes .entry)) len mode) (run .at) (reader (now (bytes .exit)) (run .len) mode)) ⌝ }
+    ensures { λ run. ⌜ ((mode : Mode) → isHeld mode ≡ true
+        → Reaches (now (input .entry)) from (reader (now (bytes .entry)) len mode) (run .at)
+        (reader (now (bytes .exit)) (run .len) mode)) ⌝ }
 {
     let most = lists::lesser(room_after(len), input.len() - from);
     let end = from + most;
@@ -110,7 +115,9 @@ fn keep_block(bytes: &mut [u8; 118], len: usize, input: &[u8], from: usize)
     requires { ⌜ from + 32 ≤ length (now input) ⌝ }
     requires { ⌜ len + 32 ≤ 118 ⌝ }
     requires { ⌜ noneOf isFlag (take 32 (drop from (now input))) ≡ true ⌝ }
-    ensures { λ r. ⌜ ((mode : Mode) → isHeld mode ≡ true → Reaches (now (input .entry)) from (reader (now (bytes .entry)) len mode) (from + 32) (reader (now (bytes .exit)) (len + 32) mode)) ⌝ }
+    ensures { λ r. ⌜ ((mode : Mode) → isHeld mode ≡ true
+        → Reaches (now (input .entry)) from (reader (now (bytes .entry)) len mode) (from + 32)
+        (reader (now (bytes .exit)) (len + 32) mode)) ⌝ }
 {
     let mut k: usize = 0;
     while k < lists::BLOCK {

@@ -22,38 +22,54 @@ unmarked false m e h = refl
 
 module _ (p : ℕ → Bool) where
   -- a loop that looks at one element after the other
-  before-at : (s : List ℕ) (i : ℕ) → i < length s → countBefore p (drop i s) ≡ pick (p (getD s i 0)) 0 (1 + countBefore p (drop (i + 1) s))
+  before-at : (s : List ℕ) (i : ℕ) → i < length s
+      → countBefore p (drop i s) ≡ pick (p (getD s i 0)) 0 (1 + countBefore p (drop (i + 1) s))
   unfolding countBefore
-  before-at s i h = ap (countBefore p) (drop-cons s i 0 h) ∙ ap (λ (n : ℕ). pick (p (getD s i 0)) 0 (1 + countBefore p (drop n s))) (sym (add-one i))
+  before-at s i h =
+      ap (countBefore p) (drop-cons s i 0 h)
+      ∙ ap (λ (n : ℕ). pick (p (getD s i 0)) 0 (1 + countBefore p (drop n s))) (sym (add-one i))
 
-  pub before-here : (s : List ℕ) (i : ℕ) → i < length s → p (getD s i 0) ≡ true → countBefore p s ≡ i + countBefore p (drop i s) → i ≡ countBefore p s
-  before-here s i h e so-far = let q : countBefore p (drop i s) ≡ 0 = before-at s i h ∙ simp e in omega (arith, so-far, q)
+  pub before-here : (s : List ℕ) (i : ℕ) → i < length s → p (getD s i 0) ≡ true
+      → countBefore p s ≡ i + countBefore p (drop i s) → i ≡ countBefore p s
+  before-here s i h e so-far =
+      let q : countBefore p (drop i s) ≡ 0 = before-at s i h ∙ simp e in omega (arith, so-far, q)
 
-  pub before-more : (s : List ℕ) (i : ℕ) → i < length s → p (getD s i 0) ≡ false → countBefore p s ≡ i + countBefore p (drop i s)
+  pub before-more : (s : List ℕ) (i : ℕ) → i < length s → p (getD s i 0) ≡ false
+      → countBefore p s ≡ i + countBefore p (drop i s)
       → countBefore p s ≡ i + 1 + countBefore p (drop (i + 1) s)
-  before-more s i h e so-far = let q : countBefore p (drop i s) ≡ 1 + countBefore p (drop (i + 1) s) = before-at s i h ∙ simp e in omega (arith, so-far, q)
+  before-more s i h e so-far =
+      let q : countBefore p (drop i s) ≡ 1 + countBefore p (drop (i + 1) s) = before-at s i h ∙ simp e in
+      omega (arith, so-far, q)
 
-  pub before-end : (s : List ℕ) (i : ℕ) → length s ≤ i → countBefore p s ≡ i + countBefore p (drop i s) → i ≡ countBefore p s
+  pub before-end : (s : List ℕ) (i : ℕ) → length s ≤ i → countBefore p s ≡ i + countBefore p (drop i s)
+      → i ≡ countBefore p s
   unfolding countBefore
-  before-end s i h so-far = let q : countBefore p (drop i s) ≡ 0 = ap (countBefore p) (drop-of-length-le s {i = i} h) in omega (arith, so-far, q)
+  before-end s i h so-far =
+      let q : countBefore p (drop i s) ≡ 0 = ap (countBefore p) (drop-of-length-le s {i = i} h) in
+      omega (arith, so-far, q)
 
   -- a part in which no element passes
-  clear-front : (n : ℕ) (s : List ℕ) → n ≤ length s → noneOf p (take n s) ≡ true → countBefore p s ≡ n + countBefore p (drop n s)
+  clear-front : (n : ℕ) (s : List ℕ) → n ≤ length s → noneOf p (take n s) ≡ true
+      → countBefore p s ≡ n + countBefore p (drop n s)
   unfolding countBefore noneOf
   clear-front zero s h e = sym (zero-add (countBefore p s))
   clear-front (suc n) [] h e = absurd (omega arith)
   clear-front (suc n) (x ∷ s) h e =
       by-bool (p x)
       (λ y. absurd (true≢false (sym e ∙ simp y)))
-      (λ k. let q : countBefore p s ≡ n + countBefore p (drop n s) = clear-front n s (omega arith) (simp k at e) in simp k (omega (arith, q)))
+      (λ k. let q : countBefore p s ≡ n + countBefore p (drop n s) = clear-front n s (omega arith) (simp k at e) in
+      simp k (omega (arith, q)))
 
-  pub before-block : (s : List ℕ) (i n : ℕ) (clear : Bool) → i + n ≤ length s → clear ≡ noneOf p (take (i + n - i) (drop i s)) → clear ≡ true
+  pub before-block : (s : List ℕ) (i n : ℕ) (clear : Bool) → i + n ≤ length s
+      → clear ≡ noneOf p (take (i + n - i) (drop i s)) → clear ≡ true
       → countBefore p s ≡ i + countBefore p (drop i s) → countBefore p s ≡ i + n + countBefore p (drop (i + n) s)
   before-block s i n clear h e y so-far =
       let m : i + n - i ≡ n = omega arith in
-      let none : noneOf p (take n (drop i s)) ≡ true = ap (λ (k : ℕ). noneOf p (take k (drop i s))) (sym m) ∙ sym e ∙ y in
+      let none : noneOf p (take n (drop i s)) ≡ true =
+      ap (λ (k : ℕ). noneOf p (take k (drop i s))) (sym m) ∙ sym e ∙ y in
       let q : countBefore p (drop i s) ≡ n + countBefore p (drop (i + n) s) =
-      clear-front n (drop i s) (omega (arith, length-drop i s)) none ∙ ap (λ (l : List ℕ). n + countBefore p l) (drop-drop n i s) in
+      clear-front n (drop i s) (omega (arith, length-drop i s)) none
+      ∙ ap (λ (l : List ℕ). n + countBefore p l) (drop-drop n i s) in
       omega (arith, so-far, q)
 
   -- the elements counted are elements of the list, and none of them passes

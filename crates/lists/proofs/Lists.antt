@@ -6,7 +6,8 @@ use native.Mathlib.Numerals.{add-one}
 use native.Mathlib.Omega.{arith}
 use lib.Dec.{leb}
 use lib.ListN.{length, getD, take, drop, set, length-drop, take-append-drop}
-use lib.Seq.{take-suc, drop-cons, set-at, length-take-le, drop-drop, drop-append-add, drop-append-le, getD-drop, take-all}
+use lib.Seq.{take-suc, drop-cons, set-at, length-take-le, drop-drop, drop-append-add, drop-append-le, getD-drop}
+use lib.Seq.{take-all}
 use borrow.Author.Tests.{leb-true, leb-false}
 use Rattle.lists.specs.Choice.{pick}
 use Rattle.lists.proofs.Cases.{by-bool}
@@ -17,7 +18,8 @@ drop-two s at k =
     let e : suc (at + 1) ≡ at + 2 = omega arith in
     drop-cons s at 0 (omega arith)
     ∙ ap (λ (l : List ℕ). getD s at 0 ∷ l)
-    (ap (λ (n : ℕ). drop n s) (sym (add-one at)) ∙ drop-cons s (at + 1) 0 k ∙ ap (λ (n : ℕ). getD s (at + 1) 0 ∷ drop n s) e)
+    (ap (λ (n : ℕ). drop n s) (sym (add-one at)) ∙ drop-cons s (at + 1) 0 k
+    ∙ ap (λ (n : ℕ). getD s (at + 1) 0 ∷ drop n s) e)
 
 -- One element more of v at the front of d.
 pub fill : (v d : List ℕ) (k b : ℕ) (rest : List ℕ) → drop k v ≡ b ∷ rest → k < length d
@@ -59,12 +61,15 @@ shift-more s₀ s from k h e =
     let l : length (take k (drop from s₀)) ≡ k = length-take-le k (drop from s₀) (omega (arith, length-drop from s₀)) in
     let c : k + from ≡ from + k = omega arith in
     let g : getD s (from + k) 0 ≡ getD (drop from s₀) k 0 =
-    ap (λ (i : ℕ). getD s i 0) (sym c) ∙ get-behind s s₀ (take k (drop from s₀)) k e l k from (omega arith) ∙ ap (λ (i : ℕ). getD s₀ i 0) c ∙ sym (getD-drop from s₀ k 0) in
-    let f = fill (drop from s₀) s₀ k (getD (drop from s₀) k 0) (drop (suc k) (drop from s₀)) (drop-cons (drop from s₀) k 0 (omega (arith, length-drop from s₀))) (omega arith) in
+    ap (λ (i : ℕ). getD s i 0) (sym c) ∙ get-behind s s₀ (take k (drop from s₀)) k e l k from (omega arith)
+    ∙ ap (λ (i : ℕ). getD s₀ i 0) c ∙ sym (getD-drop from s₀ k 0) in
+    let f = fill (drop from s₀) s₀ k (getD (drop from s₀) k 0) (drop (suc k) (drop from s₀))
+    (drop-cons (drop from s₀) k 0 (omega (arith, length-drop from s₀))) (omega arith) in
     ap (λ (b : ℕ). set s k b) g ∙ ap (λ (t : List ℕ). set t k (getD (drop from s₀) k 0)) e ∙ f .1
 
 -- A part that was changed at its front, put back into the whole.
-pub back-in : (s last c : List ℕ) (n : ℕ) → n ≤ length s → length c ≤ n → last ≡ c ++ drop (length c) (take n s) → last ++ drop n s ≡ c ++ drop (length c) s
+pub back-in : (s last c : List ℕ) (n : ℕ) → n ≤ length s → length c ≤ n → last ≡ c ++ drop (length c) (take n s)
+    → last ++ drop n s ≡ c ++ drop (length c) s
 back-in s last c n h k e =
     ap (λ (l : List ℕ). l ++ drop n s) e
     ∙ append-assoc c (drop (length c) (take n s)) (drop n s)
@@ -74,13 +79,15 @@ back-in s last c n h k e =
     seam = drop-append-le (length c) (take n s) (drop n s) (omega (arith, length-take-le n s h))
 
 -- The first elements, where the number of them is cut to the list's length.
-pub take-lesser : (s : List ℕ) (len n : ℕ) → n ≡ pick (leb len (length s)) len (length s) → (take n s ≡ take len s) × (n ≤ length s)
+pub take-lesser : (s : List ℕ) (len n : ℕ) → n ≡ pick (leb len (length s)) len (length s)
+    → (take n s ≡ take len s) × (n ≤ length s)
 take-lesser s len n e =
     by-bool (leb len (length s))
     (λ y. let q : n ≡ len = simp y at e in
     let h : len ≤ length s = leb-true _ _ y in (ap (λ (m : ℕ). take m s) q, omega arith))
     (λ y. let q : n ≡ length s = simp y at e in
-    let h : length s < len = leb-false _ _ y in (take-all n s (omega arith) ∙ sym (take-all len s (omega arith)), omega arith))
+    let h : length s < len = leb-false _ _ y in
+    (take-all n s (omega arith) ∙ sym (take-all len s (omega arith)), omega arith))
 
 -- The last element by itself.
 pub last-apart : (s : List ℕ) → 1 ≤ length s → s ≡ take (length s - 1) s ++ (getD s (length s - 1) 0 ∷ [])

@@ -9,7 +9,8 @@ use Rattle.lists.proofs.Cases.{by-bool}
 -- ---- one machine
 
 module _ {S C A : Type 0} (answer : S → C → A) (next : S → C → S) where
-  pub run-append : (s : S) (calls rest : List C) → run answer next s (calls ++ rest) ≡ run answer next s calls ++ run answer next (leftAfter next s calls) rest
+  pub run-append : (s : S) (calls rest : List C)
+      → run answer next s (calls ++ rest) ≡ run answer next s calls ++ run answer next (leftAfter next s calls) rest
   run-append s [] rest = refl
   run-append s (c ∷ calls) rest = ap (λ (l : List A). answer s c ∷ l) (run-append (next s c) calls rest)
 
@@ -17,16 +18,18 @@ module _ {S C A : Type 0} (answer : S → C → A) (next : S → C → S) where
   pub runs-anew : (new : S) (c : C) → ((s : S) → next s c ≡ new) → (s : S) (calls rest : List C)
       → run answer next s (calls ++ c ∷ rest) ≡ run answer next s (calls ++ c ∷ []) ++ run answer next new rest
   runs-anew new c ends s [] rest = ap (λ (t : S). answer s c ∷ run answer next t rest) (ends s)
-  runs-anew new c ends s (x ∷ calls) rest = ap (λ (l : List A). answer s x ∷ l) (runs-anew new c ends (next s x) calls rest)
+  runs-anew new c ends s (x ∷ calls) rest =
+      ap (λ (l : List A). answer s x ∷ l) (runs-anew new c ends (next s x) calls rest)
 
-pub left-append : {S C : Type 0} (next : S → C → S) (s : S) (calls rest : List C) → leftAfter next s (calls ++ rest) ≡ leftAfter next (leftAfter next s calls) rest
+pub left-append : {S C : Type 0} (next : S → C → S) (s : S) (calls rest : List C)
+    → leftAfter next s (calls ++ rest) ≡ leftAfter next (leftAfter next s calls) rest
 left-append next s [] rest = refl
 left-append next s (c ∷ calls) rest = left-append next (next s c) calls rest
 
 -- ---- two machines
 
--- Two machines that keep a relation and answer alike at each call with a property answer every list of such calls alike, and the states that
--- they leave are related.
+-- Two machines that keep a relation and answer alike at each call with a property answer every list of such calls
+-- alike, and the states that they leave are related.
 module _ {S T C A : Type 0} (answer : S → C → A) (next : S → C → S) (answer′ : T → C → A) (next′ : T → C → T)
     (P : C → Type 0) (R : S → T → Type 0)
     (step : (s : S) (t : T) (c : C) → P c → R s t → (answer s c ≡ answer′ t c) × R (next s c) (next′ t c)) where
@@ -39,7 +42,8 @@ module _ {S T C A : Type 0} (answer : S → C → A) (next : S → C → S) (ans
       (ap₂ (λ (x : A) (xs : List A). x ∷ xs) (k .0) (rest .0), rest .1)
 
 -- The same where no property is asked of the calls.
-module _ {S T C A : Type 0} (answer : S → C → A) (next : S → C → S) (answer′ : T → C → A) (next′ : T → C → T) (R : S → T → Type 0)
+module _ {S T C A : Type 0} (answer : S → C → A) (next : S → C → S) (answer′ : T → C → A) (next′ : T → C → T)
+    (R : S → T → Type 0)
     (step : (s : S) (t : T) (c : C) → R s t → (answer s c ≡ answer′ t c) × R (next s c) (next′ t c)) where
   pub simulates : (s : S) (t : T) → R s t → (calls : List C) → run answer next s calls ≡ run answer′ next′ t calls
   simulates s t r calls =

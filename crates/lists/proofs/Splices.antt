@@ -5,7 +5,8 @@ use mathlib.Core.List.{List, [], _∷_, _++_, append-assoc, append-nil}
 use native.Mathlib.Nat.{add-zero, add-assoc}
 use native.Mathlib.Numerals.{add-one}
 use native.Mathlib.Omega.{arith}
-use lib.ListN.{length, getD, take, drop, set, length-append, take-append-drop, length-drop, length-set, drop-of-length-le}
+use lib.ListN.{length, getD, take, drop, set, length-append, take-append-drop, length-drop, length-set}
+use lib.ListN.{drop-of-length-le}
 use lib.Seq.{set-split, take-at, take-all, drop-drop, length-take-le, drop-append-add, paste, paste-suc, take-length}
 use Rattle.lists.specs.Splice.{splice}
 
@@ -26,14 +27,17 @@ module _ (out : List ℕ) (at : ℕ) (v : List ℕ) (room : at + length v ≤ le
   split = sym (append-assoc (take at out) v (drop (at + length v) out))
 
   pub length-splice : length (splice out at v) ≡ length out
-  length-splice = ap length split ∙ length-append front (drop (at + length v) out) ∙ omega (arith, front-length, length-drop (at + length v) out)
+  length-splice =
+      ap length split ∙ length-append front (drop (at + length v) out)
+      ∙ omega (arith, front-length, length-drop (at + length v) out)
 
   -- two lists put in one after the other are their concatenation put in
   pub splice-splice : (w : List ℕ) → splice (splice out at v) (at + length v) w ≡ splice out at (v ++ w)
   unfolding front
   splice-splice w =
       ap (λ (l : List ℕ). splice l (at + length v) w) split
-      ∙ ap (λ (l : List ℕ). l ++ (w ++ drop (at + length v + length w) (front ++ drop (at + length v) out))) (take-at front (drop (at + length v) out) (at + length v) front-length)
+      ∙ ap (λ (l : List ℕ). l ++ (w ++ drop (at + length v + length w) (front ++ drop (at + length v) out)))
+      (take-at front (drop (at + length v) out) (at + length v) front-length)
       ∙ ap (λ (l : List ℕ). front ++ (w ++ l)) past
       ∙ append-assoc (take at out) v (w ++ drop (at + length (v ++ w)) out)
       ∙ ap (λ (l : List ℕ). take at out ++ l) (sym (append-assoc v w (drop (at + length (v ++ w)) out)))
@@ -43,20 +47,24 @@ module _ (out : List ℕ) (at : ℕ) (v : List ℕ) (room : at + length v ≤ le
           ap (λ (n : ℕ). drop (n + length w) (front ++ drop (at + length v) out)) (sym front-length)
           ∙ drop-append-add front (drop (at + length v) out) (length w)
           ∙ drop-drop (length w) (at + length v) out
-          ∙ ap (λ (n : ℕ). drop n out) (add-assoc at (length v) (length w) ∙ ap (λ (n : ℕ). at + n) (sym (length-append v w)))
+          ∙ ap (λ (n : ℕ). drop n out)
+          (add-assoc at (length v) (length w) ∙ ap (λ (n : ℕ). at + n) (sym (length-append v w)))
 
 -- The same, along a chain of results.
-pub splice-next : (out : List ℕ) (at : ℕ) (v : List ℕ) {out₁ out₂ : List ℕ} (w : List ℕ) (a : ℕ) → at + length v ≤ length out
+pub splice-next : (out : List ℕ) (at : ℕ) (v : List ℕ) {out₁ out₂ : List ℕ} (w : List ℕ) (a : ℕ)
+    → at + length v ≤ length out
     → out₁ ≡ splice out at v → a ≡ at + length v → out₂ ≡ splice out₁ a w → out₂ ≡ splice out at (v ++ w)
 splice-next out at v w a room p q r =
-    r ∙ ap (λ (l : List ℕ). splice l a w) p ∙ ap (λ (n : ℕ). splice (splice out at v) n w) q ∙ splice-splice out at v room w
+    r ∙ ap (λ (l : List ℕ). splice l a w) p ∙ ap (λ (n : ℕ). splice (splice out at v) n w) q
+    ∙ splice-splice out at v room w
 
 -- One store.
 pub set-splice : (out : List ℕ) (at b : ℕ) → at < length out → set out at b ≡ splice out at (b ∷ [])
 set-splice out at b h = set-split out at b h ∙ ap (λ (n : ℕ). take at out ++ b ∷ drop n out) (sym (add-one at))
 
 -- Two stores beside each other.
-pub set2-splice : (out : List ℕ) (at a b : ℕ) → at + 2 ≤ length out → set (set out at a) (at + 1) b ≡ splice out at (a ∷ b ∷ [])
+pub set2-splice : (out : List ℕ) (at a b : ℕ) → at + 2 ≤ length out
+    → set (set out at a) (at + 1) b ≡ splice out at (a ∷ b ∷ [])
 set2-splice out at a b h =
     set-splice (set out at a) (at + 1) b (simp length-set (omega arith))
     ∙ ap (λ (l : List ℕ). splice l (at + 1) (b ∷ [])) (set-splice out at a (omega arith))
@@ -66,16 +74,19 @@ set2-splice out at a b h =
 module _ (out₀ : List ℕ) (at : ℕ) (s out : List ℕ) (i : ℕ) (e : out ≡ paste out₀ at s i) where
   pub paste-more : at + length s ≤ length out₀ → i < length s → set out (at + i) (getD s i 0) ≡ paste out₀ at s (i + 1)
   paste-more room h =
-      ap (λ (l : List ℕ). set l (at + i) (getD s i 0)) e ∙ paste-suc out₀ at s i 0 (omega arith) h ∙ ap (paste out₀ at s) (sym (add-one i))
+      ap (λ (l : List ℕ). set l (at + i) (getD s i 0)) e ∙ paste-suc out₀ at s i 0 (omega arith) h
+      ∙ ap (paste out₀ at s) (sym (add-one i))
 
   pub paste-all : i ≤ length s → length s ≤ i → out ≡ splice out₀ at s
   paste-all h k =
       let n : i ≡ length s = omega arith in
-      e ∙ ap (λ (m : ℕ). take at out₀ ++ take i s ++ drop (at + m) out₀) n ∙ ap (λ (l : List ℕ). take at out₀ ++ l ++ drop (at + length s) out₀) (take-all i s k)
+      e ∙ ap (λ (m : ℕ). take at out₀ ++ take i s ++ drop (at + m) out₀) n
+      ∙ ap (λ (l : List ℕ). take at out₀ ++ l ++ drop (at + length s) out₀) (take-all i s k)
       ∙ append-assoc (take at out₀) s (drop (at + length s) out₀)
 
 -- A list copied to the front of the part from an index on, put back into the whole.
-pub part-splice : (xs d last : List ℕ) (at : ℕ) → at + length d ≤ length xs → last ≡ take (length d) d ++ drop (length d) (take (length xs - at) (drop at xs))
+pub part-splice : (xs d last : List ℕ) (at : ℕ) → at + length d ≤ length xs
+    → last ≡ take (length d) d ++ drop (length d) (take (length xs - at) (drop at xs))
     → take at xs ++ (last ++ drop (length xs - at) (drop at xs)) ≡ splice xs at d
 part-splice xs d last at h e =
     let l = length-drop at xs in

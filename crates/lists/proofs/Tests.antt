@@ -34,14 +34,16 @@ module _ (p : ℕ → Bool) where
   unfolding noneOf
   none-drop zero s h = h
   none-drop (suc k) [] h = refl
-  none-drop (suc k) (x ∷ s) h = by-bool (p x) (λ y. absurd (true≢false (sym h ∙ simp y))) (λ n. none-drop k s (simp n at h))
+  none-drop (suc k) (x ∷ s) h =
+      by-bool (p x) (λ y. absurd (true≢false (sym h ∙ simp y))) (λ n. none-drop k s (simp n at h))
 
   -- no element passes exactly where the element at no index does
   pub none-at : (s : List ℕ) → noneOf p s ≡ true → (i : ℕ) → i < length s → p (getD s i 0) ≡ false
   unfolding noneOf
   none-at [] h i k = absurd (omega arith)
   none-at (x ∷ s) h zero k = by-bool (p x) (λ y. absurd (true≢false (sym h ∙ simp y))) (λ n. n)
-  none-at (x ∷ s) h (suc i) k = by-bool (p x) (λ y. absurd (true≢false (sym h ∙ simp y))) (λ n. none-at s (simp n at h) i (omega arith))
+  none-at (x ∷ s) h (suc i) k =
+      by-bool (p x) (λ y. absurd (true≢false (sym h ∙ simp y))) (λ n. none-at s (simp n at h) i (omega arith))
 
   pub at-none : (s : List ℕ) → ((i : ℕ) → i < length s → p (getD s i 0) ≡ false) → noneOf p s ≡ true
   unfolding noneOf
@@ -49,13 +51,16 @@ module _ (p : ℕ → Bool) where
   at-none (x ∷ s) h = simp (h 0 (omega arith), at-none s (λ i k. h (suc i) (omega arith)))
 
   -- a loop that gathers, as 0 or 1, whether an element has passed
-  pub mark-more : (s : List ℕ) (i seen hit : ℕ) → i < length s → seen ≡ pick (noneOf p (take i s)) 0 1 → hit ≡ pick (p (getD s i 0)) 1 0
+  pub mark-more : (s : List ℕ) (i seen hit : ℕ) → i < length s → seen ≡ pick (noneOf p (take i s)) 0 1
+      → hit ≡ pick (p (getD s i 0)) 1 0
       → bitOr seen hit ≡ pick (noneOf p (take (i + 1) s)) 0 1
   unfolding noneOf
   mark-more s i seen hit h e f =
       ap (λ (m : ℕ). bitOr m hit) e ∙ ap (bitOr (pick (noneOf p (take i s)) 0 1)) f
       ∙ joined (noneOf p (take i s)) (p (getD s i 0))
-      ∙ sym (ap (λ (t : Bool). pick {A = ℕ} t 0 1) (ap (λ (n : ℕ). noneOf p (take n s)) (add-one i) ∙ ap (noneOf p) (take-suc s i 0 h) ∙ none-append (take i s) (getD s i 0 ∷ [])))
+      ∙ sym (ap (λ (t : Bool). pick {A = ℕ} t 0 1)
+      (ap (λ (n : ℕ). noneOf p (take n s)) (add-one i) ∙ ap (noneOf p) (take-suc s i 0 h)
+      ∙ none-append (take i s) (getD s i 0 ∷ [])))
     where
       joined : (t u : Bool) → bitOr (pick t 0 1) (pick u 1 0) ≡ pick (pick t (pick u false true) false) 0 1
       joined true true = refl
@@ -64,7 +69,8 @@ module _ (p : ℕ → Bool) where
       joined false false = refl
 
   -- no element passes where the last, known by itself, and none before it does
-  pub none-last : (s : List ℕ) (last : ℕ) → 1 ≤ length s → last ≡ getD s (length s - 1) 0 → noneOf p (take (length s - 1) s) ≡ true → p last ≡ false → noneOf p s ≡ true
+  pub none-last : (s : List ℕ) (last : ℕ) → 1 ≤ length s → last ≡ getD s (length s - 1) 0
+      → noneOf p (take (length s - 1) s) ≡ true → p last ≡ false → noneOf p s ≡ true
   unfolding noneOf
   none-last s last h e f n =
       ap (noneOf p) (last-apart s h ∙ ap (λ (b : ℕ). take (length s - 1) s ++ (b ∷ [])) (sym e))
@@ -75,9 +81,12 @@ module _ (p : ℕ → Bool) where
   count-append : (a b : List ℕ) → countOf p (a ++ b) ≡ countOf p a + countOf p b
   unfolding countOf
   count-append [] b = sym (zero-add (countOf p b))
-  count-append (x ∷ a) b = ap (λ (n : ℕ). pick (p x) 1 0 + n) (count-append a b) ∙ sym (add-assoc (pick (p x) 1 0) (countOf p a) (countOf p b))
+  count-append (x ∷ a) b =
+      ap (λ (n : ℕ). pick (p x) 1 0 + n) (count-append a b)
+      ∙ sym (add-assoc (pick (p x) 1 0) (countOf p a) (countOf p b))
 
-  pub count-at : (s : List ℕ) (i : ℕ) → i < length s → countOf p (drop i s) ≡ pick (p (getD s i 0)) 1 0 + countOf p (drop (i + 1) s)
+  pub count-at : (s : List ℕ) (i : ℕ) → i < length s
+      → countOf p (drop i s) ≡ pick (p (getD s i 0)) 1 0 + countOf p (drop (i + 1) s)
   unfolding countOf
   count-at s i h = rw (add-one, drop-cons s i 0 h)
 
@@ -85,7 +94,8 @@ module _ (p : ℕ → Bool) where
   unfolding countOf
   count-end s i h = ap (countOf p) (drop-of-length-le s h)
 
-  pub count-last : (s : List ℕ) (last : ℕ) → 1 ≤ length s → last ≡ getD s (length s - 1) 0 → p last ≡ false → countOf p (take (length s - 1) s) ≡ countOf p s
+  pub count-last : (s : List ℕ) (last : ℕ) → 1 ≤ length s → last ≡ getD s (length s - 1) 0 → p last ≡ false
+      → countOf p (take (length s - 1) s) ≡ countOf p s
   unfolding countOf
   count-last s last h e n =
       sym
@@ -108,7 +118,8 @@ module _ (p : ℕ → Bool) where
   count-most (x ∷ s) = let h = count-most s in by-bool (p x) (λ y. simp y (omega arith)) (λ n. simp n (omega arith))
 
   -- where no element passes a test, none passes one that asks for more
-  pub none-stronger : (q : ℕ → Bool) → ((x : ℕ) → q x ≡ true → p x ≡ true) → (s : List ℕ) → noneOf p s ≡ true → noneOf q s ≡ true
+  pub none-stronger : (q : ℕ → Bool) → ((x : ℕ) → q x ≡ true → p x ≡ true) → (s : List ℕ) → noneOf p s ≡ true
+      → noneOf q s ≡ true
   unfolding noneOf
   none-stronger q more [] h = refl
   none-stronger q more (x ∷ s) h =

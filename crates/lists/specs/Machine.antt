@@ -41,7 +41,8 @@ module _ {S C A : Type 0} (called : S → C → A → S → Type 0) where
   -- Calls in a row from a state on, with their answers, and the state that the last one left.
   pub data Ran : S → List C → List A → S → Type 0 where
     ended : {s : S} → Ran s [] [] s
-    call : (s t : S) (c : C) (a : A) {u : S} {calls : List C} {answers : List A} → called s c a t → Ran t calls answers u → Ran s (c ∷ calls) (a ∷ answers) u
+    call : (s t : S) (c : C) (a : A) {u : S} {calls : List C} {answers : List A} → called s c a t
+        → Ran t calls answers u → Ran s (c ∷ calls) (a ∷ answers) u
 
   -- Calls in a row from a new state on, with their answers.
   pub record Answered (new : S → Type 0) (calls : List C) (answers : List A) : Type 0 where

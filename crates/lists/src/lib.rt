@@ -1,5 +1,5 @@
-// Definitions and laws on lists that the layers above share: a choice by a test, a test on every element, a list put into another
-// from an index on, the first element that passes a test, and a machine run on a list of calls.
+// Definitions and laws on lists that the layers above share: a choice by a test, a test on every element, a list put
+// into another from an index on, the first element that passes a test, and a machine run on a list of calls.
 ghost use mathlib.Core.Path.{_≡_};
 ghost use Prim.Native.Nat.{_+_, _≤_};
 ghost use lib.Dec.{leb};
@@ -42,8 +42,8 @@ pub fn none_within(s: &[u8], low: u8, high: u8) -> bool
     seen == 0
 }
 
-// How many bytes stand before the first that lies between two values, both included. Whole blocks without one are passed over first,
-// because a block is tested without a branch for each byte.
+// How many bytes stand before the first that lies between two values, both included. Whole blocks without one are
+// passed over first, because a block is tested without a branch for each byte.
 pub fn count_before(s: &[u8], low: u8, high: u8) -> usize
     ensures { λ r. ⌜ r ≡ countBefore (within low high) (now (s .entry)) ⌝ }
 {
@@ -59,7 +59,8 @@ pub fn count_before(s: &[u8], low: u8, high: u8) -> usize
 
 fn blocks_before(s: &[u8], low: u8, high: u8) -> usize
     ensures { λ r. ⌜ r ≤ length (now (s .entry)) ⌝ }
-    ensures { λ r. ⌜ countBefore (within low high) (now (s .entry)) ≡ r + countBefore (within low high) (drop r (now (s .entry))) ⌝ }
+    ensures { λ r. ⌜ countBefore (within low high) (now (s .entry))
+        ≡ r + countBefore (within low high) (drop r (now (s .entry))) ⌝ }
 {
     let mut i: usize = 0;
     while BLOCK <= s.len() - i {

@@ -6,7 +6,8 @@ use mathlib.Core.List.{List, [], _∷_, _++_, append-assoc}
 use native.Mathlib.Omega.{arith}
 use native.Mathlib.Nat.{pow-suc, pow-zero, add-zero, mul-suc, mul-zero, pow-le-pow-right}
 use lib.ListN.{length, getD, set, take, drop, length-set, length-append, take-append-drop}
-use lib.Seq.{getD-set-same, getD-set-other, set-getD, set-out, drop-set-lt, take-suc-set, drop-cons, getD-at, drop-drop, take-add}
+use lib.Seq.{getD-set-same, getD-set-other, set-getD, set-out, drop-set-lt, take-suc-set, drop-cons, getD-at, drop-drop}
+use lib.Seq.{take-add}
 use Rattle.numbers.specs.Number.{number, put, bytesOf, Bytes, numbers, bytesOfAll}
 
 -- ---- lengths and bounds
@@ -32,13 +33,15 @@ pub put-before : (w at n : ℕ) (s : List ℕ) (i : ℕ) → i < at → getD (pu
 unfolding put
 put-before zero at n s i h = refl
 put-before (suc w) at n s i h =
-    put-before w (suc at) (n / 256) (set s at (n % 256)) i (omega arith) ∙ getD-set-other s at i (n % 256) 0 (omega arith)
+    put-before w (suc at) (n / 256) (set s at (n % 256)) i (omega arith)
+    ∙ getD-set-other s at i (n % 256) 0 (omega arith)
 
 pub put-after : (w at n : ℕ) (s : List ℕ) (i : ℕ) → at + w ≤ i → getD (put w at n s) i 0 ≡ getD s i 0
 unfolding put
 put-after zero at n s i h = refl
 put-after (suc w) at n s i h =
-    put-after w (suc at) (n / 256) (set s at (n % 256)) i (omega arith) ∙ getD-set-other s at i (n % 256) 0 (omega arith)
+    put-after w (suc at) (n / 256) (set s at (n % 256)) i (omega arith)
+    ∙ getD-set-other s at i (n % 256) 0 (omega arith)
 
 -- past the end nothing is written
 pub put-out : (w at n : ℕ) (s : List ℕ) → length s ≤ at → put w at n s ≡ s
@@ -51,7 +54,8 @@ put-out (suc w) at n s h =
 pub put-bytes : (w at n : ℕ) (s : List ℕ) → Bytes s → Bytes (put w at n s)
 unfolding put
 put-bytes zero at n s b = b
-put-bytes (suc w) at n s b = put-bytes w (suc at) (n / 256) (set s at (n % 256)) (set-bytes s at (n % 256) (omega arith) b)
+put-bytes (suc w) at n s b =
+    put-bytes w (suc at) (n / 256) (set s at (n % 256)) (set-bytes s at (n % 256) (omega arith) b)
   where
     set-bytes : (s : List ℕ) (at v : ℕ) → v < 256 → Bytes s → Bytes (set s at v)
     set-bytes [] at v h b i = b i
@@ -63,11 +67,13 @@ put-bytes (suc w) at n s b = put-bytes w (suc at) (n / 256) (set s at (n % 256))
 -- ---- reading
 
 -- a number depends on its own bytes alone
-pub number-same : (w at : ℕ) (s t : List ℕ) → ((i : ℕ) → at ≤ i → i < at + w → getD s i 0 ≡ getD t i 0) → number w at s ≡ number w at t
+pub number-same : (w at : ℕ) (s t : List ℕ) → ((i : ℕ) → at ≤ i → i < at + w → getD s i 0 ≡ getD t i 0)
+    → number w at s ≡ number w at t
 unfolding number
 number-same zero at s t e = refl
 number-same (suc w) at s t e =
-    ap₂ (λ (b m : ℕ). b + 256 * m) (e at (omega arith) (omega arith)) (number-same w (suc at) s t (λ i l h. e i (omega arith) (omega arith)))
+    ap₂ (λ (b m : ℕ). b + 256 * m) (e at (omega arith) (omega arith))
+    (number-same w (suc at) s t (λ i l h. e i (omega arith) (omega arith)))
 
 -- read after write
 pub number-put : (w at n : ℕ) (s : List ℕ) → at + w ≤ length s → n < 256 ^ w → number w at (put w at n s) ≡ n
@@ -82,8 +88,10 @@ number-put (suc w) at n s h b =
     omega arith
 
 -- a number apart from what is written
-pub number-put-apart : (v at w to n : ℕ) (s : List ℕ) → (at + v ≤ to) ⊎ (to + w ≤ at) → number v at (put w to n s) ≡ number v at s
-number-put-apart v at w to n s (inl h) = number-same v at (put w to n s) s (λ i l k. put-before w to n s i (omega arith))
+pub number-put-apart : (v at w to n : ℕ) (s : List ℕ) → (at + v ≤ to) ⊎ (to + w ≤ at)
+    → number v at (put w to n s) ≡ number v at s
+number-put-apart v at w to n s (inl h) =
+    number-same v at (put w to n s) s (λ i l k. put-before w to n s i (omega arith))
 number-put-apart v at w to n s (inr h) = number-same v at (put w to n s) s (λ i l k. put-after w to n s i (omega arith))
 
 -- write after read
@@ -94,12 +102,14 @@ put-number (suc w) at s b =
     let m : ℕ = number w (suc at) s in
     let q : (getD s at 0 + 256 * m) / 256 ≡ m = omega (arith, b at) in
     let r : (getD s at 0 + 256 * m) % 256 ≡ getD s at 0 = omega (arith, b at) in
-    ap₂ (λ (x y : ℕ). put w (suc at) x (set s at y)) q r ∙ ap (put w (suc at) m) (set-getD s at 0) ∙ put-number w (suc at) s b
+    ap₂ (λ (x y : ℕ). put w (suc at) x (set s at y)) q r ∙ ap (put w (suc at) m) (set-getD s at 0)
+    ∙ put-number w (suc at) s b
 
 -- ---- a number's bytes at an index
 
 -- the bytes of n, wherever they stand, are n
-pub number-bytesOf : (w n : ℕ) (p q : List ℕ) (at : ℕ) → length p ≡ at → n < 256 ^ w → number w at (p ++ (bytesOf w n ++ q)) ≡ n
+pub number-bytesOf : (w n : ℕ) (p q : List ℕ) (at : ℕ) → length p ≡ at → n < 256 ^ w
+    → number w at (p ++ (bytesOf w n ++ q)) ≡ n
 unfolding number bytesOf
 number-bytesOf zero n p q at l b = omega (arith, pow-zero 256)
 number-bytesOf (suc w) n p q at l b =
@@ -107,19 +117,23 @@ number-bytesOf (suc w) n p q at l b =
     let rest : List ℕ = bytesOf w (n / 256) ++ q in
     let low : getD (p ++ (v ∷ rest)) at 0 ≡ v = getD-at p v rest 0 at l in
     let high : number w (suc at) ((p ++ (v ∷ [])) ++ rest) ≡ n / 256 =
-    number-bytesOf w (n / 256) (p ++ (v ∷ [])) q (suc at) (omega (arith, length-append p (v ∷ []))) (omega (arith, pow-suc 256 w)) in
-    let high′ : number w (suc at) (p ++ (v ∷ rest)) ≡ n / 256 = ap (number w (suc at)) (sym (append-assoc p (v ∷ []) rest)) ∙ high in
+    number-bytesOf w (n / 256) (p ++ (v ∷ [])) q (suc at) (omega (arith, length-append p (v ∷ [])))
+    (omega (arith, pow-suc 256 w)) in
+    let high′ : number w (suc at) (p ++ (v ∷ rest)) ≡ n / 256 =
+    ap (number w (suc at)) (sym (append-assoc p (v ∷ []) rest)) ∙ high in
     omega arith
 
 -- the bytes of the number that stands at an index are those that stand there
-pub bytesOf-number : (w at : ℕ) (s : List ℕ) → Bytes s → at + w ≤ length s → bytesOf w (number w at s) ≡ take w (drop at s)
+pub bytesOf-number : (w at : ℕ) (s : List ℕ) → Bytes s → at + w ≤ length s
+    → bytesOf w (number w at s) ≡ take w (drop at s)
 unfolding number bytesOf
 bytesOf-number zero at s b h = refl
 bytesOf-number (suc w) at s b h =
     let m : ℕ = number w (suc at) s in
     let q : (getD s at 0 + 256 * m) / 256 ≡ m = omega (arith, b at) in
     let r : (getD s at 0 + 256 * m) % 256 ≡ getD s at 0 = omega (arith, b at) in
-    ap₂ (λ (x y : ℕ). x ∷ bytesOf w y) r q ∙ ap (λ (l : List ℕ). getD s at 0 ∷ l) (bytesOf-number w (suc at) s b (omega arith))
+    ap₂ (λ (x y : ℕ). x ∷ bytesOf w y) r q
+    ∙ ap (λ (l : List ℕ). getD s at 0 ∷ l) (bytesOf-number w (suc at) s b (omega arith))
     ∙ sym (ap (take (suc w)) (drop-cons s at 0 (omega arith)))
 
 -- ---- numbers one after the other
@@ -137,11 +151,13 @@ numbers-at w (suc c) at s zero h = ap (λ (k : ℕ). number w k s) (omega (arith
 numbers-at w (suc c) at s (suc i) h =
     numbers-at w c (at + w) s i (omega arith) ∙ ap (λ (k : ℕ). number w k s) (omega (arith, mul-suc w i))
 
-numbers-same : (w c at : ℕ) (s t : List ℕ) → ((i : ℕ) → at ≤ i → getD s i 0 ≡ getD t i 0) → numbers w c at s ≡ numbers w c at t
+numbers-same : (w c at : ℕ) (s t : List ℕ) → ((i : ℕ) → at ≤ i → getD s i 0 ≡ getD t i 0)
+    → numbers w c at s ≡ numbers w c at t
 unfolding numbers
 numbers-same w zero at s t e = refl
 numbers-same w (suc c) at s t e =
-    ap₂ (λ (n : ℕ) (l : List ℕ). n ∷ l) (number-same w at s t (λ i l h. e i l)) (numbers-same w c (at + w) s t (λ i l. e i (omega arith)))
+    ap₂ (λ (n : ℕ) (l : List ℕ). n ∷ l) (number-same w at s t (λ i l h. e i l))
+    (numbers-same w c (at + w) s t (λ i l. e i (omega arith)))
 
 -- the i-th of them written: it alone is changed
 pub numbers-put : (w c at n : ℕ) (s : List ℕ) (i : ℕ) → i < c → at + w * c ≤ length s → n < 256 ^ w
@@ -160,7 +176,8 @@ numbers-put w (suc c) at n s (suc i) h l b =
     (numbers-put w c (at + w) n s i (omega arith) (omega (arith, mul-suc w c)) b)
 
 -- packed again they are the bytes that they were read from
-pub bytes-numbers : (w c at : ℕ) (s : List ℕ) → Bytes s → at + w * c ≤ length s → bytesOfAll w (numbers w c at s) ≡ take (w * c) (drop at s)
+pub bytes-numbers : (w c at : ℕ) (s : List ℕ) → Bytes s → at + w * c ≤ length s
+    → bytesOfAll w (numbers w c at s) ≡ take (w * c) (drop at s)
 unfolding numbers bytesOfAll
 bytes-numbers w zero at s b h = ap (λ (k : ℕ). take k (drop at s)) (sym (mul-zero w))
 bytes-numbers w (suc c) at s b h =
@@ -172,14 +189,16 @@ bytes-numbers w (suc c) at s b h =
 -- ---- one byte at a time, for loops
 
 -- read from the highest byte down, where `left` bytes are still to be read
-pub number-down : (w at left n b : ℕ) (s : List ℕ) → 0 < left → left ≤ w → n ≡ number (w - left) (at + left) s → b ≡ getD s (at + (left - 1)) 0
+pub number-down : (w at left n b : ℕ) (s : List ℕ) → 0 < left → left ≤ w → n ≡ number (w - left) (at + left) s
+    → b ≡ getD s (at + (left - 1)) 0
     → b + 256 * n ≡ number (w - (left - 1)) (at + (left - 1)) s
 unfolding number
 number-down w at left n b s h k e d =
     let p : w - (left - 1) ≡ suc (w - left) = omega arith in
     let q : at + left ≡ suc (at + (left - 1)) = omega arith in
     let e′ : n ≡ number (w - left) (suc (at + (left - 1))) s = e ∙ ap (λ (j : ℕ). number (w - left) j s) q in
-    let r : number (w - (left - 1)) (at + (left - 1)) s ≡ number (suc (w - left)) (at + (left - 1)) s = ap (λ (j : ℕ). number j (at + (left - 1)) s) p in
+    let r : number (w - (left - 1)) (at + (left - 1)) s ≡ number (suc (w - left)) (at + (left - 1)) s =
+    ap (λ (j : ℕ). number j (at + (left - 1)) s) p in
     ap₂ (λ (x y : ℕ). x + 256 * y) d e′ ∙ sym r
 
 -- at the end
@@ -190,13 +209,15 @@ number-all w at left n s h e =
     e ∙ ap₂ (λ (i j : ℕ). number i j s) p q
 
 -- where at most k bytes have been read, the number is below what k bytes hold
-pub number-down-bound : (w at left n k : ℕ) (s : List ℕ) → Bytes s → w - left ≤ k → n ≡ number (w - left) (at + left) s → n < 256 ^ k
+pub number-down-bound : (w at left n k : ℕ) (s : List ℕ) → Bytes s → w - left ≤ k → n ≡ number (w - left) (at + left) s
+    → n < 256 ^ k
 number-down-bound w at left n k s b h e =
     let m : 256 ^ (w - left) ≤ 256 ^ k = pow-le-pow-right (omega arith) h in
     omega (arith, number-bound (w - left) (at + left) s b)
 
 -- written from the lowest byte up, where i bytes are written
-pub put-up : (w at i n : ℕ) (s : List ℕ) → i < w → put (w - i) (at + i) n s ≡ put (w - (i + 1)) (at + (i + 1)) (n / 256) (set s (at + i) (n % 256))
+pub put-up : (w at i n : ℕ) (s : List ℕ) → i < w
+    → put (w - i) (at + i) n s ≡ put (w - (i + 1)) (at + (i + 1)) (n / 256) (set s (at + i) (n % 256))
 unfolding put
 put-up w at i n s h =
     let p : w - i ≡ suc (w - (i + 1)) = omega arith in

@@ -1,4 +1,5 @@
-// A number of several bytes in a list, lowest byte first: definitions and laws at any width and index, and the function that reads one.
+// A number of several bytes in a list, lowest byte first: definitions and laws at any width and index, and the function
+// that reads one.
 ghost use mathlib.Core.Path.{_≡_};
 ghost use Prim.Native.Nat.{_+_};
 ghost use lib.Dec.{leb};

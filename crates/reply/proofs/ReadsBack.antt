@@ -10,11 +10,13 @@ use lib.ListN.{length, take}
 use Rattle.answer.specs.Draft.{Draft, draftAnswer, draftOut}
 use Rattle.answer.specs.Answer.{result, refused, Answer}
 use Rattle.lists.proofs.Cases.{by-bool}
-use Rattle.command.specs.Entries.{Entry, entry, items, entryBytes, WellFormed, Parsed, unsound, sound, parse, found, nthOf}
+use Rattle.command.specs.Entries.{Entry, entry, items, entryBytes, WellFormed, Parsed, unsound, sound, parse, found}
+use Rattle.command.specs.Entries.{nthOf}
 use Rattle.command.specs.Answers.{partOf}
 use Rattle.command.proofs.Extents.{parse-last, nth-earlier, data-at}
 use Rattle.reply.specs.Status.{status, soundStatus, statusIn, StatusParts}
-use Rattle.reply.specs.Replies.{reply, headIn, afterStatus, replyIn, itemOf, nthItem, statusDraft, withItem, afterReply, itemDraft, Reply}
+use Rattle.reply.specs.Replies.{reply, headIn, afterStatus, replyIn, itemOf, nthItem, statusDraft, withItem}
+use Rattle.reply.specs.Replies.{afterReply, itemDraft, Reply}
 
 -- a reply's bytes are a status byte and sound items
 pub reply-means : (w : List ℕ) (t : Bool) (p s : ℕ) (es : List Entry) → replyIn w ≡ result (reply t p s es)
@@ -23,7 +25,8 @@ unfolding replyIn headIn afterStatus
 reply-means [] t p s es h = let z : _≡_ {A = ℕ} 0 1 = cc in absurd (omega arith)
 reply-means (b ∷ v) t p s es h = case (statusIn b) (parse items v 0) refl refl h
   where
-    case : (a : Answer StatusParts) (q : Parsed) → statusIn b ≡ a → parse items v 0 ≡ q → afterStatus a q ≡ result (reply t p s es)
+    case : (a : Answer StatusParts) (q : Parsed) → statusIn b ≡ a → parse items v 0 ≡ q
+        → afterStatus a q ≡ result (reply t p s es)
         → (c : ℕ) × (u : List ℕ) × (b ∷ v ≡ c ∷ u) × (statusIn c ≡ result (status t p s)) × (parse items u 0 ≡ sound es)
     case (refused k) q e f g = let z : _≡_ {A = ℕ} 0 1 = cc in absurd (omega arith)
     case (result (status t′ p′ s′)) unsound e f g = let z : _≡_ {A = ℕ} 0 1 = cc in absurd (omega arith)
@@ -31,12 +34,15 @@ reply-means (b ∷ v) t p s es h = case (statusIn b) (parse items v 0) refl refl
         let i : result (status t′ p′ s′) ≡ result (status t p s) = cc in
         let j : sound fs ≡ sound es = cc in (b, v, refl, e ∙ i, f ∙ j)
 
-reply-of : (b : ℕ) (v : List ℕ) (t : Bool) (p s : ℕ) (es : List Entry) → statusIn b ≡ result (status t p s) → parse items v 0 ≡ sound es → replyIn (b ∷ v) ≡ result (reply t p s es)
+reply-of : (b : ℕ) (v : List ℕ) (t : Bool) (p s : ℕ) (es : List Entry) → statusIn b ≡ result (status t p s)
+    → parse items v 0 ≡ sound es → replyIn (b ∷ v) ≡ result (reply t p s es)
 unfolding replyIn headIn afterStatus
-reply-of b v t p s es e f = ap (λ (a : Answer StatusParts). afterStatus a (parse items v 0)) e ∙ ap (afterStatus (result (status t p s))) f
+reply-of b v t p s es e f =
+    ap (λ (a : Answer StatusParts). afterStatus a (parse items v 0)) e ∙ ap (afterStatus (result (status t p s))) f
 
 -- A status alone reads back as that status and no items.
-pub status-reads-back : (b : ℕ) (w : List ℕ) → statusDraft b ≡ result w → (t : Bool) × (p : ℕ) × (s : ℕ) × (statusIn b ≡ result (status t p s)) × (replyIn w ≡ result (reply t p s []))
+pub status-reads-back : (b : ℕ) (w : List ℕ) → statusDraft b ≡ result w
+    → (t : Bool) × (p : ℕ) × (s : ℕ) × (statusIn b ≡ result (status t p s)) × (replyIn w ≡ result (reply t p s []))
 unfolding statusDraft statusIn parse
 status-reads-back b w h =
     by-bool (soundStatus b)
@@ -46,41 +52,56 @@ status-reads-back b w h =
     (leb 128 b, b / 16 % 4, b % 16, e, ap replyIn (sym i) ∙ reply-of b [] (leb 128 b) (b / 16 % 4) (b % 16) [] e refl))
     (λ y. let q : refused 8 ≡ result w = simp y at h in let z : _≡_ {A = ℕ} 0 1 = cc in absurd (omega arith))
 
-with-item-means : (s : List ℕ) (b : ℕ) (d w : List ℕ) → withItem s b d ≡ result w → w ≡ s ++ entryBytes items (entry b d)
+with-item-means : (s : List ℕ) (b : ℕ) (d w : List ℕ) → withItem s b d ≡ result w
+    → w ≡ s ++ entryBytes items (entry b d)
 unfolding withItem
 with-item-means s b d w h =
     by-bool (leb (length d) 255)
     (λ x. by-bool (leb (length (s ++ entryBytes items (entry b d))) 117)
-    (λ y. let q : result (s ++ entryBytes items (entry b d)) ≡ result w = simp (x, y) at h in let i : w ≡ s ++ entryBytes items (entry b d) = cc in i)
+    (λ y. let q : result (s ++ entryBytes items (entry b d)) ≡ result w = simp (x, y) at h in
+    let i : w ≡ s ++ entryBytes items (entry b d) = cc in i)
     (λ y. let q : refused 2 ≡ result w = simp (x, y) at h in let z : _≡_ {A = ℕ} 0 1 = cc in absurd (omega arith)))
     (λ x. let q : refused 7 ≡ result w = simp x at h in let z : _≡_ {A = ℕ} 0 1 = cc in absurd (omega arith))
 
 -- What is written reads back as the same status, the items so far, and the new one last.
 pub item-reads-back : (s : List ℕ) (b : ℕ) (d w : List ℕ) → b < 256 → itemDraft s b d ≡ result w
-    → (t : Bool) × (p : ℕ) × (x : ℕ) × (es : List Entry) × (replyIn s ≡ result (reply t p x es)) × (replyIn w ≡ result (reply t p x (es ++ (entry b d ∷ []))))
+    → (t : Bool) × (p : ℕ) × (x : ℕ) × (es : List Entry) × (replyIn s ≡ result (reply t p x es))
+    × (replyIn w ≡ result (reply t p x (es ++ (entry b d ∷ []))))
 unfolding itemDraft afterReply
 item-reads-back s b d w g h = case (replyIn s) refl h
   where
     case : (r : Answer Reply) → replyIn s ≡ r → afterReply r (withItem s b d) ≡ result w
-        → (t : Bool) × (p : ℕ) × (x : ℕ) × (es : List Entry) × (replyIn s ≡ result (reply t p x es)) × (replyIn w ≡ result (reply t p x (es ++ (entry b d ∷ []))))
+        → (t : Bool) × (p : ℕ) × (x : ℕ) × (es : List Entry) × (replyIn s ≡ result (reply t p x es))
+        × (replyIn w ≡ result (reply t p x (es ++ (entry b d ∷ []))))
     case (refused k) e f = let z : _≡_ {A = ℕ} 0 1 = cc in absurd (omega arith)
     case (result (reply t p x es)) e f =
         let m = reply-means s t p x es e in
         let c = m .0 in
         let v = m .1 in
         let formed : WellFormed items (entry b d) = λ k. absurd (omega arith) in
-        let last = parse-last items v es (entry b d) (m .4) formed in
-        (t, p, x, es, e, ap replyIn (with-item-means s b d w f ∙ ap (λ (l : List ℕ). l ++ entryBytes items (entry b d)) (m .2)) ∙ reply-of c (v ++ entryBytes items (entry b d)) t p x (es ++ (entry b d ∷ [])) (m .3) last)
+        let last = parse-last items v es (entry b d) (m .4) formed in (
+          t,
+          p,
+          x,
+          es,
+          e,
+          ap replyIn
+              (with-item-means s b d w f ∙ ap (λ (l : List ℕ). l ++ entryBytes items (entry b d)) (m .2))
+              ∙ reply-of c (v ++ entryBytes items (entry b d)) t p x (es ++ (entry b d ∷ [])) (m .3) last,
+        )
 
 -- Every earlier item is found as it was.
-pub earlier-items : (s w : List ℕ) (t : Bool) (p x : ℕ) (es : List Entry) (e : Entry) (n : ℕ) → replyIn s ≡ result (reply t p x es) → replyIn w ≡ result (reply t p x (es ++ (e ∷ []))) → n < length es
+pub earlier-items : (s w : List ℕ) (t : Bool) (p x : ℕ) (es : List Entry) (e : Entry) (n : ℕ)
+    → replyIn s ≡ result (reply t p x es) → replyIn w ≡ result (reply t p x (es ++ (e ∷ []))) → n < length es
     → nthItem w n ≡ nthItem s n
 unfolding itemOf
 earlier-items s w t p x es e n h k l =
-    ap (λ (r : Answer Reply). itemOf r n) k ∙ nth-earlier items 1 es (e ∷ []) n l ∙ sym (ap (λ (r : Answer Reply). itemOf r n) h)
+    ap (λ (r : Answer Reply). itemOf r n) k ∙ nth-earlier items 1 es (e ∷ []) n l
+    ∙ sym (ap (λ (r : Answer Reply). itemOf r n) h)
 
 -- The n-th item's data, as `nth_item_data` hands it back, is the data of the n-th item.
-pub item-data-is : (w : List ℕ) (t : Bool) (p x : ℕ) (before : List Entry) (e : Entry) (rest : List Entry) → replyIn w ≡ result (reply t p x (before ++ (e ∷ rest)))
+pub item-data-is : (w : List ℕ) (t : Bool) (p x : ℕ) (before : List Entry) (e : Entry) (rest : List Entry)
+    → replyIn w ≡ result (reply t p x (before ++ (e ∷ rest)))
     → partOf w (nthItem w (length before)) ≡ e .body
 unfolding itemOf
 item-data-is w t p x before e rest h =
@@ -109,17 +130,23 @@ refused-stays k [] = refl
 refused-stays k (e ∷ es) = refused-stays k es
 
 -- Items written one by one read back as the items so far and then those, in order.
-pub all-read-back : (u w : List ℕ) (t : Bool) (p x : ℕ) (fs es : List Entry) → ItemBytes es → replyIn u ≡ result (reply t p x fs) → writeAll (result u) es ≡ result w
+pub all-read-back : (u w : List ℕ) (t : Bool) (p x : ℕ) (fs es : List Entry) → ItemBytes es
+    → replyIn u ≡ result (reply t p x fs) → writeAll (result u) es ≡ result w
     → replyIn w ≡ result (reply t p x (fs ++ es))
 unfolding writeAll ItemBytes
 all-read-back u w t p x fs [] g h k =
-    let i : u ≡ w = cc in ap replyIn (sym i) ∙ h ∙ ap (λ (gs : List Entry). result (reply t p x gs)) (sym (append-nil fs))
-all-read-back u w t p x fs (e ∷ es) g h k = case (itemDraft u (e .byte) (e .body)) refl k (λ v q r. all-read-back v w t p x (fs ++ (e ∷ [])) es (g .1) q r)
+    let i : u ≡ w = cc in ap replyIn (sym i) ∙ h
+    ∙ ap (λ (gs : List Entry). result (reply t p x gs)) (sym (append-nil fs))
+all-read-back u w t p x fs (e ∷ es) g h k =
+    case (itemDraft u (e .byte) (e .body)) refl k (λ v q r. all-read-back v w t p x (fs ++ (e ∷ [])) es (g .1) q r)
   where
     case : (d : Draft) → itemDraft u (e .byte) (e .body) ≡ d → writeAll d es ≡ result w
-        → ((v : List ℕ) → replyIn v ≡ result (reply t p x (fs ++ (e ∷ []))) → writeAll (result v) es ≡ result w → replyIn w ≡ result (reply t p x ((fs ++ (e ∷ [])) ++ es)))
+        → ((v : List ℕ) → replyIn v ≡ result (reply t p x (fs ++ (e ∷ []))) → writeAll (result v) es ≡ result w
+        → replyIn w ≡ result (reply t p x ((fs ++ (e ∷ [])) ++ es)))
         → replyIn w ≡ result (reply t p x (fs ++ (e ∷ es)))
-    case (refused m) q r f = let i : refused m ≡ result w = sym (refused-stays m es) ∙ r in let z : _≡_ {A = ℕ} 0 1 = cc in absurd (omega arith)
+    case (refused m) q r f =
+        let i : refused m ≡ result w = sym (refused-stays m es) ∙ r in let z : _≡_ {A = ℕ} 0 1 = cc in
+        absurd (omega arith)
     case (result v) q r f =
         let b = item-reads-back u (e .byte) (e .body) v (g .0) q in
         let i : result (reply t p x fs) ≡ result (reply (b .0) (b .1) (b .2) (b .3)) = sym h ∙ b .4 in
@@ -129,8 +156,10 @@ all-read-back u w t p x fs (e ∷ es) g h k = case (itemDraft u (e .byte) (e .bo
 -- ---- the same of the answers and the lent output
 
 -- What a call of `write_item` left in an output with room, read from there, has the items so far and the new one last.
-pub written-item-reads-back : (s : List ℕ) (b : ℕ) (d out : List ℕ) (n : ℕ) → b < 256 → draftAnswer (itemDraft s b d) (length out) ≡ result n
-    → (t : Bool) × (p : ℕ) × (x : ℕ) × (es : List Entry) × (replyIn s ≡ result (reply t p x es)) × (replyIn (take n (draftOut (itemDraft s b d) out)) ≡ result (reply t p x (es ++ (entry b d ∷ []))))
+pub written-item-reads-back : (s : List ℕ) (b : ℕ) (d out : List ℕ) (n : ℕ) → b < 256
+    → draftAnswer (itemDraft s b d) (length out) ≡ result n
+    → (t : Bool) × (p : ℕ) × (x : ℕ) × (es : List Entry) × (replyIn s ≡ result (reply t p x es))
+    × (replyIn (take n (draftOut (itemDraft s b d) out)) ≡ result (reply t p x (es ++ (entry b d ∷ []))))
 written-item-reads-back s b d out n h e =
     let k = written-first (itemDraft s b d) out n e in
     let r = item-reads-back s b d (k .0) h (k .1) in
@@ -138,7 +167,8 @@ written-item-reads-back s b d out n h e =
 
 -- The same of `write_status`.
 pub written-status-reads-back : (b : ℕ) (out : List ℕ) (n : ℕ) → draftAnswer (statusDraft b) (length out) ≡ result n
-    → (t : Bool) × (p : ℕ) × (s : ℕ) × (statusIn b ≡ result (status t p s)) × (replyIn (take n (draftOut (statusDraft b) out)) ≡ result (reply t p s []))
+    → (t : Bool) × (p : ℕ) × (s : ℕ) × (statusIn b ≡ result (status t p s))
+    × (replyIn (take n (draftOut (statusDraft b) out)) ≡ result (reply t p s []))
 written-status-reads-back b out n e =
     let k = written-first (statusDraft b) out n e in
     let r = status-reads-back b (k .0) (k .1) in

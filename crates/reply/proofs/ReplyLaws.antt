@@ -14,7 +14,8 @@ use Rattle.lists.proofs.Splices.{length-splice, splice-next, set-splice}
 use Rattle.command.specs.Entries.{entry, items, entryBytes, Parsed, unsound, sound, parse, nthIn, Extent}
 use Rattle.command.specs.Answers.{counted}
 use Rattle.reply.specs.Status.{status, soundStatus, statusIn, statusMeans, StatusParts}
-use Rattle.reply.specs.Replies.{reply, headIn, afterStatus, replyIn, replyOutline, replyAnswer, itemOf, nthItem, statusDraft, withItem, afterReply, itemDraft, Reply}
+use Rattle.reply.specs.Replies.{reply, headIn, afterStatus, replyIn, replyOutline, replyAnswer, itemOf, nthItem}
+use Rattle.reply.specs.Replies.{statusDraft, withItem, afterReply, itemDraft, Reply}
 use Rattle.reply.specs.declared.status.StatusRead.{StatusRead}
 
 -- ---- the status at the head
@@ -30,31 +31,38 @@ head-is [] h e = absurd (h refl)
 head-is (b ∷ s) h e = e
 
 -- contents as a reply, where a call's result x is found to be y
-pub head-status : (s : List ℕ) {x : StatusRead} (y : StatusRead) → statusMeans x ≡ headIn s → x ≡ y → replyIn s ≡ afterStatus (statusMeans y) (parse items (drop 1 s) 0)
+pub head-status : (s : List ℕ) {x : StatusRead} (y : StatusRead) → statusMeans x ≡ headIn s → x ≡ y
+    → replyIn s ≡ afterStatus (statusMeans y) (parse items (drop 1 s) 0)
 unfolding replyIn
-head-status s y d e = ap (λ (a : Answer StatusParts). afterStatus a (parse items (drop 1 s) 0)) (sym d ∙ ap statusMeans e)
+head-status s y d e =
+    ap (λ (a : Answer StatusParts). afterStatus a (parse items (drop 1 s) 0)) (sym d ∙ ap statusMeans e)
 
 -- ---- reading
 
-pub read-refused : (s : List ℕ) (k : ℕ) → replyIn s ≡ afterStatus (refused k) (parse items (drop 1 s) 0) → refused k ≡ replyAnswer (replyIn s)
+pub read-refused : (s : List ℕ) (k : ℕ) → replyIn s ≡ afterStatus (refused k) (parse items (drop 1 s) 0)
+    → refused k ≡ replyAnswer (replyIn s)
 unfolding afterStatus replyAnswer
 read-refused s k h = sym (ap replyAnswer h)
 
-pub items-unsound : (t : Bool) (p s : ℕ) (q : Parsed) → counted q ≡ refused 7 → refused 7 ≡ replyAnswer (afterStatus (result (status t p s)) q)
+pub items-unsound : (t : Bool) (p s : ℕ) (q : Parsed) → counted q ≡ refused 7
+    → refused 7 ≡ replyAnswer (afterStatus (result (status t p s)) q)
 unfolding afterStatus replyAnswer counted
 items-unsound t p s unsound e = refl
 items-unsound t p s (sound es) e = let z : _≡_ {A = ℕ} 0 1 = cc in absurd (omega arith)
 
-pub items-counted : (t : Bool) (p s : ℕ) (q : Parsed) (n : ℕ) → counted q ≡ result n → result (replyOutline t p s n) ≡ replyAnswer (afterStatus (result (status t p s)) q)
+pub items-counted : (t : Bool) (p s : ℕ) (q : Parsed) (n : ℕ) → counted q ≡ result n
+    → result (replyOutline t p s n) ≡ replyAnswer (afterStatus (result (status t p s)) q)
 unfolding afterStatus replyAnswer counted
 items-counted t p s unsound n e = let z : _≡_ {A = ℕ} 0 1 = cc in absurd (omega arith)
 items-counted t p s (sound es) n e = let m : n ≡ length es = cc in ap (λ (k : ℕ). result (replyOutline t p s k)) m
 
-pub item-refused : (s : List ℕ) (n k : ℕ) → replyIn s ≡ afterStatus (refused k) (parse items (drop 1 s) 0) → refused k ≡ nthItem s n
+pub item-refused : (s : List ℕ) (n k : ℕ) → replyIn s ≡ afterStatus (refused k) (parse items (drop 1 s) 0)
+    → refused k ≡ nthItem s n
 unfolding afterStatus itemOf
 item-refused s n k h = sym (ap (λ (r : Answer Reply). itemOf r n) h)
 
-pub item-is : (s : List ℕ) (n : ℕ) (t : Bool) (p x : ℕ) → replyIn s ≡ afterStatus (result (status t p x)) (parse items (drop 1 s) 0)
+pub item-is : (s : List ℕ) (n : ℕ) (t : Bool) (p x : ℕ)
+    → replyIn s ≡ afterStatus (result (status t p x)) (parse items (drop 1 s) 0)
     → {a : Answer Extent} → a ≡ nthIn items 1 (parse items (drop 1 s) 0) n → a ≡ nthItem s n
 unfolding afterStatus itemOf nthIn
 item-is s n t p x h e = e ∙ of-parsed (parse items (drop 1 s) 0) ∙ sym (ap (λ (r : Answer Reply). itemOf r n) h)
@@ -113,7 +121,8 @@ module _ (s : List ℕ) (b : ℕ) (d : List ℕ) (byte : b < 256) where
 -- ---- writing an item after the contents so far
 
 pub put-written : (s d out o₁ o₄ : List ℕ) (b : ℕ) → length s + 2 + length d ≤ length out → o₁ ≡ splice out 0 s
-    → o₄ ≡ splice (set (set o₁ (length s) b) (length s + 1) (length d)) (length s + 2) d → o₄ ≡ splice out 0 (s ++ (b ∷ length d ∷ d))
+    → o₄ ≡ splice (set (set o₁ (length s) b) (length s + 1) (length d)) (length s + 2) d
+    → o₄ ≡ splice out 0 (s ++ (b ∷ length d ∷ d))
 put-written s d out o₁ o₄ b room e f =
     let n = length d in
     let l₁ : length o₁ ≡ length out = ap length e ∙ length-splice out 0 s (omega arith) in
@@ -121,16 +130,19 @@ put-written s d out o₁ o₄ b room e f =
     let q = p ++ (n ∷ []) in
     let lp : length p ≡ length s + 1 = length-append s (b ∷ []) in
     let lq : length q ≡ length s + 2 = length-append p (n ∷ []) ∙ omega arith in
-    let e₂ : set o₁ (length s) b ≡ splice out 0 p = splice-next out 0 s (b ∷ []) (length s) (omega arith) e (omega arith) (set-splice o₁ (length s) b (omega arith)) in
+    let e₂ : set o₁ (length s) b ≡ splice out 0 p =
+    splice-next out 0 s (b ∷ []) (length s) (omega arith) e (omega arith) (set-splice o₁ (length s) b (omega arith)) in
     let l₂ : length (set o₁ (length s) b) ≡ length out = length-set o₁ (length s) b ∙ l₁ in
     let e₃ : set (set o₁ (length s) b) (length s + 1) n ≡ splice out 0 q =
-    splice-next out 0 p (n ∷ []) (length s + 1) (omega arith) e₂ (omega arith) (set-splice (set o₁ (length s) b) (length s + 1) n (omega arith)) in
+    splice-next out 0 p (n ∷ []) (length s + 1) (omega arith) e₂ (omega arith)
+    (set-splice (set o₁ (length s) b) (length s + 1) n (omega arith)) in
     splice-next out 0 q d (length s + 2) (omega arith) e₃ (omega arith) f
     ∙ ap (splice out 0) (append-assoc p (n ∷ []) d ∙ append-assoc s (b ∷ []) (n ∷ d))
 
 -- ---- after the contents so far are read
 
-pub prior-refused : (s : List ℕ) (b : ℕ) (d : List ℕ) (k : ℕ) → refused k ≡ replyAnswer (replyIn s) → itemDraft s b d ≡ refused k
+pub prior-refused : (s : List ℕ) (b : ℕ) (d : List ℕ) (k : ℕ) → refused k ≡ replyAnswer (replyIn s)
+    → itemDraft s b d ≡ refused k
 unfolding replyAnswer itemDraft afterReply
 prior-refused s b d k e = of-reply (replyIn s) e
   where
@@ -138,10 +150,12 @@ prior-refused s b d k e = of-reply (replyIn s) e
     of-reply (result (reply t p x es)) e = let z : _≡_ {A = ℕ} 0 1 = cc in absurd (omega arith)
     of-reply (refused m) e = let i : k ≡ m = cc in ap refused (sym i)
 
-pub prior-sound : (s : List ℕ) (b : ℕ) (d : List ℕ) (t : Bool) (p x n : ℕ) → result (replyOutline t p x n) ≡ replyAnswer (replyIn s) → withItem s b d ≡ itemDraft s b d
+pub prior-sound : (s : List ℕ) (b : ℕ) (d : List ℕ) (t : Bool) (p x n : ℕ)
+    → result (replyOutline t p x n) ≡ replyAnswer (replyIn s) → withItem s b d ≡ itemDraft s b d
 unfolding replyAnswer itemDraft afterReply
 prior-sound s b d t p x n e = of-reply (replyIn s) e
   where
-    of-reply : (r : Answer Reply) → result (replyOutline t p x n) ≡ replyAnswer r → withItem s b d ≡ afterReply r (withItem s b d)
+    of-reply : (r : Answer Reply) → result (replyOutline t p x n) ≡ replyAnswer r
+        → withItem s b d ≡ afterReply r (withItem s b d)
     of-reply (result (reply t′ p′ x′ es)) e = refl
     of-reply (refused m) e = let z : _≡_ {A = ℕ} 0 1 = cc in absurd (omega arith)

@@ -63,7 +63,9 @@ statusDraft b = pick (soundStatus b) (result (b ∷ [])) (refused 8)
 -- Contents and an item after them: data over 255 is 7, contents over 117 are 2.
 unfoldable pub withItem : List ℕ → ℕ → List ℕ → Draft
 withItem s b d =
-    pick (leb (length d) 255) (pick (leb (length (s ++ entryBytes items (entry b d))) 117) (result (s ++ entryBytes items (entry b d))) (refused 2)) (refused 7)
+    pick (leb (length d) 255)
+    (pick (leb (length (s ++ entryBytes items (entry b d))) 117) (result (s ++ entryBytes items (entry b d)))
+    (refused 2)) (refused 7)
 
 -- The refusal of the contents so far comes first.
 unfoldable pub afterReply : Answer Reply → Draft → Draft

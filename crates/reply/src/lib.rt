@@ -16,7 +16,8 @@ ghost use Rattle.answer.specs.Answer.{result};
 ghost use Rattle.answer.specs.Draft.{draftAnswer, draftOut, writtenMeans};
 ghost use Rattle.command.specs.Answers.{foundMeans, partOf};
 ghost use Rattle.reply.specs.Status.{statusMeans, partsOf};
-ghost use Rattle.reply.specs.Replies.{headIn, replyIn, replyMeans, replyAnswer, nthItem, statusDraft, withItem, itemDraft, afterStatus};
+ghost use Rattle.reply.specs.Replies.{headIn, replyIn, replyMeans, replyAnswer, nthItem, statusDraft, withItem};
+ghost use Rattle.reply.specs.Replies.{itemDraft, afterStatus};
 ghost use Rattle.command.specs.Entries.{parse, items};
 
 // Item bytes below this have a count: every one.
@@ -87,8 +88,10 @@ pub fn write_status(byte: u8, out: &mut [u8]) -> Written
 
 // Writes a reply from the contents of a reply so far and an item, which it puts last. Refusals 4, 8, 7, 2 and 1.
 pub fn write_item(prior: &[u8], byte: u8, body: &[u8], out: &mut [u8]) -> Written
-    ensures { λ r. ⌜ writtenMeans r ≡ draftAnswer (itemDraft (now (prior .entry)) byte (now (body .entry))) (length (now (out .entry))) ⌝ }
-    ensures { λ r. ⌜ now (out .exit) ≡ draftOut (itemDraft (now (prior .entry)) byte (now (body .entry))) (now (out .entry)) ⌝ }
+    ensures { λ r. ⌜ writtenMeans r ≡ draftAnswer (itemDraft (now (prior .entry)) byte (now (body .entry)))
+        (length (now (out .entry))) ⌝ }
+    ensures { λ r. ⌜ now (out .exit) ≡ draftOut (itemDraft (now (prior .entry)) byte (now (body .entry)))
+        (now (out .entry)) ⌝ }
 {
     let read = read_reply(prior);
     match read {
@@ -113,7 +116,8 @@ fn head(contents: &[u8]) -> StatusRead
 
 // The same contents, whose status is known.
 fn read_items(contents: &[u8], status: Status) -> ReplyRead
-    ensures { λ r. ⌜ replyMeans r ≡ replyAnswer (afterStatus (result (partsOf status)) (parse items (drop 1 (now (contents .entry))) 0)) ⌝ }
+    ensures { λ r. ⌜ replyMeans r ≡ replyAnswer
+        (afterStatus (result (partsOf status)) (parse items (drop 1 (now (contents .entry))) 0)) ⌝ }
 {
     let all = entries::count(COUNTED, contents, Cursor { at: ITEMS });
     match all {
@@ -124,8 +128,10 @@ fn read_items(contents: &[u8], status: Status) -> ReplyRead
 
 // Writes a sound reply so far and an item after it.
 fn put_item(prior: &[u8], byte: u8, body: &[u8], out: &mut [u8]) -> Written
-    ensures { λ r. ⌜ writtenMeans r ≡ draftAnswer (withItem (now (prior .entry)) byte (now (body .entry))) (length (now (out .entry))) ⌝ }
-    ensures { λ r. ⌜ now (out .exit) ≡ draftOut (withItem (now (prior .entry)) byte (now (body .entry))) (now (out .entry)) ⌝ }
+    ensures { λ r. ⌜ writtenMeans r ≡ draftAnswer (withItem (now (prior .entry)) byte (now (body .entry)))
+        (length (now (out .entry))) ⌝ }
+    ensures { λ r. ⌜ now (out .exit) ≡ draftOut (withItem (now (prior .entry)) byte (now (body .entry)))
+        (now (out .entry)) ⌝ }
 {
     let k = prior.len();
     let n = body.len();

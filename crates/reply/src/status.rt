@@ -3,7 +3,8 @@ use answer::Refusal;
 ghost use mathlib.Core.Path.{_≡_};
 ghost use Rattle.reply.specs.Status.{statusMeans, statusIn, statusByte};
 
-// A machine's state, what it made of the previous frame, and the toggle. Only `from_byte` makes one, so that none is unsound.
+// A machine's state, what it made of the previous frame, and the toggle. Only `from_byte` makes one, so that none is
+// unsound.
 pub struct Status {
     toggle: bool,
     previous: u8,

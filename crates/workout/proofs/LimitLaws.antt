@@ -26,7 +26,10 @@ ceil-div-product n d k h =
 -- It is the least number of parts that reach.
 pub ceil-div-rounds-up : (n d : ℕ) → 0 < d → RoundedUp n d (ceilDiv n d)
 ceil-div-rounds-up n d h =
-    record { reaches = ceil-div-product n d (ceilDiv n d) h .0 (omega arith); least = λ m l. ceil-div-product n d m h .1 l }
+    record {
+      reaches = ceil-div-product n d (ceilDiv n d) h .0 (omega arith);
+      least = λ m l. ceil-div-product n d m h .1 l;
+    }
 
 -- The product of two numbers of 32 bits has at most 64.
 pub product-below : (a b : ℕ) → a < 2 ^ 32 → b < 2 ^ 32 → a * b < 2 ^ 64
@@ -43,12 +46,26 @@ module _ (limits : GoalLimits) (splits scale goal split : ℕ) where
       let c = both-true (leb split (scale * goal)) _ (b .1) in
       let g = within-true (limits .least) (limits .most) goal (a .0) in
       let s = within-true (limits .shortest) (limits .longest) split (b .0) in
-      record { least = g .0; most = g .1; shortest = s .0; longest = s .1; inGoal = leb-true split (scale * goal) (c .0); few = leb-true (ceilDiv (scale * goal) split) splits (c .1) }
+      record {
+        least = g .0;
+        most = g .1;
+        shortest = s .0;
+        longest = s .1;
+        inGoal = leb-true split (scale * goal) (c .0);
+        few = leb-true (ceilDiv (scale * goal) split) splits (c .1);
+      }
 
   pub goal-within : GoalWithin limits splits scale goal split → withinGoal limits splits scale goal split ≡ true
   unfolding withinGoal
   goal-within w =
-      simp (within-yes (limits .least) (limits .most) goal (w .least) (w .most), within-yes (limits .shortest) (limits .longest) split (w .shortest) (w .longest), le-leb split (scale * goal) (w .inGoal), le-leb (ceilDiv (scale * goal) split) splits (w .few))
+      simp (
+        within-yes (limits .least) (limits .most) goal (w .least) (w .most),
+        within-yes (limits .shortest)
+            (limits .longest) split (w .shortest) (w .longest),
+        le-leb split (scale * goal) (w .inGoal),
+        le-leb
+            (ceilDiv (scale * goal) split) splits (w .few),
+      )
 
   -- where a limit is not kept
   pub goal-outside : (GoalWithin limits splits scale goal split → ⊥) → withinGoal limits splits scale goal split ≡ false

@@ -16,7 +16,8 @@ use Rattle.answer.proofs.Drafts.{written-first}
 use Rattle.numbers.proofs.Numbers.{number-bytesOf}
 use Rattle.lists.proofs.Cases.{by-bool}
 use Rattle.workout.specs.Limits.{Limits, pm3Limits}
-use Rattle.workout.specs.Workout.{Programmed, distance, time, wattsOf, withinLimits, layout, distanceBytes, timeBytes, workoutBytes, Sendable}
+use Rattle.workout.specs.Workout.{Programmed, distance, time, wattsOf, withinLimits, layout, distanceBytes}
+use Rattle.workout.specs.Workout.{timeBytes, workoutBytes, Sendable}
 use Rattle.workout.specs.Form.{bytesAt, laidOut}
 use Rattle.workout.specs.Answers.{workoutAnswer, workoutDraft}
 use Rattle.workout.specs.Private.{limitedRead, distanceRead, timeRead}
@@ -50,27 +51,36 @@ module _ (kind : GoalKind) (a b d split watts : ℕ) where
 -- what they are read as, by the kind of goal
 module _ (limits : Limits) (split watts : ℕ) (s : split < 256 ^ 4) (p : watts < 256 ^ 2) where
   read-laid-distance : (amount unit : ℕ) → amount < 256 ^ 2
-      → workoutAnswer limits (layout Distance (bytesOf 2 amount ++ (unit ∷ [])) (bytesOf 4 split) (bytesOf 2 watts)) ≡ distanceRead limits amount unit split watts
+      → workoutAnswer limits (layout Distance (bytesOf 2 amount ++ (unit ∷ [])) (bytesOf 4 split) (bytesOf 2 watts))
+      ≡ distanceRead limits amount unit split watts
   unfolding layout bytesOf
   read-laid-distance amount unit h =
       let a = amount % 256 in
       let b = amount / 256 % 256 in
       let l = laid Distance a b unit split watts in
-      sym (read-distance-is l refl (laid-split Distance a b unit split watts s) (laid-watts Distance a b unit split watts p) limits (laid-out Distance a b unit split watts) refl (sym (number-bytesOf 2 amount (take 2 l) (drop 4 l) 2 refl h)))
+      sym (read-distance-is l refl (laid-split Distance a b unit split watts s)
+      (laid-watts Distance a b unit split watts p) limits (laid-out Distance a b unit split watts) refl
+      (sym (number-bytesOf 2 amount (take 2 l) (drop 4 l) 2 refl h)))
 
-  read-laid-time : (hours minutes seconds : ℕ) → workoutAnswer limits (laid Time hours minutes seconds split watts) ≡ timeRead limits hours minutes seconds split watts
+  read-laid-time : (hours minutes seconds : ℕ)
+      → workoutAnswer limits (laid Time hours minutes seconds split watts)
+      ≡ timeRead limits hours minutes seconds split watts
   unfolding layout bytesOf
   read-laid-time hours minutes seconds =
-      sym (read-time-is (laid Time hours minutes seconds split watts) refl (laid-split Time hours minutes seconds split watts s) (laid-watts Time hours minutes seconds split watts p) limits (laid-out Time hours minutes seconds split watts) refl)
+      sym (read-time-is (laid Time hours minutes seconds split watts) refl
+      (laid-split Time hours minutes seconds split watts s) (laid-watts Time hours minutes seconds split watts p) limits
+      (laid-out Time hours minutes seconds split watts) refl)
 
 -- ---- what is written is read back
 
-limited-sound : (limits : Limits) (v w : Programmed) → v ≡ w → withinLimits limits w ≡ true → limitedRead limits v ≡ result w
+limited-sound : (limits : Limits) (v w : Programmed) → v ≡ w → withinLimits limits w ≡ true
+    → limitedRead limits v ≡ result w
 unfolding limitedRead
 limited-sound limits v w e h = ap (limitedRead limits) e ∙ simp h
 
 -- A workout within any limits, if its bytes can hold it, is read back as itself.
-pub workout-reads-back : (limits : Limits) (w : Programmed) → withinLimits limits w ≡ true → Sendable w → workoutAnswer limits (workoutBytes w) ≡ result w
+pub workout-reads-back : (limits : Limits) (w : Programmed) → withinLimits limits w ≡ true → Sendable w
+    → workoutAnswer limits (workoutBytes w) ≡ result w
 unfolding workoutBytes distanceBytes timeBytes distanceRead timeRead bytesOf
 workout-reads-back limits (distance goal split watts) h (g, p) =
     let far : goal < 65536000 = farthest g in
@@ -79,7 +89,8 @@ workout-reads-back limits (distance goal split watts) h (g, p) =
     (λ y. let z : goal % 1000 ≡ 0 = eqb-true _ _ y in
     let back : 1000 * (goal / 1000) ≡ goal = omega arith in
     (simp y) ∙ read-laid-distance limits split watts s p (goal / 1000) 0x21 (omega arith)
-    ∙ limited-sound limits (distance (1000 * (goal / 1000)) split watts) (distance goal split watts) (ap (λ (m : ℕ). distance m split watts) back) h)
+    ∙ limited-sound limits (distance (1000 * (goal / 1000)) split watts) (distance goal split watts)
+    (ap (λ (m : ℕ). distance m split watts) back) h)
     (λ n. (simp n) ∙ read-laid-distance limits split watts s p goal 0x24 (near g (eqb-false _ _ n))
     ∙ limited-sound limits (distance goal split watts) (distance goal split watts) refl h)
   where
@@ -94,24 +105,28 @@ workout-reads-back limits (time goal split watts) h (g, p) =
     let s : split < 256 ^ 4 = omega (arith, within-limits limits (time goal split watts) h .inGoal) in
     let minutes : goal / 60 % 60 ≤ 59 = omega arith in
     let seconds : goal % 60 ≤ 59 = omega arith in
-    let back : 3600 * (goal / 3600 % 256) + 60 * (goal / 60 % 60) + goal % 60 ≡ goal = omega (arith, div-div-eq-div-mul goal 60 60) in
+    let back : 3600 * (goal / 3600 % 256) + 60 * (goal / 60 % 60) + goal % 60 ≡ goal =
+    omega (arith, div-div-eq-div-mul goal 60 60) in
     read-laid-time limits split watts s p (goal / 3600 % 256) (goal / 60 % 60) (goal % 60)
     ∙ (simp (le-leb (goal / 60 % 60) 59 minutes, le-leb (goal % 60) 59 seconds))
     ∙ limited-sound limits _ (time goal split watts) (ap (λ (n : ℕ). time n split watts) back) h
 
 -- Document 01's limits let through only what the bytes can hold.
 pub pm3-sendable : (w : Programmed) → withinLimits pm3Limits w ≡ true → wattsOf w < 65536 → Sendable w
-pm3-sendable (distance goal split watts) h p = (inl (omega (arith, within-limits pm3Limits (distance goal split watts) h .most)), p)
+pm3-sendable (distance goal split watts) h p =
+    (inl (omega (arith, within-limits pm3Limits (distance goal split watts) h .most)), p)
 pm3-sendable (time goal split watts) h p = (omega (arith, within-limits pm3Limits (time goal split watts) h .most), p)
 
 -- What is written within document 01's limits is read back.
-pub pm3-reads-back : (w : Programmed) → withinLimits pm3Limits w ≡ true → wattsOf w < 65536 → workoutAnswer pm3Limits (workoutBytes w) ≡ result w
+pub pm3-reads-back : (w : Programmed) → withinLimits pm3Limits w ≡ true → wattsOf w < 65536
+    → workoutAnswer pm3Limits (workoutBytes w) ≡ result w
 pm3-reads-back w h p = workout-reads-back pm3Limits w h (pm3-sendable w h p)
 
 -- ---- the same of the answer and the lent slice
 
 -- A workout that was written is read back from the bytes that were written, whatever the output held.
-pub written-workout-reads-back : (limits : Limits) (w : Programmed) (out : List ℕ) (n : ℕ) → Sendable w → draftAnswer (workoutDraft limits w) (length out) ≡ result n
+pub written-workout-reads-back : (limits : Limits) (w : Programmed) (out : List ℕ) (n : ℕ) → Sendable w
+    → draftAnswer (workoutDraft limits w) (length out) ≡ result n
     → workoutAnswer limits (take n (draftOut (workoutDraft limits w) out)) ≡ result w
 written-workout-reads-back limits w out n g e =
     let f = written-first (workoutDraft limits w) out n e in

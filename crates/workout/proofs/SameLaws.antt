@@ -29,7 +29,8 @@ same-true (x ∷ s) (y ∷ t) h =
 
 -- a turn of the loop that compares two lists of one length
 pub same-at : (s t : List ℕ) (i : ℕ) → i < length s → length s ≡ length t
-    → sameBytes (drop i s) (drop i t) ≡ pick (eqb (getD s i 0) (getD t i 0)) (sameBytes (drop (i + 1) s) (drop (i + 1) t)) false
+    → sameBytes (drop i s) (drop i t) ≡ pick (eqb (getD s i 0) (getD t i 0))
+    (sameBytes (drop (i + 1) s) (drop (i + 1) t)) false
 unfolding sameBytes
 same-at s t i h e = let k : i < length t = omega arith in rw (add-one, drop-cons s i 0 h, drop-cons t i 0 k)
 

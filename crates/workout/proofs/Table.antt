@@ -15,9 +15,12 @@ use Rattle.answer.specs.Answer.{result, refused, Answer}
 use Rattle.lists.proofs.Cases.{by-bool, both-true}
 use Rattle.workout.specs.Limits.{Limits}
 use Rattle.workout.specs.Workout.{Programmed, distance, time, commandOf, layout, withinLimits}
-use Rattle.workout.specs.Form.{goalKindFor, goalKindIn, sameBytes, bytesAt, laidOut, unitKnown, clockRight, workoutAs, hasForm, inLimits}
+use Rattle.workout.specs.Form.{goalKindFor, goalKindIn, sameBytes, bytesAt, laidOut, unitKnown, clockRight}
+use Rattle.workout.specs.Form.{workoutAs, hasForm, inLimits}
 use Rattle.workout.specs.Answers.{workoutAnswer, workoutDraft}
-use Rattle.workout.specs.Conditions.{UnitKnown, Formed, WithinLimits, ClockRight, Limited, Readable, JudgedWorkout, formless, overLimit, readable, JudgedWriting, outside, noRoom, fits}
+use Rattle.workout.specs.Conditions.{UnitKnown, Formed, WithinLimits, ClockRight, Limited, Readable}
+use Rattle.workout.specs.Conditions.{JudgedWorkout, formless, overLimit, readable, JudgedWriting, outside, noRoom}
+use Rattle.workout.specs.Conditions.{fits}
 use Rattle.workout.specs.declared.layout.GoalKind.{GoalKind}
 use Rattle.workout.specs.declared.layout.GoalKind.the-variants.{Distance, Time}
 use Rattle.workout.proofs.SameLaws.{same-refl, same-true}
@@ -49,22 +52,27 @@ form-kind kind c f = ap (λ (l : List ℕ). goalKindFor (getD l 0 0)) (f .goal) 
     told Time = refl
 
 -- bytes that have the form are those of the layout
-form-layout : (kind : GoalKind) (c : List ℕ) → Formed kind c → c ≡ layout kind (bytesAt 2 3 c) (bytesAt 10 4 c) (bytesAt 16 2 c)
+form-layout : (kind : GoalKind) (c : List ℕ) → Formed kind c
+    → c ≡ layout kind (bytesAt 2 3 c) (bytesAt 10 4 c) (bytesAt 16 2 c)
 unfolding layout bytesAt
 form-layout kind c f =
     sym (bytes-at-part 0 23 c (omega (arith, f .long)) ∙ take-all 23 c (omega (arith, f .long)))
-    ∙ (λ i. f .goal i ++ (bytesAt 2 3 c ++ (f .split i ++ (bytesAt 10 4 c ++ (f .power i ++ (bytesAt 16 2 c ++ (f .watts i ++ f .last i)))))))
+    ∙ (λ i. f .goal i ++ (bytesAt 2 3 c
+    ++ (f .split i ++ (bytesAt 10 4 c ++ (f .power i ++ (bytesAt 16 2 c ++ (f .watts i ++ f .last i)))))))
 
 form-laid : (kind : GoalKind) (c : List ℕ) → Formed kind c → laidOut c ≡ true
 unfolding laidOut
 form-laid kind c f =
     simp (eq-eqb (length c) 23 (f .long))
-    (ap (λ (k : GoalKind). sameBytes c (layout k (bytesAt 2 3 c) (bytesAt 10 4 c) (bytesAt 16 2 c))) (form-kind kind c f)
+    (ap (λ (k : GoalKind). sameBytes c (layout k (bytesAt 2 3 c) (bytesAt 10 4 c) (bytesAt 16 2 c)))
+    (form-kind kind c f)
     ∙ ap (sameBytes c) (sym (form-layout kind c f)) ∙ same-refl c)
 
 form-yes : (kind : GoalKind) (c : List ℕ) → Formed kind c → hasForm c ≡ true
 unfolding hasForm
-form-yes kind c f = simp (form-laid kind c f) (ap (λ (k : GoalKind). unitKnown k (getD c 4 0)) (form-kind kind c f) ∙ known-unit kind (getD c 4 0) (f .unit))
+form-yes kind c f =
+    simp (form-laid kind c f)
+    (ap (λ (k : GoalKind). unitKnown k (getD c 4 0)) (form-kind kind c f) ∙ known-unit kind (getD c 4 0) (f .unit))
 
 form-of : (c : List ℕ) → hasForm c ≡ true → Formed (goalKindIn c) c
 unfolding hasForm laidOut layout bytesAt
@@ -106,11 +114,15 @@ limited-of : (limits : Limits) (c : List ℕ) → inLimits limits c ≡ true →
 unfolding inLimits
 limited-of limits c e =
     let p = both-true (clockRight (goalKindIn c) (getD c 3 0) (getD c 4 0)) _ e in
-    record { clock = clock-right (goalKindIn c) c (p .0); within = within-limits limits (workoutAs (goalKindIn c) c) (p .1) }
+    record {
+      clock = clock-right (goalKindIn c) c (p .0);
+      within = within-limits limits (workoutAs (goalKindIn c) c) (p .1);
+    }
 
 limited-yes : (limits : Limits) (c : List ℕ) → Limited limits (goalKindIn c) c → inLimits limits c ≡ true
 unfolding inLimits
-limited-yes limits c l = simp (right-clock (goalKindIn c) c (l .clock)) (limits-within limits (workoutAs (goalKindIn c) c) (l .within))
+limited-yes limits c l =
+    simp (right-clock (goalKindIn c) c (l .clock)) (limits-within limits (workoutAs (goalKindIn c) c) (l .within))
 
 -- ---- the table of reading
 
@@ -126,27 +138,39 @@ module _ (limits : Limits) (c : List ℕ) where
   table-answer a (readable w r) =
       let k = form-kind (r .kind) c (r .form) in
       let l = limited-yes limits c (subst (λ (k : GoalKind). Limited limits k c) (sym k) (r .limited)) in
-      simp (form-yes (r .kind) c (r .form), l) (ap (λ (k : GoalKind). result (workoutAs k c)) k ∙ ap result (sym (r .workout)))
+      simp (form-yes (r .kind) c (r .form), l)
+      (ap (λ (k : GoalKind). result (workoutAs k c)) k ∙ ap result (sym (r .workout)))
 
   -- all contents have a line of the table
   some-line : (a : Answer Programmed) × JudgedWorkout limits c a
   some-line =
       by-bool (hasForm c)
       (λ y. by-bool (inLimits limits c)
-      (λ l. (result (workoutAs (goalKindIn c) c), readable _ (record { kind = goalKindIn c; form = form-of c y; limited = limited-of limits c l; workout = refl })))
+      (λ l. (
+        result (workoutAs (goalKindIn c) c),
+        readable _
+            (record { kind = goalKindIn c; form = form-of c y; limited = limited-of limits c l; workout = refl }),
+      ))
       (λ l. (refused 12, overLimit (goalKindIn c) (form-of c y) (λ r. true≢false (sym (limited-yes limits c r) ∙ l)))))
       (λ y. (refused 13, formless (λ kind f. true≢false (sym (form-yes kind c f) ∙ y))))
 
-  -- Every answer is given exactly when the table gives it: a refusal where the rule that it names fails and all before it hold.
-  pub read-by-table : (a : Answer Programmed) → (workoutAnswer limits c ≡ a → JudgedWorkout limits c a) × (JudgedWorkout limits c a → workoutAnswer limits c ≡ a)
+  -- Every answer is given exactly when the table gives it: a refusal where the rule that it names fails and all before
+  -- it hold.
+  pub read-by-table : (a : Answer Programmed)
+      → (workoutAnswer limits c ≡ a → JudgedWorkout limits c a)
+      × (JudgedWorkout limits c a → workoutAnswer limits c ≡ a)
   read-by-table a = (
-    (λ e. subst (λ (x : Answer Programmed). JudgedWorkout limits c x) (sym (table-answer (some-line .0) (some-line .1)) ∙ e) (some-line .1)),
+    (λ e. subst (λ (x : Answer Programmed). JudgedWorkout limits c x)
+        (sym (table-answer (some-line .0) (some-line .1)) ∙ e) (some-line .1)),
     table-answer a,
   )
 
   -- Read exactly when form and limits hold, and then as that workout.
-  pub read-exactly : (w : Programmed) → (workoutAnswer limits c ≡ result w → Readable limits c w) × (Readable limits c w → workoutAnswer limits c ≡ result w)
-  read-exactly w = ((λ e. found (result w) (read-by-table (result w) .0 e) w refl), (λ r. table-answer (result w) (readable w r)))
+  pub read-exactly : (w : Programmed)
+      → (workoutAnswer limits c ≡ result w → Readable limits c w)
+      × (Readable limits c w → workoutAnswer limits c ≡ result w)
+  read-exactly w =
+      ((λ e. found (result w) (read-by-table (result w) .0 e) w refl), (λ r. table-answer (result w) (readable w r)))
     where
       found : (a : Answer Programmed) → JudgedWorkout limits c a → (w : Programmed) → a ≡ result w → Readable limits c w
       found a (formless n) w e = let z : _≡_ {A = ℕ} 0 1 = cc in absurd (omega arith)
@@ -162,14 +186,17 @@ module _ (limits : Limits) (w : Programmed) (room : ℕ) where
   -- within the limits only the room is left to ask for
   inside : withinLimits limits w ≡ true → answer ≡ pick (leb 23 room) (result 23) (refused 1)
   unfolding draftAnswer
-  inside y = ap (λ (d : Draft). draftAnswer d room) (draft-inside limits w y) ∙ ap (λ (n : ℕ). pick (leb n room) (result n) (refused 1)) (contents-length w)
+  inside y =
+      ap (λ (d : Draft). draftAnswer d room) (draft-inside limits w y)
+      ∙ ap (λ (n : ℕ). pick (leb n room) (result n) (refused 1)) (contents-length w)
 
   past : withinLimits limits w ≡ false → answer ≡ refused 12
   unfolding draftAnswer
   past y = ap (λ (d : Draft). draftAnswer d room) (draft-outside limits w y)
 
   table-written : (a : Answer ℕ) → JudgedWriting limits w room a → answer ≡ a
-  table-written a (outside n) = by-bool (withinLimits limits w) (λ y. absurd (n (within-limits limits w y))) (λ y. past y)
+  table-written a (outside n) =
+      by-bool (withinLimits limits w) (λ y. absurd (n (within-limits limits w y))) (λ y. past y)
   table-written a (noRoom l h) = inside (limits-within limits w l) ∙ simp (lt-leb 23 room h)
   table-written a (fits l h) = inside (limits-within limits w l) ∙ simp (le-leb 23 room h)
 
@@ -182,8 +209,10 @@ module _ (limits : Limits) (w : Programmed) (room : ℕ) where
       (λ y. (refused 12, outside (λ l. true≢false (sym (limits-within limits w l) ∙ y))))
 
   -- Every answer to writing is given exactly when the table gives it.
-  pub written-by-table : (a : Answer ℕ) → (answer ≡ a → JudgedWriting limits w room a) × (JudgedWriting limits w room a → answer ≡ a)
+  pub written-by-table : (a : Answer ℕ)
+      → (answer ≡ a → JudgedWriting limits w room a) × (JudgedWriting limits w room a → answer ≡ a)
   written-by-table a = (
-    (λ e. subst (λ (x : Answer ℕ). JudgedWriting limits w room x) (sym (table-written (some-write .0) (some-write .1)) ∙ e) (some-write .1)),
+    (λ e. subst (λ (x : Answer ℕ). JudgedWriting limits w room x)
+        (sym (table-written (some-write .0) (some-write .1)) ∙ e) (some-write .1)),
     table-written a,
   )

@@ -13,13 +13,15 @@ use Rattle.lists.proofs.Cases.{by-bool}
 use Rattle.lists.proofs.Splices.{copied-first}
 use Rattle.answer.proofs.Drafts.{Writes, writes-done}
 use Rattle.workout.specs.Limits.{Limits}
-use Rattle.workout.specs.Workout.{Programmed, distance, time, goalMeans, programmed, withinLimits, layout, distanceBytes, timeBytes, workoutBytes}
+use Rattle.workout.specs.Workout.{Programmed, distance, time, goalMeans, programmed, withinLimits, layout}
+use Rattle.workout.specs.Workout.{distanceBytes, timeBytes, workoutBytes}
 use Rattle.workout.specs.Answers.{workoutDraft}
 use Rattle.workout.specs.declared.Workout.{Workout}
 use Rattle.workout.specs.declared.Goal.{Goal}
 
 -- what is known of a workout's goal, of what the workout means
-pub by-goal : {A : Type 0} (f : Programmed → A) (w : Workout) {g : Goal} → w .goal ≡ g → f (goalMeans g (w .watts)) ≡ f (programmed w)
+pub by-goal : {A : Type 0} (f : Programmed → A) (w : Workout) {g : Goal} → w .goal ≡ g
+    → f (goalMeans g (w .watts)) ≡ f (programmed w)
 by-goal f w e = ap (λ (g : Goal). f (goalMeans g (w .watts))) (sym e)
 
 pub contents-length : (w : Programmed) → length (workoutBytes w) ≡ 23
@@ -47,9 +49,12 @@ module _ (limits : Limits) (w : Programmed) where
       let x : _≡_ {A = ℕ} 0 1 = cc in absurd (omega arith))
 
 -- the 23 bytes at the front of the output, with the answer
-pub write-done : (limits : Limits) (w : Programmed) {contents last : List ℕ} (out : List ℕ) → withinLimits limits w ≡ true → 23 ≤ length out → contents ≡ workoutBytes w
-    → last ≡ take (length contents) contents ++ drop (length contents) out → Writes (workoutDraft limits w) out (result 23) last
+pub write-done : (limits : Limits) (w : Programmed) {contents last : List ℕ} (out : List ℕ)
+    → withinLimits limits w ≡ true → 23 ≤ length out → contents ≡ workoutBytes w
+    → last ≡ take (length contents) contents ++ drop (length contents) out
+    → Writes (workoutDraft limits w) out (result 23) last
 write-done limits w {contents} {last} out e h p q =
     subst (λ (n : ℕ). Writes (workoutDraft limits w) out (result n) last) (contents-length w)
-    (writes-done (workoutDraft limits w) (workoutBytes w) out last (draft-inside limits w e) (omega (arith, contents-length w))
+    (writes-done (workoutDraft limits w) (workoutBytes w) out last (draft-inside limits w e)
+    (omega (arith, contents-length w))
     (copied-first contents out last q ∙ ap (splice out 0) p))

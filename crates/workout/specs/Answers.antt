@@ -1,4 +1,5 @@
--- What each case of an answer to reading means, in document 01's numbers, and what is answered. A writer answers as its draft says.
+-- What each case of an answer to reading means, in document 01's numbers, and what is answered. A writer answers as its
+-- draft says.
 use Prim.Native.Nat.{ℕ}
 use mathlib.Core.List.{List}
 use Rattle.lists.specs.Choice.{pick}

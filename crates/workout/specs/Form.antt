@@ -32,7 +32,9 @@ bytesAt at (suc n) c = getD c at 0 ∷ bytesAt (suc at) n c
 
 -- Whether contents are 23 bytes, laid out as the layout lays out the goal, the split and the power in them.
 unfoldable pub laidOut : List ℕ → Bool
-laidOut c = pick (eqb (length c) 23) (sameBytes c (layout (goalKindIn c) (bytesAt 2 3 c) (bytesAt 10 4 c) (bytesAt 16 2 c))) false
+laidOut c =
+    pick (eqb (length c) 23) (sameBytes c (layout (goalKindIn c) (bytesAt 2 3 c) (bytesAt 10 4 c) (bytesAt 16 2 c)))
+    false
 
 -- Whether the unit of a distance is one of the two.
 abbrev pub unitKnown : GoalKind → ℕ → Bool

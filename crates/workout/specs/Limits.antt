@@ -11,7 +11,8 @@ pub record GoalLimits : Type 0 where
   pub shortest : ℕ
   pub longest : ℕ
 
--- The limits of a monitor: on a distance in metres, on a time in seconds with its split in hundredths of a second, and on the number of splits.
+-- The limits of a monitor: on a distance in metres, on a time in seconds with its split in hundredths of a second, and
+-- on the number of splits.
 pub record Limits : Type 0 where
   pub distance : GoalLimits
   pub time : GoalLimits
@@ -34,7 +35,8 @@ pub record RoundedUp (n d q : ℕ) : Type 0 where
   pub reaches : n ≤ q * d
   pub least : (m : ℕ) → n ≤ m * d → q ≤ m
 
--- Whether a goal and its split are within the limits on their kind of goal, where `scale` units of the split make one of the goal.
+-- Whether a goal and its split are within the limits on their kind of goal, where `scale` units of the split make one
+-- of the goal.
 unfoldable pub withinGoal : GoalLimits → (splits scale goal split : ℕ) → Bool
 withinGoal limits splits scale goal split =
     pick (within (limits .least) (limits .most) goal)

@@ -14,7 +14,8 @@ use Rattle.workout.specs.declared.Goal.the-variants.{Distance, Time}
 use Rattle.workout.specs.declared.layout.GoalKind.{GoalKind}
 use Rattle.workout.specs.declared.layout.GoalKind.the-variants.{Distance as OfDistance, Time as OfTime}
 
--- A workout as plain numbers (document 01: a card). A distance and its split are in metres, a time is in seconds and its split in hundredths of a second.
+-- A workout as plain numbers (document 01: a card). A distance and its split are in metres, a time is in seconds and
+-- its split in hundredths of a second.
 pub data Programmed : Type 0 where
   distance : (goal split watts : ℕ) → Programmed
   time : (goal split watts : ℕ) → Programmed
@@ -47,8 +48,9 @@ abbrev pub identifierOf : GoalKind → ℕ
 identifierOf OfDistance = 0x80
 identifierOf OfTime = 0x00
 
--- The 23 bytes, with the three of the goal, the four of the split and the two of the power. The commands are one that sets the goal,
--- a wrapper round the one that sets the split, one that sets the power in watts, and one that selects the programmed workout.
+-- The 23 bytes, with the three of the goal, the four of the split and the two of the power. The commands are one that
+-- sets the goal, a wrapper round the one that sets the split, one that sets the power in watts, and one that selects
+-- the programmed workout.
 unfoldable pub layout : GoalKind → (goal split power : List ℕ) → List ℕ
 layout kind goal split power =
     (commandOf kind ∷ 0x03 ∷ goal)
@@ -58,7 +60,8 @@ layout kind goal split power =
 
 -- A distance low, high and its unit: km where it is a whole number of km, else metres.
 unfoldable pub distanceBytes : ℕ → List ℕ
-distanceBytes metres = pick (eqb (metres % 1000) 0) (bytesOf 2 (metres / 1000) ++ (0x21 ∷ [])) (bytesOf 2 metres ++ (0x24 ∷ []))
+distanceBytes metres =
+    pick (eqb (metres % 1000) 0) (bytesOf 2 (metres / 1000) ++ (0x21 ∷ [])) (bytesOf 2 metres ++ (0x24 ∷ []))
 
 -- Hours, minutes and seconds.
 unfoldable pub timeBytes : ℕ → List ℕ
@@ -69,7 +72,8 @@ unfoldable pub workoutBytes : Programmed → List ℕ
 workoutBytes (distance goal split watts) = layout OfDistance (distanceBytes goal) (bytesOf 4 split) (bytesOf 2 watts)
 workoutBytes (time goal split watts) = layout OfTime (timeBytes goal) (bytesOf 4 split) (bytesOf 2 watts)
 
--- What the bytes can hold: a distance of 16 bits in metres or in whole km, hours of 8 bits, a power of 16 bits. Document 01's limits let no other goal through.
+-- What the bytes can hold: a distance of 16 bits in metres or in whole km, hours of 8 bits, a power of 16 bits.
+-- Document 01's limits let no other goal through.
 abbrev pub Sendable : Programmed → Type 0
 Sendable (distance goal split watts) = ((goal < 65536) ⊎ ((goal % 1000 ≡ 0) × (goal < 65536000))) × (watts < 65536)
 Sendable (time goal split watts) = (goal < 921600) × (watts < 65536)

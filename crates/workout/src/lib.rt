@@ -54,7 +54,8 @@ pub fn read_workout(contents: &[u8]) -> WorkoutRead
 
 // Writes the contents of a workout first in the output. Refusals 12 and 1.
 pub fn write_workout(workout: Workout, out: &mut [u8]) -> Written
-    ensures { λ r. ⌜ writtenMeans r ≡ draftAnswer (workoutDraft pm3Limits (programmed workout)) (length (now (out .entry))) ⌝ }
+    ensures { λ r. ⌜ writtenMeans r ≡ draftAnswer (workoutDraft pm3Limits (programmed workout))
+        (length (now (out .entry))) ⌝ }
     ensures { λ r. ⌜ now (out .exit) ≡ draftOut (workoutDraft pm3Limits (programmed workout)) (now (out .entry)) ⌝ }
 {
     write_within(limits::PM3, workout, out)
@@ -149,8 +150,10 @@ fn limited(limits: Limits, workout: Workout) -> WorkoutRead
 // Nothing is written where the workout is out of the limits or does not fit.
 fn write_within(limits: Limits, workout: Workout, out: &mut [u8]) -> Written
     requires { ⌜ Divisible (limitsOf limits) ⌝ }
-    ensures { λ r. ⌜ writtenMeans r ≡ draftAnswer (workoutDraft (limitsOf limits) (programmed workout)) (length (now (out .entry))) ⌝ }
-    ensures { λ r. ⌜ now (out .exit) ≡ draftOut (workoutDraft (limitsOf limits) (programmed workout)) (now (out .entry)) ⌝ }
+    ensures { λ r. ⌜ writtenMeans r ≡ draftAnswer (workoutDraft (limitsOf limits) (programmed workout))
+        (length (now (out .entry))) ⌝ }
+    ensures { λ r. ⌜ now (out .exit) ≡ draftOut (workoutDraft (limitsOf limits) (programmed workout))
+        (now (out .entry)) ⌝ }
 {
     if !limits::within_limits(limits, workout) {
         return Written::Refused(Refusal::OutOfLimits);

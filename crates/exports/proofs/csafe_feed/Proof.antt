@@ -12,7 +12,9 @@ feed-in-requires c κs = search needs
 
 pack-state-requires : tie.Need-pack-state-requires
 pack-state-requires c κs =
-    fed-len-fits _ _ _ _ _ (c .before .feed-in .ensures) (c .before .before .before .before .before .before .args .state .now) (omega (arith, c .before .before .before .before .row-known))
+    fed-len-fits _ _ _ _ _ (c .before .feed-in .ensures)
+    (c .before .before .before .before .before .before .args .state .now)
+    (omega (arith, c .before .before .before .before .row-known))
     (c .before .before .before .state-in .ensures)
 
 of-told-requires : tie.Need-of-told-requires
@@ -21,7 +23,8 @@ of-told-requires c κs = fed-within _ _ _ _ _ (c .before .before .feed-in .ensur
 returns : tie.Need-returns
 returns c =
     let f = c .before .before .before in
-    fed-as _ _ _ _ _ (f .feed-in .ensures) _ (f .before .before .before .before .before .args .state .now) _ (f .before .before .state-in .ensures)
+    fed-as _ _ _ _ _ (f .feed-in .ensures) _ (f .before .before .before .before .before .args .state .now) _
+    (f .before .before .state-in .ensures)
     (c .before .pack-state .ensures) (c .of-told .ensures)
 
 pub csafe-feed-spec : {M : Type 1} → statement M

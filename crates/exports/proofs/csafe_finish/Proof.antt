@@ -11,15 +11,18 @@ finish-in-requires : tie.Need-finish-in-requires
 finish-in-requires c κs = search needs
 
 pack-state-requires : tie.Need-pack-state-requires
-pack-state-requires c κs = omega (arith, finish-len (c .before .before .state-in .result) _ (c .before .finish-in .ensures))
+pack-state-requires c κs =
+    omega (arith, finish-len (c .before .before .state-in .result) _ (c .before .finish-in .ensures))
 
 of-told-requires : tie.Need-of-told-requires
-of-told-requires c κs = finish-fits (c .before .before .before .state-in .result) _ (c .before .before .finish-in .ensures)
+of-told-requires c κs =
+    finish-fits (c .before .before .before .state-in .result) _ (c .before .before .finish-in .ensures)
 
 returns : tie.Need-returns
 returns c =
     let f = c .before .before .before in
-    finished-as (f .before .state-in .result) _ (f .finish-in .ensures) _ (f .before .before .before .args .state .now) _ (f .before .state-in .ensures)
+    finished-as (f .before .state-in .result) _ (f .finish-in .ensures) _
+    (f .before .before .before .args .state .now) _ (f .before .state-in .ensures)
     (c .before .pack-state .ensures) (c .of-told .ensures)
 
 pub csafe-finish-spec : {M : Type 1} → statement M

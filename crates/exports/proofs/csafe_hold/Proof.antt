@@ -18,7 +18,12 @@ same-length : tie.Need-same-length
 same-length c = search needs
 
 returns : tie.Need-returns
-returns c = let e = c .before .before .before .hold-lent .ensures in (subst (λ (a : Answer (List ℕ)). Tells (c .of-outcome .result) (leaseFields a)) (e .answered) (c .of-outcome .ensures), e .left)
+returns c =
+    let e = c .before .before .before .hold-lent .ensures in (
+      subst (λ (a : Answer (List ℕ)). Tells (c .of-outcome .result) (leaseFields a)) (e .answered)
+          (c .of-outcome .ensures),
+      e .left,
+    )
 
 pub csafe-hold-spec : {M : Type 1} → statement M
 csafe-hold-spec = tie.close (tie.spec hold-lent-requires of-outcome-requires same-length returns)

@@ -14,13 +14,17 @@ read-frame-requires : tie.Need-read-frame-requires
 read-frame-requires c κs = search needs
 
 of-read-requires : tie.Need-of-read-requires
-of-read-requires c κs = let a = c .before .before .before .before .before .before .args in subst ReadShort (sym (c .before .before .read-frame .ensures .0)) (read-short (a .wire .now) (length (a .out .now)))
+of-read-requires c κs =
+    let a = c .before .before .before .before .before .before .args in
+    subst ReadShort (sym (c .before .before .read-frame .ensures .0)) (read-short (a .wire .now) (length (a .out .now)))
 
 same-length : tie.Need-same-length
 same-length c = search needs
 
 returns : tie.Need-returns
-returns c = let e = c .before .before .before .read-frame .ensures in (subst (λ (a : Answer FrameOutline). Tells (c .of-read .result) (readFields a)) (e .0) (c .of-read .ensures), e .1)
+returns c =
+    let e = c .before .before .before .read-frame .ensures in
+    (subst (λ (a : Answer FrameOutline). Tells (c .of-read .result) (readFields a)) (e .0) (c .of-read .ensures), e .1)
 
 pub csafe-read-spec : {M : Type 1} → statement M
 csafe-read-spec = tie.close (tie.spec read-frame-requires of-read-requires same-length returns)

@@ -14,13 +14,21 @@ stop-lent-requires : tie.Need-stop-lent-requires
 stop-lent-requires c κs = search needs
 
 of-written-requires : tie.Need-of-written-requires
-of-written-requires c κs = let a = c .before .before .before .before .before .before .args in subst WriteShort (sym (c .before .before .stop-lent .ensures .answered)) (stop-fits (a .address) (a .token) (length (a .out .now)) (a .table .now))
+of-written-requires c κs =
+    let a = c .before .before .before .before .before .before .args in
+    subst WriteShort (sym (c .before .before .stop-lent .ensures .answered))
+    (stop-fits (a .address) (a .token) (length (a .out .now)) (a .table .now))
 
 same-length : tie.Need-same-length
 same-length c = search needs
 
 returns : tie.Need-returns
-returns c = let e = c .before .before .before .stop-lent .ensures in (subst (λ (a : Answer ℕ). Tells (c .of-written .result) (writeFields a)) (e .answered) (c .of-written .ensures), e .written)
+returns c =
+    let e = c .before .before .before .stop-lent .ensures in (
+      subst (λ (a : Answer ℕ). Tells (c .of-written .result) (writeFields a)) (e .answered)
+          (c .of-written .ensures),
+      e .written,
+    )
 
 pub csafe-stop-spec : {M : Type 1} → statement M
 csafe-stop-spec = tie.close (tie.spec stop-lent-requires of-written-requires same-length returns)

@@ -15,13 +15,18 @@ write-extended-requires : tie.Need-write-extended-requires
 write-extended-requires c κs = search needs
 
 of-written-requires : tie.Need-of-written-requires
-of-written-requires c κs = let a = c .before .before .before .before .before .before .args in subst WriteShort (sym (c .before .before .write-extended .ensures .0)) (frame-short (extended (a .to) (a .from) (a .contents .now)) (length (a .out .now)))
+of-written-requires c κs =
+    let a = c .before .before .before .before .before .before .args in
+    subst WriteShort (sym (c .before .before .write-extended .ensures .0))
+    (frame-short (extended (a .to) (a .from) (a .contents .now)) (length (a .out .now)))
 
 same-length : tie.Need-same-length
 same-length c = search needs
 
 returns : tie.Need-returns
-returns c = let e = c .before .before .before .write-extended .ensures in (subst (λ (a : Answer ℕ). Tells (c .of-written .result) (writeFields a)) (e .0) (c .of-written .ensures), e .1)
+returns c =
+    let e = c .before .before .before .write-extended .ensures in
+    (subst (λ (a : Answer ℕ). Tells (c .of-written .result) (writeFields a)) (e .0) (c .of-written .ensures), e .1)
 
 pub csafe-write-extended-spec : {M : Type 1} → statement M
 csafe-write-extended-spec =

@@ -13,7 +13,13 @@ sub-if1 : tie.Need-sub-if1
 sub-if1 c = search needs
 
 add-if1 : tie.Need-add-if1
-add-if1 c = let s = c .before in omega (arith, unstuff-shrinks false (drop (s .args .start) (s .args .s .now)), length-drop (s .args .start) (s .args .s .now))
+add-if1 c =
+    let s = c .before in omega (
+      arith,
+      unstuff-shrinks false (drop (s .args .start) (s .args .s .now)),
+      length-drop (s .args .start)
+          (s .args .s .now),
+    )
 
 shift-requires : tie.Need-shift-requires
 shift-requires c κs = let s = c .before .before .before in omega (arith, length-drop (s .args .start) (s .args .s .now))
@@ -24,7 +30,9 @@ same-length c = search needs
 returns : tie.Need-returns
 returns c =
     let s = c .before .before .before .before .before .before in
-    shifted-plain (s .args .s .now) _ (s .args .start) (s .args .len) (s .pre .0) (length-drop (s .args .start) (s .args .s .now) ∙ c .before .before .before .before .if1 .taken) (c .before .before .shift .ensures)
+    shifted-plain (s .args .s .now) _ (s .args .start) (s .args .len) (s .pre .0)
+    (length-drop (s .args .start) (s .args .s .now) ∙ c .before .before .before .before .if1 .taken)
+    (c .before .before .shift .ensures)
 
 unstuff-front-requires : tie.Need-unstuff-front-requires
 unstuff-front-requires c κs = search needs

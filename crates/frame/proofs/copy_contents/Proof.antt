@@ -11,10 +11,13 @@ add-if1 : tie.Need-add-if1
 add-if1 c = search needs
 
 slice-aggregate-copy : tie.Need-slice-aggregate-copy
-slice-aggregate-copy c = let a = c .before .before .before .before .args in sym (length-take-le (a .len) (a .rest .now) (omega arith))
+slice-aggregate-copy c =
+    let a = c .before .before .before .before .args in sym (length-take-le (a .len) (a .rest .now) (omega arith))
 
 copy-requires : tie.Need-copy-requires
-copy-requires c κs = let a = c .before .before .before .before .before .args in omega (arith, length-take-le (a .len) (a .rest .now) (omega arith))
+copy-requires c κs =
+    let a = c .before .before .before .before .before .args in
+    omega (arith, length-take-le (a .len) (a .rest .now) (omega arith))
 
 same-length : tie.Need-same-length
 same-length c = search needs
@@ -22,7 +25,8 @@ same-length c = search needs
 returns : tie.Need-returns
 returns c =
     let s = c .before .before .before .before .before .before .before .before in
-    copied-plain (s .args .rest .now) (s .args .out .now) _ (s .args .len) (s .pre .0) (c .before .before .before .before .before .if1 .taken) (c .before .before .copy .ensures)
+    copied-plain (s .args .rest .now) (s .args .out .now) _ (s .args .len) (s .pre .0)
+    (c .before .before .before .before .before .if1 .taken) (c .before .before .copy .ensures)
 
 unstuff-into-requires : tie.Need-unstuff-into-requires
 unstuff-into-requires c κs = search needs

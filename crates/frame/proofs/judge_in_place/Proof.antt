@@ -12,7 +12,10 @@ use Rattle.frame.proofs.judge_in_place.Statement.{statement}
 use Rattle.frame.proofs.judge_in_place.Tie as tie
 
 -- the part is the first bytes
-part : (t : tie.After-lesser) → (take (t .lesser .result) (t .before .before .args .s .now) ≡ take (t .before .before .args .len) (t .before .before .args .s .now)) × (t .lesser .result ≤ length (t .before .before .args .s .now))
+part : (t : tie.After-lesser)
+    → (take (t .lesser .result) (t .before .before .args .s .now)
+    ≡ take (t .before .before .args .len) (t .before .before .args .s .now))
+    × (t .lesser .result ≤ length (t .before .before .args .s .now))
 part t = take-lesser _ _ _ (t .lesser .ensures)
 
 lesser-requires : tie.Need-lesser-requires
@@ -37,7 +40,8 @@ returns c =
     let a = t .before .before .args in
     let n = t .lesser .result in (
       j .judge-whole .ensures .0 ∙ ap (λ (l : List ℕ). judgeAnswer (judge (a .kind) l)) (part t .0),
-      left-part _ (a .s .now) _ n (part t .1) (j .judge-whole .kept .1 .0 ∙ length-take-le n (a .s .now) (part t .1)) (j .judge-whole .ensures .1)
+      left-part _ (a .s .now) _ n (part t .1) (j .judge-whole .kept .1 .0 ∙ length-take-le n (a .s .now) (part t .1))
+          (j .judge-whole .ensures .1)
           ∙ ap (λ (l : List ℕ). leftIn (judge (a .kind) l) (a .s .now)) (part t .0),
     )
 

@@ -10,10 +10,13 @@ use Rattle.frame.proofs.judge_whole.Tie as tie
 abbrev St : tie.After-examine → tie.Start
 St e = e .before .before .before
 
-found : (e : tie.After-examine) (x : Examined) → e .examine .result ≡ x → Examines (St e .args .kind) (St e .args .s .now) x
+found : (e : tie.After-examine) (x : Examined) → e .examine .result ≡ x
+    → Examines (St e .args .kind) (St e .args .s .now) x
 found e x q = subst (λ (y : Examined). Examines (St e .args .kind) (St e .args .s .now) y) q (e .examine .ensures)
 
-sound : (k : tie.After-known-told2) → SoundAt (St (k .before .before .before) .args .kind) (St (k .before .before .before) .args .s .now) (k .before .found2 .given .0 .0) (k .before .found2 .given .0 .1 .0) (k .before .found2 .given .0 .1 .1 .0)
+sound : (k : tie.After-known-told2)
+    → SoundAt (St (k .before .before .before) .args .kind) (St (k .before .before .before) .args .s .now)
+    (k .before .found2 .given .0 .0) (k .before .found2 .given .0 .1 .0) (k .before .found2 .given .0 .1 .1 .0)
 sound k = found (k .before .before .before) _ (k .before .found2 .given .1)
 
 examine-requires : tie.Need-examine-requires
@@ -47,7 +50,8 @@ returns-2 : tie.Need-returns-2
 returns-2 c =
     let k = c .before .before .before .before .before in
     let s = sound k in (
-      c .read-as .ensures ∙ header-as (k .before .found2 .given .0 .0) (s .contents) _ (s .counted) ∙ judge-accepted _ _ (s .judged),
+      c .read-as .ensures ∙ header-as (k .before .found2 .given .0 .0) (s .contents) _ (s .counted)
+          ∙ judge-accepted _ _ (s .judged),
       left-accepted _ _ _ _ (s .judged) (rest-first s _ _ (c .before .before .before .bring-contents .ensures)),
     )
 

@@ -4,7 +4,8 @@ use native.Mathlib.Omega.{arith}
 use lib.ListN.{length, take, drop, length-drop}
 use Rattle.lists.specs.Splice.{splice}
 use Rattle.frame.specs.Private.{headerKind, SoundAt}
-use Rattle.frame.proofs.VerdictLaws.{after-short, after-sum, after-sound, after-length, answer-refused, answer-no-room, answer-done, header-as, contents-of}
+use Rattle.frame.proofs.VerdictLaws.{after-short, after-sum, after-sound, after-length, answer-refused}
+use Rattle.frame.proofs.VerdictLaws.{answer-no-room, answer-done, header-as, contents-of}
 use Rattle.frame.proofs.ContentsLaws.{rest-first, copied-plain}
 use borrow.Author.Needs.{needs}
 use Rattle.frame.proofs.read_after.Statement.{statement}
@@ -13,14 +14,20 @@ use Rattle.frame.proofs.read_after.Tie as tie
 abbrev St : tie.Else2 → tie.Start
 St e = e .before .before .before .before
 
-sound : (e : tie.Else2) → SoundAt (headerKind (St e .args .header)) (St e .args .body .now) (St e .args .header) (St e .args .start) (length (St e .args .body .now) - St e .args .start - 1)
+sound : (e : tie.Else2) → SoundAt (headerKind (St e .args .header)) (St e .args .body .now) (St e .args .header)
+    (St e .args .start) (length (St e .args .body .now) - St e .args .start - 1)
 sound e = after-sound _ _ _ _ (St e .pre) (e .before .if1 .left) (e .if2 .left)
 
 returns : tie.Need-returns
-returns c = let s = c .before .before .before in answer-refused _ 4 (s .args .out .now) (after-short (s .args .header) _ _ _ (s .pre) (c .if1 .taken))
+returns c =
+    let s = c .before .before .before in
+    answer-refused _ 4 (s .args .out .now) (after-short (s .args .header) _ _ _ (s .pre) (c .if1 .taken))
 
 returns-2 : tie.Need-returns-2
-returns-2 c = let s = c .before .before .before .before in answer-refused _ 5 (s .args .out .now) (after-sum (s .args .header) _ _ _ (s .pre) (c .before .if1 .left) (c .if2 .taken))
+returns-2 c =
+    let s = c .before .before .before .before in
+    answer-refused _ 5 (s .args .out .now)
+    (after-sum (s .args .header) _ _ _ (s .pre) (c .before .if1 .left) (c .if2 .taken))
 
 sub-len : tie.Need-sub-len
 sub-len c = search needs
@@ -31,7 +38,8 @@ sub-len-2 c = search needs
 returns-3 : tie.Need-returns-3
 returns-3 c =
     let d = sound (c .before) in
-    answer-no-room _ _ (St (c .before) .args .out .now) (d .judged) (omega (arith, c .if3 .taken, d .counted, ap length (contents-of (St (c .before) .args .header) (d .contents))))
+    answer-no-room _ _ (St (c .before) .args .out .now) (d .judged)
+    (omega (arith, c .if3 .taken, d .counted, ap length (contents-of (St (c .before) .args .header) (d .contents))))
 
 sub-copy : tie.Need-sub-copy
 sub-copy c = search needs
@@ -63,9 +71,14 @@ returns-4 c =
     let body = s .args .body .now in
     let count : length body - 1 - s .args .start ≡ length body - s .args .start - 1 = omega arith in
     let n = ap length (contents-of (s .args .header) (d .contents)) in
-    let done = answer-done _ _ out (d .judged) (omega (arith, n, d .counted, c .before .before .before .before .before .before .if3 .left)) in (
+    let done = answer-done _ _ out (d .judged)
+    (omega (arith, n, d .counted, c .before .before .before .before .before .before .if3 .left)) in (
       c .read-as .ensures ∙ header-as (s .args .header) (d .contents) _ (d .counted) ∙ done .0,
-      rest-first d out _ (copied-plain (drop (s .args .start) body) out _ (length body - s .args .start - 1) (after-length (s .args .header) _ _ _ (s .pre) (e .before .if1 .left)) (omega (arith, length-drop (s .args .start) (s .args .body .now), e .before .if1 .left)) (c .before .before .before .copy .ensures ∙ ap (λ (m : ℕ). splice out 0 (take m (drop (s .args .start) body))) count)) ∙ done .1,
+      rest-first d out _ (copied-plain (drop (s .args .start) body) out _ (length body - s .args .start - 1)
+          (after-length (s .args .header) _ _ _ (s .pre) (e .before .if1 .left))
+          (omega (arith, length-drop (s .args .start) (s .args .body .now), e .before .if1 .left))
+          (c .before .before .before .copy .ensures
+          ∙ ap (λ (m : ℕ). splice out 0 (take m (drop (s .args .start) body))) count)) ∙ done .1,
     )
 
 pub read-after-spec : {M : Type 1} → statement M

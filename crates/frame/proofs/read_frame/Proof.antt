@@ -12,7 +12,8 @@ use Rattle.frame.specs.declared.candidate.Examined.{Examined}
 use Rattle.frame.specs.Verdict.{Verdict, verdict}
 use Rattle.answer.specs.Answer.{result}
 use Rattle.frame.specs.Answers.{readAnswer, readOut}
-use Rattle.frame.proofs.VerdictLaws.{bounded-no, bounded-long, bounded-judged, whole-judged, plain-whole, answer-refused, answer-no-room, answer-done, header-as, contents-of}
+use Rattle.frame.proofs.VerdictLaws.{bounded-no, bounded-long, bounded-judged, whole-judged, plain-whole}
+use Rattle.frame.proofs.VerdictLaws.{answer-refused, answer-no-room, answer-done, header-as, contents-of}
 use Rattle.frame.proofs.ContentsLaws.{rest-length, rest-first}
 use borrow.Author.Needs.{needs}
 use Rattle.frame.proofs.read_frame.Statement.{statement}
@@ -37,26 +38,36 @@ B k = take (length (W (T k)) - 1 - 1) (drop 1 (W (T k)))
 judged : (k : tie.After-kind-of) → judgeWhole (k .kind-of .result) (B k) ≡ verdict (W (T k))
 judged k =
     let n : length (W (T k)) - 1 - 1 ≡ length (W (T k)) - 2 = omega arith in
-    ap (λ (x : _). judgeWhole x (B k)) (k .kind-of .ensures) ∙ bounded-judged (W (T k)) (bounded (T k)) (B k) (ap (λ (m : ℕ). take m (drop 1 (W (T k)))) n)
+    ap (λ (x : _). judgeWhole x (B k)) (k .kind-of .ensures)
+    ∙ bounded-judged (W (T k)) (bounded (T k)) (B k) (ap (λ (m : ℕ). take m (drop 1 (W (T k)))) n)
 
 abbrev K : tie.After-examine-flagged → tie.After-kind-of
 K e = e .before .before .before
 
-found : (e : tie.After-examine-flagged) (x : Examined) → e .examine-flagged .result ≡ x → ExaminesWhole (K e .kind-of .result) (B (K e)) x
+found : (e : tie.After-examine-flagged) (x : Examined) → e .examine-flagged .result ≡ x
+    → ExaminesWhole (K e .kind-of .result) (B (K e)) x
 found e x q = subst (λ (y : Examined). ExaminesWhole (K e .kind-of .result) (B (K e)) y) q (e .examine-flagged .ensures)
 
 abbrev E : tie.After-known-told2 → tie.After-examine-flagged
 E k = k .before .before .before
 
-sound : (k : tie.After-known-told2) → SoundAt (K (E k) .kind-of .result) (B (K (E k))) (k .before .found2 .given .0 .0) (k .before .found2 .given .0 .1 .0) (k .before .found2 .given .0 .1 .1 .0)
+sound : (k : tie.After-known-told2)
+    → SoundAt (K (E k) .kind-of .result) (B (K (E k))) (k .before .found2 .given .0 .0)
+    (k .before .found2 .given .0 .1 .0) (k .before .found2 .given .0 .1 .1 .0)
 sound k = found (E k) _ (k .before .found2 .given .1) .1
 
-accepts : (k : tie.After-known-told2) → verdict (W (T (K (E k)))) ≡ result (frameOf (k .before .found2 .given .0 .0) (sound k .contents))
+accepts : (k : tie.After-known-told2)
+    → verdict (W (T (K (E k)))) ≡ result (frameOf (k .before .found2 .given .0 .0) (sound k .contents))
 accepts k = sym (judged (K (E k))) ∙ whole-judged _ _ (found (E k) _ (k .before .found2 .given .1) .0) ∙ sound k .judged
 
 -- the part from the contents on
-rest : (k : tie.After-known-told2) → take (length (B (K (E k))) - k .before .found2 .given .0 .1 .0) (drop (k .before .found2 .given .0 .1 .0) (B (K (E k)))) ≡ drop (k .before .found2 .given .0 .1 .0) (B (K (E k)))
-rest k = take-all (length (B (K (E k))) - k .before .found2 .given .0 .1 .0) (drop (k .before .found2 .given .0 .1 .0) (B (K (E k)))) (omega (arith, length-drop (k .before .found2 .given .0 .1 .0) (B (K (E k)))))
+rest : (k : tie.After-known-told2)
+    → take (length (B (K (E k))) - k .before .found2 .given .0 .1 .0)
+    (drop (k .before .found2 .given .0 .1 .0) (B (K (E k)))) ≡ drop (k .before .found2 .given .0 .1 .0) (B (K (E k)))
+rest k =
+    take-all (length (B (K (E k))) - k .before .found2 .given .0 .1 .0)
+    (drop (k .before .found2 .given .0 .1 .0) (B (K (E k))))
+    (omega (arith, length-drop (k .before .found2 .given .0 .1 .0) (B (K (E k)))))
 
 is-bounded-requires : tie.Need-is-bounded-requires
 is-bounded-requires c κs = search needs
@@ -97,8 +108,12 @@ returns-2 c =
     let l = r .before .before .before in
     let k = l .before in
     let out = St k .args .out .now in
-    let same = plain-whole (B k) _ (l .look-plain .ensures (r .before .before .if2 .taken)) (k .kind-of .result) ∙ judged k in
-    (r .read-plain .ensures .0 ∙ ap (λ (v : Verdict). readAnswer v (length out)) same, r .read-plain .ensures .1 ∙ ap (λ (v : Verdict). readOut v out) same)
+    let same = plain-whole (B k) _ (l .look-plain .ensures (r .before .before .if2 .taken)) (k .kind-of .result)
+    ∙ judged k in (
+      r .read-plain .ensures .0 ∙ ap (λ (v : Verdict). readAnswer v (length out)) same,
+      r .read-plain .ensures .1
+          ∙ ap (λ (v : Verdict). readOut v out) same,
+    )
 
 examine-flagged-requires : tie.Need-examine-flagged-requires
 examine-flagged-requires c κs = search needs
@@ -113,7 +128,8 @@ returns-3 : tie.Need-returns-3
 returns-3 c =
     let k = c .before in
     let s = sound k in
-    answer-no-room _ _ (St (K (E k)) .args .out .now) (accepts k) (omega (arith, c .if3 .taken, s .counted, ap length (contents-of (k .before .found2 .given .0 .0) (s .contents))))
+    answer-no-room _ _ (St (K (E k)) .args .out .now) (accepts k)
+    (omega (arith, c .if3 .taken, s .counted, ap length (contents-of (k .before .found2 .given .0 .0) (s .contents))))
 
 sub-copy-contents : tie.Need-sub-copy-contents
 sub-copy-contents c = let s = sound (c .before) in omega (arith, s .inside)
@@ -127,8 +143,11 @@ part-copy-contents-end c = search needs
 copy-contents-requires : tie.Need-copy-contents-requires
 copy-contents-requires c κs =
     let k = c .before .before .before in
-    let s = sound k in
-    (ap (λ (l : List ℕ). length (unstuffedBytes (unstuff false l))) (rest k) ∙ rest-length s, c .before .before .if3 .left)
+    let s = sound k in (
+      ap (λ (l : List ℕ). length (unstuffedBytes (unstuff false l))) (rest k)
+          ∙ rest-length s,
+      c .before .before .if3 .left,
+    )
 
 read-as-requires : tie.Need-read-as-requires
 read-as-requires c κs = search needs
@@ -147,9 +166,12 @@ returns-5 c =
     let s = sound k in
     let out = St (K (E k)) .args .out .now in
     let n = ap length (contents-of (k .before .found2 .given .0 .0) (s .contents)) in
-    let done = answer-done _ _ out (accepts k) (omega (arith, n, s .counted, c .before .before .before .before .before .before .if3 .left)) in (
+    let done = answer-done _ _ out (accepts k)
+    (omega (arith, n, s .counted, c .before .before .before .before .before .before .if3 .left)) in (
       c .read-as .ensures ∙ header-as (k .before .found2 .given .0 .0) (s .contents) _ (s .counted) ∙ done .0,
-      rest-first s out _ (c .before .before .before .copy-contents .ensures ∙ ap (λ (l : List ℕ). take (k .before .found2 .given .0 .1 .1 .0) (unstuffedBytes (unstuff false l)) ++ drop (k .before .found2 .given .0 .1 .1 .0) out) (rest k))
+      rest-first s out _ (c .before .before .before .copy-contents .ensures
+          ∙ ap (λ (l : List ℕ). take (k .before .found2 .given .0 .1 .1 .0) (unstuffedBytes (unstuff false l))
+          ++ drop (k .before .found2 .given .0 .1 .1 .0) out) (rest k))
           ∙ done .1,
     )
 

@@ -10,7 +10,8 @@ use Rattle.line.proofs.feed_in.Statement.{statement}
 use Rattle.line.proofs.feed_in.Tie as tie
 
 abbrev Inv-loop : tie.InvT-loop
-Inv-loop bytes₀ input s₀ i₀ bytes s i = (i ≤ length input) × (feedOf (lentReader bytes₀ s₀) input ≡ laterBy i (feedOf (lentReader bytes s) (drop i input)))
+Inv-loop bytes₀ input s₀ i₀ bytes s i =
+    (i ≤ length input) × (feedOf (lentReader bytes₀ s₀) input ≡ laterBy i (feedOf (lentReader bytes s) (drop i input)))
 
 abbrev μ-loop : tie.MeasureT-loop
 μ-loop bytes₀ input s₀ i₀ bytes s i = length input - i
@@ -27,7 +28,8 @@ unanswered-requires c κs = search needs
 returns : tie.Need-returns Inv-loop μ-loop
 returns c =
     let p = c .before .before .before in
-    ends _ _ _ _ (p .consume .result .at) (c .before .if1 .taken) (p .before .before .before .loop .inv .1 ∙ p .consume .ensures .same) _ (c .unanswered .ensures)
+    ends _ _ _ _ (p .consume .result .at) (c .before .if1 .taken)
+    (p .before .before .before .loop .inv .1 ∙ p .consume .ensures .same) _ (c .unanswered .ensures)
 
 shared-slice-read-step-in : tie.Need-shared-slice-read-step-in Inv-loop μ-loop
 shared-slice-read-step-in c = search needs
@@ -47,7 +49,8 @@ returns-2 c =
     let p = q .before .before .before .before .before in
     let l = p .before .before .before in
     answers _ _ (l .before .before .args .input .now) (p .consume .result .at) (q .before .before .before .if1 .left)
-    (l .loop .inv .1 ∙ p .consume .ensures .same) _ (q .step-in .result) (q .step-in .ensures) (sym (c .before .is-answer .ensures) ∙ c .if2 .taken)
+    (l .loop .inv .1 ∙ p .consume .ensures .same) _ (q .step-in .result) (q .step-in .ensures)
+    (sym (c .before .is-answer .ensures) ∙ c .if2 .taken)
 
 loop-less : tie.Need-loop-less Inv-loop μ-loop
 loop-less c = omega (arith, c .before .before .before .before .before .before .before .before .consume .ensures .onward)
@@ -59,14 +62,17 @@ loop-again c =
     let l = p .before .before .before in (
       search needs,
       goes-on _ _ (l .before .before .args .input .now) (p .consume .result .at) (q .before .before .before .if1 .left)
-          (l .loop .inv .1 ∙ p .consume .ensures .same) _ (q .step-in .result) (q .step-in .ensures) (sym (c .before .is-answer .ensures) ∙ c .if2 .left),
+          (l .loop .inv .1 ∙ p .consume .ensures .same) _ (q .step-in .result) (q .step-in .ensures)
+          (sym (c .before .is-answer .ensures) ∙ c .if2 .left),
     )
 
 unanswered-requires-2 : tie.Need-unanswered-requires-2 Inv-loop μ-loop
 unanswered-requires-2 c κs = search needs
 
 returns-3 : tie.Need-returns-3 Inv-loop μ-loop
-returns-3 c = let l = c .before .before in ends _ _ _ _ (l .loop .i) (c .before .loop-test .left) (l .loop .inv .1) _ (c .unanswered2 .ensures)
+returns-3 c =
+    let l = c .before .before in
+    ends _ _ _ _ (l .loop .i) (c .before .loop-test .left) (l .loop .inv .1) _ (c .unanswered2 .ensures)
 
 pub feed-in-spec : {M : Type 1} → statement M
 feed-in-spec =

@@ -33,10 +33,14 @@ returns : tie.Need-returns
 returns c = search needs
 
 returns-2 : tie.Need-returns-2
-returns-2 c = rw (c .before .before .before .enum-told2 .given .1) (c .told-of .ensures ∙ ap tells (c .before .judge-array .ensures .0), c .before .judge-array .ensures .1)
+returns-2 c =
+    rw (c .before .before .before .enum-told2 .given .1)
+    (c .told-of .ensures ∙ ap tells (c .before .judge-array .ensures .0), c .before .judge-array .ensures .1)
 
 returns-3 : tie.Need-returns-3
-returns-3 c = rw (c .before .before .before .enum-told3 .given .1) (c .told-of2 .ensures ∙ ap tells (c .before .judge-array2 .ensures .0), c .before .judge-array2 .ensures .1)
+returns-3 c =
+    rw (c .before .before .before .enum-told3 .given .1)
+    (c .told-of2 .ensures ∙ ap tells (c .before .judge-array2 .ensures .0), c .before .judge-array2 .ensures .1)
 
 returns-4 : tie.Need-returns-4
 unfolding judgeAnswer leftIn

@@ -11,7 +11,8 @@ use Rattle.lists.proofs.blocks_before.Statement.{statement}
 use Rattle.lists.proofs.blocks_before.Tie as tie
 
 abbrev Inv-loop : tie.InvT-loop
-Inv-loop s low high i₀ i = (i ≤ length s) × (countBefore (within low high) s ≡ i + countBefore (within low high) (drop i s))
+Inv-loop s low high i₀ i =
+    (i ≤ length s) × (countBefore (within low high) s ≡ i + countBefore (within low high) (drop i s))
 
 abbrev μ-loop : tie.MeasureT-loop
 μ-loop s low high i₀ i = length s - i
@@ -49,8 +50,11 @@ loop-less c = omega arith
 loop-again : tie.Need-loop-again Inv-loop μ-loop
 loop-again c =
     let l = c .before .before .before .before in
-    let t = c .before .before .before .loop-test .taken in
-    (omega arith, before-block _ _ (l .loop .i) 32 _ (omega arith) (c .before .none-within .ensures) (not-false _ (c .if1 .left)) (l .loop .inv .1))
+    let t = c .before .before .before .loop-test .taken in (
+      omega arith,
+      before-block _ _ (l .loop .i) 32 _ (omega arith) (c .before .none-within .ensures)
+          (not-false _ (c .if1 .left)) (l .loop .inv .1),
+    )
 
 returns-2 : tie.Need-returns-2 Inv-loop μ-loop
 returns-2 c = let l = c .before in (l .loop .inv .0, l .loop .inv .1)

@@ -9,7 +9,8 @@ use Rattle.lists.proofs.count_before.Statement.{statement}
 use Rattle.lists.proofs.count_before.Tie as tie
 
 abbrev Inv-loop : tie.InvT-loop
-Inv-loop s low high i₀ i = (i ≤ length s) × (countBefore (within low high) s ≡ i + countBefore (within low high) (drop i s))
+Inv-loop s low high i₀ i =
+    (i ≤ length s) × (countBefore (within low high) s ≡ i + countBefore (within low high) (drop i s))
 
 abbrev μ-loop : tie.MeasureT-loop
 μ-loop s low high i₀ i = length s - i
@@ -29,7 +30,8 @@ mark-requires c κs = search needs
 returns : tie.Need-returns Inv-loop μ-loop
 returns c =
     let l = c .before .before .before .before in
-    before-here _ _ (l .loop .i) (c .before .before .before .loop-test .taken) (marked _ _ (c .before .mark .ensures) (c .if1 .taken)) (l .loop .inv .1)
+    before-here _ _ (l .loop .i) (c .before .before .before .loop-test .taken)
+    (marked _ _ (c .before .mark .ensures) (c .if1 .taken)) (l .loop .inv .1)
 
 add-i : tie.Need-add-i Inv-loop μ-loop
 add-i c = search needs
@@ -39,8 +41,11 @@ loop-less c = omega arith
 
 loop-again : tie.Need-loop-again Inv-loop μ-loop
 loop-again c =
-    let l = c .before .before .before .before in
-    (search needs, before-more _ _ (l .loop .i) (c .before .before .before .loop-test .taken) (unmarked _ _ (c .before .mark .ensures) (c .if1 .left)) (l .loop .inv .1))
+    let l = c .before .before .before .before in (
+      search needs,
+      before-more _ _ (l .loop .i) (c .before .before .before .loop-test .taken)
+          (unmarked _ _ (c .before .mark .ensures) (c .if1 .left)) (l .loop .inv .1),
+    )
 
 returns-2 : tie.Need-returns-2 Inv-loop μ-loop
 returns-2 c = before-end _ _ (c .before .loop .i) (c .loop-test .left) (c .before .loop .inv .1)

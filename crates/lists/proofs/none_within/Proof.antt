@@ -34,14 +34,18 @@ loop-less c = search needs
 loop-again : tie.Need-loop-again Inv-loop μ-loop
 loop-again c =
     let l = c .before .before .before in
-    let a = l .before .before .args in
-    (search needs, mark-more (within (a .low) (a .high)) _ _ _ _ (c .before .before .loop-test .taken) (l .loop .inv .1) (c .mark .ensures))
+    let a = l .before .before .args in (
+      search needs,
+      mark-more (within (a .low) (a .high)) _ _ _ _ (c .before .before .loop-test .taken) (l .loop .inv .1)
+          (c .mark .ensures),
+    )
 
 returns : tie.Need-returns Inv-loop μ-loop
 returns c =
     let l = c .before in
     let a = l .before .before .args in
-    ap (λ (n : ℕ). eqb n 0) (l .loop .inv .1) ∙ mark-all (noneOf (within (a .low) (a .high)) (take (l .loop .i) (a .s .now)))
+    ap (λ (n : ℕ). eqb n 0) (l .loop .inv .1)
+    ∙ mark-all (noneOf (within (a .low) (a .high)) (take (l .loop .i) (a .s .now)))
     ∙ ap (noneOf (within (a .low) (a .high))) (take-all (l .loop .i) (a .s .now) (c .loop-test .left))
 
 pub none-within-spec : {M : Type 1} → statement M

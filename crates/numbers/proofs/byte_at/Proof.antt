@@ -13,7 +13,9 @@ sub-if2 : tie.Need-sub-if2
 sub-if2 c = search needs
 
 returns-2 : tie.Need-returns-2
-returns-2 c = let a = c .before .before .args in sym (List·getD-eq-default (a .s .now) 0 (omega (arith, c .before .if1 .left, c .if2 .taken)))
+returns-2 c =
+    let a = c .before .before .args in
+    sym (List·getD-eq-default (a .s .now) 0 (omega (arith, c .before .if1 .left, c .if2 .taken)))
 
 add-result : tie.Need-add-result
 add-result c = search needs
@@ -22,7 +24,9 @@ shared-slice-read-result : tie.Need-shared-slice-read-result
 shared-slice-read-result c = search needs
 
 cast-result : tie.Need-cast-result
-cast-result c = let a = c .before .before .before .args in record { fits = omega (arith, c .shared-slice-known .given (a .at + a .k) .fits) }
+cast-result c =
+    let a = c .before .before .before .args in
+    record { fits = omega (arith, c .shared-slice-known .given (a .at + a .k) .fits) }
 
 returns-3 : tie.Need-returns-3
 returns-3 c = search needs

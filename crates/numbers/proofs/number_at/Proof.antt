@@ -16,7 +16,8 @@ at-most-eight : (n : ℕ) → pick (leb n 8) n 8 ≤ 8
 at-most-eight n = by-bool (leb n 8) (λ y. simp y (omega (arith, leb-true n 8 y))) (λ y. simp y (omega arith))
 
 abbrev Inv-loop : tie.InvT-loop
-Inv-loop s at width n₀ left₀ n left = (left ≤ pick (leb width 8) width 8) × (n ≡ number (pick (leb width 8) width 8 - left) (at + left) s)
+Inv-loop s at width n₀ left₀ n left =
+    (left ≤ pick (leb width 8) width 8) × (n ≡ number (pick (leb width 8) width 8 - left) (at + left) s)
 
 abbrev μ-loop : tie.MeasureT-loop
 μ-loop s at width n₀ left₀ n left = left
@@ -32,7 +33,8 @@ below : (c : tie.After-byte-at Inv-loop μ-loop) → c .before .before .loop .n 
 below c =
     let l = c .before .before in
     let a = St c .args in
-    number-down-bound (pick (leb (a .width) 8) (a .width) 8) (a .at) (l .loop .left) (l .loop .n) 7 (a .s .now) (bytes c) (omega (arith, c .before .loop-test .taken, at-most-eight (a .width))) (l .loop .inv .1)
+    number-down-bound (pick (leb (a .width) 8) (a .width) 8) (a .at) (l .loop .left) (l .loop .n) 7 (a .s .now)
+    (bytes c) (omega (arith, c .before .loop-test .taken, at-most-eight (a .width))) (l .loop .inv .1)
 
 byte : (c : tie.After-byte-at Inv-loop μ-loop) → c .byte-at .result < 256
 byte c = let a = St c .args in omega (arith, c .byte-at .ensures, bytes c (a .at + (c .before .before .loop .left - 1)))
@@ -43,8 +45,13 @@ lesser-requires c κs = search needs
 loop-holds : tie.Need-loop-holds Inv-loop μ-loop
 unfolding number
 loop-holds c =
-    let a = c .before .before .args in
-    (omega (arith, c .lesser .ensures), sym (ap (λ (k : ℕ). number k (a .at + c .lesser .result) (a .s .now)) (ap (λ (k : ℕ). pick (leb (a .width) 8) (a .width) 8 - k) (c .lesser .ensures) ∙ sub-self (pick (leb (a .width) 8) (a .width) 8))))
+    let a = c .before .before .args in (
+      omega (arith, c .lesser .ensures),
+      sym
+          (ap (λ (k : ℕ). number k (a .at + c .lesser .result) (a .s .now))
+          (ap (λ (k : ℕ). pick (leb (a .width) 8) (a .width) 8 - k) (c .lesser .ensures)
+          ∙ sub-self (pick (leb (a .width) 8) (a .width) 8))),
+    )
 
 sub-left : tie.Need-sub-left Inv-loop μ-loop
 sub-left c = search needs
@@ -64,8 +71,12 @@ loop-less c = search needs
 loop-again : tie.Need-loop-again Inv-loop μ-loop
 loop-again c =
     let l = c .before .before in
-    let a = St c .args in
-    (search needs, number-down (pick (leb (a .width) 8) (a .width) 8) (a .at) (l .loop .left) (l .loop .n) (c .byte-at .result) (a .s .now) (c .before .loop-test .taken) (l .loop .inv .0) (l .loop .inv .1) (c .byte-at .ensures))
+    let a = St c .args in (
+      search needs,
+      number-down (pick (leb (a .width) 8) (a .width) 8) (a .at) (l .loop .left) (l .loop .n)
+          (c .byte-at .result) (a .s .now) (c .before .loop-test .taken) (l .loop .inv .0) (l .loop .inv .1)
+          (c .byte-at .ensures),
+    )
 
 returns : tie.Need-returns Inv-loop μ-loop
 returns c = number-all _ _ (c .before .loop .left) (c .before .loop .n) _ (c .loop-test .left) (c .before .loop .inv .1)

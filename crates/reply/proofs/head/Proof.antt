@@ -13,7 +13,9 @@ from-byte-requires : tie.Need-from-byte-requires
 from-byte-requires c κs = search needs
 
 returns-2 : tie.Need-returns-2
-returns-2 c = head-is (c .before .before .before .before .args .contents .now) (c .before .before .if1 .left) (c .from-byte .ensures)
+returns-2 c =
+    head-is (c .before .before .before .before .args .contents .now) (c .before .before .if1 .left)
+    (c .from-byte .ensures)
 
 pub head-spec : {M : Type 1} → statement M
 head-spec = tie.close (tie.spec returns shared-slice-read-b from-byte-requires returns-2)

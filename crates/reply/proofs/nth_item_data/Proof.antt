@@ -11,7 +11,8 @@ found-part-requires : tie.Need-found-part-requires
 found-part-requires c κs = search needs
 
 returns : tie.Need-returns
-returns c = c .found-part .ensures ∙ ap (partOf (c .before .before .before .args .contents .now)) (c .before .nth-item .ensures)
+returns c =
+    c .found-part .ensures ∙ ap (partOf (c .before .before .before .args .contents .now)) (c .before .nth-item .ensures)
 
 pub nth-item-data-spec : {M : Type 1} → statement M
 nth-item-data-spec = tie.close (tie.spec nth-item-requires found-part-requires returns)

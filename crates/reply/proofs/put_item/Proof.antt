@@ -21,21 +21,31 @@ St k = k .before .before .before .before .before .before .before .before .before
 
 -- the output with the contents so far, the byte and the count
 abbrev stored : tie.After-slice-known2 → List ℕ
-stored k = set (set (k .before .before .copy .last .1 .0) (length (St k .args .prior .now)) (St k .args .byte)) (length (St k .args .prior .now) + 1) (length (St k .args .body .now))
+stored k =
+    set (set (k .before .before .copy .last .1 .0) (length (St k .args .prior .now)) (St k .args .byte))
+    (length (St k .args .prior .now) + 1) (length (St k .args .body .now))
 
 stored-length : (k : tie.After-slice-known2) → length (stored k) ≡ length (St k .args .out .now)
 stored-length k =
-    length-set (set (k .before .before .copy .last .1 .0) (length (St k .args .prior .now)) (St k .args .byte)) (length (St k .args .prior .now) + 1) (length (St k .args .body .now))
-    ∙ length-set (k .before .before .copy .last .1 .0) (length (St k .args .prior .now)) (St k .args .byte) ∙ k .before .before .copy .kept .1 .0
+    length-set (set (k .before .before .copy .last .1 .0) (length (St k .args .prior .now)) (St k .args .byte))
+    (length (St k .args .prior .now) + 1) (length (St k .args .body .now))
+    ∙ length-set (k .before .before .copy .last .1 .0) (length (St k .args .prior .now)) (St k .args .byte)
+    ∙ k .before .before .copy .kept .1 .0
 
-room : (k : tie.After-slice-known2) → length (St k .args .prior .now) + 2 + length (St k .args .body .now) ≤ length (stored k)
+room : (k : tie.After-slice-known2)
+    → length (St k .args .prior .now) + 2 + length (St k .args .body .now) ≤ length (stored k)
 room k = omega (arith, stored-length k, k .before .before .before .before .if4 .left)
 
 returns : tie.Need-returns
-returns c = let a = c .before .before .before .before .args in writes-refusal _ 7 (a .out .now) (item-count (a .prior .now) (a .byte) (a .body .now) (omega arith) (c .if1 .taken))
+returns c =
+    let a = c .before .before .before .before .args in
+    writes-refusal _ 7 (a .out .now) (item-count (a .prior .now) (a .byte) (a .body .now) (omega arith) (c .if1 .taken))
 
 returns-2 : tie.Need-returns-2
-returns-2 c = let a = c .before .before .before .before .before .args in writes-refusal _ 2 (a .out .now) (item-long (a .prior .now) (a .byte) (a .body .now) (omega arith) (c .before .if1 .left) (omega arith))
+returns-2 c =
+    let a = c .before .before .before .before .before .args in
+    writes-refusal _ 2 (a .out .now)
+    (item-long (a .prior .now) (a .byte) (a .body .now) (omega arith) (c .before .if1 .left) (omega arith))
 
 add-end : tie.Need-add-end
 add-end c = search needs
@@ -44,13 +54,18 @@ add-end-2 : tie.Need-add-end-2
 add-end-2 c = search needs
 
 returns-3 : tie.Need-returns-3
-returns-3 c = let a = c .before .before .before .before .before .before .args in writes-refusal _ 2 (a .out .now) (item-long (a .prior .now) (a .byte) (a .body .now) (omega arith) (c .before .before .if1 .left) (c .if3 .taken))
+returns-3 c =
+    let a = c .before .before .before .before .before .before .args in
+    writes-refusal _ 2 (a .out .now)
+    (item-long (a .prior .now) (a .byte) (a .body .now) (omega arith) (c .before .before .if1 .left) (c .if3 .taken))
 
 returns-4 : tie.Need-returns-4
 returns-4 c =
     let s = c .before .before .before .before .before .before .before in
     let a = s .args in
-    writes-no-room _ (whole s) (a .out .now) (item-fits (a .prior .now) (a .byte) (a .body .now) (omega arith) (c .before .before .before .if1 .left) (c .before .if3 .left)) (omega (arith, whole-length (a .prior .now) (a .byte) (a .body .now) (omega arith)))
+    writes-no-room _ (whole s) (a .out .now)
+    (item-fits (a .prior .now) (a .byte) (a .body .now) (omega arith) (c .before .before .before .if1 .left)
+    (c .before .if3 .left)) (omega (arith, whole-length (a .prior .now) (a .byte) (a .body .now) (omega arith)))
 
 copy-requires : tie.Need-copy-requires
 copy-requires c κs = search needs
@@ -83,13 +98,20 @@ copy-requires-2 : tie.Need-copy-requires-2
 copy-requires-2 c κs =
     let k = c .before in
     let at = length (St k .args .prior .now) + 2 in
-    omega (arith, room k, length-drop at (stored k), ap length (take-all (length (stored k) - at) (drop at (stored k)) (omega (arith, length-drop at (stored k)))))
+    omega (
+      arith,
+      room k,
+      length-drop at (stored k),
+      ap length
+          (take-all (length (stored k) - at) (drop at (stored k)) (omega (arith, length-drop at (stored k)))),
+    )
 
 same-length : tie.Need-same-length
 same-length c =
     let k = c .before .before .before .before in
     let at = length (St k .args .prior .now) + 2 in
-    same-len-mid at (length (stored k) - at) (stored k) (c .before .before .copy2 .last .1 .0) (c .before .before .copy2 .kept .1 .0) ∙ stored-length k
+    same-len-mid at (length (stored k) - at) (stored k) (c .before .before .copy2 .last .1 .0)
+    (c .before .before .copy2 .kept .1 .0) ∙ stored-length k
 
 returns-5 : tie.Need-returns-5
 returns-5 c =
@@ -98,8 +120,13 @@ returns-5 c =
     let e = k .before .before .before .before in
     let o = k .before .before .copy in
     let w = whole-length (a .prior .now) (a .byte) (a .body .now) (omega (arith, e)) in
-    let done = writes-done _ (whole (St k)) (a .out .now) _ (item-fits (a .prior .now) (a .byte) (a .body .now) (omega (arith, e)) (e .before .before .before .if1 .left) (e .before .if3 .left)) (omega (arith, e .if4 .left))
-    (put-written (a .prior .now) (a .body .now) (a .out .now) (o .last .1 .0) _ (a .byte) (e .if4 .left) (copied-first (a .prior .now) (a .out .now) _ (o .ensures .1)) (part-splice (stored k) (a .body .now) _ (length (a .prior .now) + 2) (room k) (c .before .before .copy2 .ensures .1))) in
+    let done = writes-done _ (whole (St k)) (a .out .now) _
+    (item-fits (a .prior .now) (a .byte) (a .body .now) (omega (arith, e)) (e .before .before .before .if1 .left)
+    (e .before .if3 .left)) (omega (arith, e .if4 .left))
+    (put-written (a .prior .now) (a .body .now) (a .out .now) (o .last .1 .0) _ (a .byte) (e .if4 .left)
+    (copied-first (a .prior .now) (a .out .now) _ (o .ensures .1))
+    (part-splice (stored k) (a .body .now) _ (length (a .prior .now) + 2) (room k)
+    (c .before .before .copy2 .ensures .1))) in
     (ap result (sym w) ∙ done .0, done .1)
 
 pub put-item-spec : {M : Type 1} → statement M

@@ -18,7 +18,9 @@ returns : tie.Need-returns
 returns c = items-unsound _ _ _ _ (sym (c .before .before .count .ensures) ∙ ap countedMeans (c .enum-told .given .1))
 
 returns-2 : tie.Need-returns-2
-returns-2 c = items-counted _ _ _ _ _ (sym (c .before .before .before .count .ensures) ∙ ap countedMeans (c .before .all .given .1))
+returns-2 c =
+    items-counted _ _ _ _ _ (sym (c .before .before .before .count .ensures)
+    ∙ ap countedMeans (c .before .all .given .1))
 
 pub read-items-spec : {M : Type 1} → statement M
 read-items-spec = tie.close (tie.spec count-requires enum-told enum-known-all returns returns-2)

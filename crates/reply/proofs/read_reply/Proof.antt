@@ -22,12 +22,15 @@ returns : tie.Need-returns
 returns c =
     let k = c .before in
     let s = k .before .before .before .before .before .args .contents .now in
-    c .read-items .ensures ∙ sym (ap replyAnswer (head-status s (ReadStatus (k .before .first .given .0 .0)) (k .before .before .before .head .ensures) (k .before .first .given .1)))
+    c .read-items .ensures ∙ sym
+    (ap replyAnswer (head-status s (ReadStatus (k .before .first .given .0 .0))
+    (k .before .before .before .head .ensures) (k .before .first .given .1)))
 
 returns-2 : tie.Need-returns-2
 returns-2 c =
     let s = c .before .before .before .before .before .args .contents .now in
-    read-refused s _ (head-status s (Refused (c .before .first2 .given .0 .0)) (c .before .before .before .head .ensures) (c .before .first2 .given .1))
+    read-refused s _ (head-status s (Refused (c .before .first2 .given .0 .0))
+    (c .before .before .before .head .ensures) (c .before .first2 .given .1))
 
 pub read-reply-spec : {M : Type 1} → statement M
 read-reply-spec =

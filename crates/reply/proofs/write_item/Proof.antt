@@ -27,11 +27,20 @@ returns : tie.Need-returns
 returns c =
     let p = c .before .before in
     let a = c .before .before .before .before .before .before .before .before .before .before .args in
-    let e = prior-sound (a .prior .now) (a .byte) (a .body .now) _ _ _ _ (sym (ap replyMeans (p .before .before .enum-told .given .1)) ∙ p .before .before .before .before .read-reply .ensures) in
-    (p .put-item .ensures .0 ∙ ap (λ (d : Draft). draftAnswer d (length (a .out .now))) e, p .put-item .ensures .1 ∙ ap (λ (d : Draft). draftOut d (a .out .now)) e)
+    let e = prior-sound (a .prior .now) (a .byte) (a .body .now) _ _ _ _
+    (sym (ap replyMeans (p .before .before .enum-told .given .1))
+    ∙ p .before .before .before .before .read-reply .ensures) in (
+      p .put-item .ensures .0 ∙ ap (λ (d : Draft). draftAnswer d (length (a .out .now))) e,
+      p .put-item .ensures .1
+          ∙ ap (λ (d : Draft). draftOut d (a .out .now)) e,
+    )
 
 returns-2 : tie.Need-returns-2
-returns-2 c = let a = c .before .before .before .before .before .before .before .args in writes-refusal _ _ (a .out .now) (prior-refused (a .prior .now) (a .byte) (a .body .now) _ (sym (ap replyMeans (c .before .read .given .1)) ∙ c .before .before .before .read-reply .ensures))
+returns-2 c =
+    let a = c .before .before .before .before .before .before .before .args in
+    writes-refusal _ _ (a .out .now)
+    (prior-refused (a .prior .now) (a .byte) (a .body .now) _
+    (sym (ap replyMeans (c .before .read .given .1)) ∙ c .before .before .before .read-reply .ensures))
 
 pub write-item-spec : {M : Type 1} → statement M
 write-item-spec =

@@ -15,7 +15,12 @@ enum-told : tie.Need-enum-told
 enum-told c = search needs
 
 returns : tie.Need-returns
-returns c = let a = c .before .before .before .before .before .args in writes-no-room _ (a .byte ∷ []) (a .out .now) (status-sound (a .byte) _ _ _ (sym (ap statusMeans (c .before .enum-told .given .1)) ∙ c .before .before .before .from-byte .ensures)) (c .if1 .taken)
+returns c =
+    let a = c .before .before .before .before .before .args in
+    writes-no-room _ (a .byte ∷ []) (a .out .now)
+    (status-sound (a .byte) _ _ _
+    (sym (ap statusMeans (c .before .enum-told .given .1)) ∙ c .before .before .before .from-byte .ensures))
+    (c .if1 .taken)
 
 slice-write-out : tie.Need-slice-write-out
 slice-write-out c = search needs
@@ -27,10 +32,19 @@ same-length : tie.Need-same-length
 same-length c = search needs
 
 returns-2 : tie.Need-returns-2
-returns-2 c = let a = c .before .before .before .before .before .args in writes-done _ (a .byte ∷ []) (a .out .now) _ (status-sound (a .byte) _ _ _ (sym (ap statusMeans (c .before .enum-told .given .1)) ∙ c .before .before .before .from-byte .ensures)) (c .if1 .left) (set-splice (a .out .now) 0 (a .byte) (c .if1 .left))
+returns-2 c =
+    let a = c .before .before .before .before .before .args in
+    writes-done _ (a .byte ∷ []) (a .out .now) _
+    (status-sound (a .byte) _ _ _
+    (sym (ap statusMeans (c .before .enum-told .given .1)) ∙ c .before .before .before .from-byte .ensures))
+    (c .if1 .left) (set-splice (a .out .now) 0 (a .byte) (c .if1 .left))
 
 returns-3 : tie.Need-returns-3
-returns-3 c = let a = c .before .before .before .before .before .args in writes-refusal _ _ (a .out .now) (status-refused (a .byte) _ (sym (ap statusMeans (c .before .read .given .1)) ∙ c .before .before .before .from-byte .ensures))
+returns-3 c =
+    let a = c .before .before .before .before .before .args in
+    writes-refusal _ _ (a .out .now)
+    (status-refused (a .byte) _
+    (sym (ap statusMeans (c .before .read .given .1)) ∙ c .before .before .before .from-byte .ensures))
 
 pub write-status-spec : {M : Type 1} → statement M
 write-status-spec =

@@ -25,11 +25,17 @@ lay-out-requires-2 c κs = search needs
 
 returns : tie.Need-returns
 unfolding workoutBytes
-returns c = rw (c .before .distance-bytes .ensures) at (c .lay-out .ensures) ∙ by-goal workoutBytes (c .before .before .before .before .before .args .workout) (c .before .before .before .goal .given .1)
+returns c =
+    rw (c .before .distance-bytes .ensures) at (c .lay-out .ensures)
+    ∙ by-goal workoutBytes (c .before .before .before .before .before .args .workout)
+    (c .before .before .before .goal .given .1)
 
 returns-2 : tie.Need-returns-2
 unfolding workoutBytes
-returns-2 c = rw (c .before .time-bytes .ensures) at (c .lay-out2 .ensures) ∙ by-goal workoutBytes (c .before .before .before .before .before .args .workout) (c .before .before .before .goal2 .given .1)
+returns-2 c =
+    rw (c .before .time-bytes .ensures) at (c .lay-out2 .ensures)
+    ∙ by-goal workoutBytes (c .before .before .before .before .before .args .workout)
+    (c .before .before .before .goal2 .given .1)
 
 pub contents-of-spec : {M : Type 1} → statement M
 contents-of-spec =

@@ -16,7 +16,9 @@ limited-requires c κs = search needs
 
 returns : tie.Need-returns
 unfolding distanceRead
-returns c = simp (eq-eqb _ _ (c .before .before .if1 .taken)) (c .limited .ensures ∙ ap (limitedRead _) (c .before .distance .ensures))
+returns c =
+    simp (eq-eqb _ _ (c .before .before .if1 .taken))
+    (c .limited .ensures ∙ ap (limitedRead _) (c .before .distance .ensures))
 
 distance-requires-2 : tie.Need-distance-requires-2
 distance-requires-2 c κs = search needs
@@ -26,7 +28,9 @@ limited-requires-2 c κs = search needs
 
 returns-2 : tie.Need-returns-2
 unfolding distanceRead
-returns-2 c = simp (ne-eqb _ _ (c .before .before .before .if1 .left), eq-eqb _ _ (c .before .before .if2 .taken)) (c .limited2 .ensures ∙ ap (limitedRead _) (c .before .distance2 .ensures))
+returns-2 c =
+    simp (ne-eqb _ _ (c .before .before .before .if1 .left), eq-eqb _ _ (c .before .before .if2 .taken))
+    (c .limited2 .ensures ∙ ap (limitedRead _) (c .before .distance2 .ensures))
 
 returns-3 : tie.Need-returns-3
 unfolding distanceRead

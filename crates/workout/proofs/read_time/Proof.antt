@@ -28,8 +28,13 @@ returns-3 : tie.Need-returns-3
 unfolding timeRead
 returns-3 c =
     let a = c .before .before .before .before .before .before .before .args in
-    simp (le-leb _ _ (c .before .before .before .before .before .if1 .left), le-leb _ _ (c .before .before .before .if2 .left))
-    (c .limited .ensures ∙ ap (limitedRead (limitsOf (a .limits))) (c .before .time .ensures ∙ ap (λ (n : ℕ). time n (a .split) (a .watts)) (c .before .before .seconds-in .ensures)))
+    simp (
+      le-leb _ _ (c .before .before .before .before .before .if1 .left),
+      le-leb _ _
+          (c .before .before .before .if2 .left),
+    )
+    (c .limited .ensures ∙ ap (limitedRead (limitsOf (a .limits)))
+    (c .before .time .ensures ∙ ap (λ (n : ℕ). time n (a .split) (a .watts)) (c .before .before .seconds-in .ensures)))
 
 pub read-time-spec : {M : Type 1} → statement M
 read-time-spec =

@@ -31,10 +31,14 @@ laid : (s : tie.After-same) → laidOut (St (Kk (Nn s)) .args .contents .now) �
 laid s =
     let n = Nn s in
     let k = Kk n in
-    laid-out-same (St k .args .contents .now) (k .kind-of .ensures) (n .before .number-at .ensures) (n .number-at2 .ensures) (bytes k) (k .before .before .if1 .left) (s .before .before .lay-out .ensures) (s .same .ensures)
+    laid-out-same (St k .args .contents .now) (k .kind-of .ensures) (n .before .number-at .ensures)
+    (n .number-at2 .ensures) (bytes k) (k .before .before .if1 .left) (s .before .before .lay-out .ensures)
+    (s .same .ensures)
 
 returns : tie.Need-returns
-returns c = let a = c .before .before .args in sym (read-formless (limitsOf (a .limits)) (a .contents .now) (not-long (a .contents .now) (c .if1 .taken)))
+returns c =
+    let a = c .before .before .args in
+    sym (read-formless (limitsOf (a .limits)) (a .contents .now) (not-long (a .contents .now) (c .if1 .taken)))
 
 shared-slice-read-kind-of : tie.Need-shared-slice-read-kind-of
 shared-slice-read-kind-of c = search needs
@@ -55,13 +59,21 @@ number-at-requires : tie.Need-number-at-requires
 number-at-requires c κs = search needs
 
 cast-split : tie.Need-cast-split
-cast-split c = let k = Ks c in record { fits = omega (arith, c .number-at .ensures, number-bound 4 10 (St k .args .contents .now) (bytes k)) }
+cast-split c =
+    let k = Ks c in record {
+      fits = omega
+          (arith, c .number-at .ensures, number-bound 4 10 (St k .args .contents .now) (bytes k));
+    }
 
 number-at-requires-2 : tie.Need-number-at-requires-2
 number-at-requires-2 c κs = search needs
 
 cast-watts : tie.Need-cast-watts
-cast-watts c = let k = Kk c in record { fits = omega (arith, c .number-at2 .ensures, number-bound 2 16 (St k .args .contents .now) (bytes k)) }
+cast-watts c =
+    let k = Kk c in record {
+      fits = omega
+          (arith, c .number-at2 .ensures, number-bound 2 16 (St k .args .contents .now) (bytes k));
+    }
 
 lay-out-requires : tie.Need-lay-out-requires
 lay-out-requires c κs = search needs
@@ -85,7 +97,9 @@ number-at-requires-3 c κs = search needs
 
 -- a distance of two bytes
 amount : (c : tie.After-number-at3) → c .number-at3 .result < 65536
-amount c = let k = Kk (Nn (c .before .before .before .before)) in omega (arith, c .number-at3 .ensures, number-bound 2 2 (St k .args .contents .now) (bytes k))
+amount c =
+    let k = Kk (Nn (c .before .before .before .before)) in
+    omega (arith, c .number-at3 .ensures, number-bound 2 2 (St k .args .contents .now) (bytes k))
 
 cast-amount : tie.Need-cast-amount
 cast-amount c = record { fits = omega (arith, amount c) }
@@ -106,7 +120,9 @@ returns-3 c =
     let k = Kk n in
     let a = St k .args in
     c .read-distance .ensures
-    ∙ read-distance-is (a .contents .now) (k .kind-of .ensures) (n .before .number-at .ensures) (n .number-at2 .ensures) (limitsOf (a .limits)) (laid s ∙ not-false _ (c .before .before .before .before .if2 .left)) (c .before .before .enum-told .given .1) (c .before .number-at3 .ensures)
+    ∙ read-distance-is (a .contents .now) (k .kind-of .ensures) (n .before .number-at .ensures) (n .number-at2 .ensures)
+    (limitsOf (a .limits)) (laid s ∙ not-false _ (c .before .before .before .before .if2 .left))
+    (c .before .before .enum-told .given .1) (c .before .number-at3 .ensures)
 
 returns-4 : tie.Need-returns-4
 returns-4 c =
@@ -115,7 +131,9 @@ returns-4 c =
     let k = Kk n in
     let a = St k .args in
     c .read-time .ensures
-    ∙ read-time-is (a .contents .now) (k .kind-of .ensures) (n .before .number-at .ensures) (n .number-at2 .ensures) (limitsOf (a .limits)) (laid s ∙ not-false _ (c .before .before .before .if2 .left)) (c .before .enum-told2 .given .1)
+    ∙ read-time-is (a .contents .now) (k .kind-of .ensures) (n .before .number-at .ensures) (n .number-at2 .ensures)
+    (limitsOf (a .limits)) (laid s ∙ not-false _ (c .before .before .before .if2 .left))
+    (c .before .enum-told2 .given .1)
 
 pub read-within-spec : {M : Type 1} → statement M
 read-within-spec =

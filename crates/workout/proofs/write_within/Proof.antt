@@ -13,13 +13,20 @@ within-limits-requires : tie.Need-within-limits-requires
 within-limits-requires c κs = search needs
 
 returns : tie.Need-returns
-returns c = let a = c .before .before .before .args in writes-refusal _ 12 (a .out .now) (draft-outside (limitsOf (a .limits)) (programmed (a .workout)) (sym (c .before .within-limits .ensures) ∙ not-true _ (c .if1 .taken)))
+returns c =
+    let a = c .before .before .before .args in
+    writes-refusal _ 12 (a .out .now)
+    (draft-outside (limitsOf (a .limits)) (programmed (a .workout))
+    (sym (c .before .within-limits .ensures) ∙ not-true _ (c .if1 .taken)))
 
 returns-2 : tie.Need-returns-2
 returns-2 c =
     let a = c .before .before .before .before .args in
     let w = programmed (a .workout) in
-    writes-no-room _ (workoutBytes w) (a .out .now) (draft-inside (limitsOf (a .limits)) w (sym (c .before .before .within-limits .ensures) ∙ not-false _ (c .before .if1 .left))) (omega (arith, c .if2 .taken, contents-length w))
+    writes-no-room _ (workoutBytes w) (a .out .now)
+    (draft-inside (limitsOf (a .limits)) w
+    (sym (c .before .before .within-limits .ensures) ∙ not-false _ (c .before .if1 .left)))
+    (omega (arith, c .if2 .taken, contents-length w))
 
 contents-of-requires : tie.Need-contents-of-requires
 contents-of-requires c κs = search needs
@@ -36,7 +43,11 @@ same-length c = search needs
 returns-3 : tie.Need-returns-3
 returns-3 c =
     let a = c .before .before .before .before .before .before .before .before .before .before .args in
-    write-done (limitsOf (a .limits)) (programmed (a .workout)) (a .out .now) (sym (c .before .before .before .before .before .before .before .before .within-limits .ensures) ∙ not-false _ (c .before .before .before .before .before .before .before .if1 .left)) (c .before .before .before .before .before .before .if2 .left) (c .before .before .before .before .before .contents-of .ensures) (c .before .before .copy .ensures .1)
+    write-done (limitsOf (a .limits)) (programmed (a .workout)) (a .out .now)
+    (sym (c .before .before .before .before .before .before .before .before .within-limits .ensures)
+    ∙ not-false _ (c .before .before .before .before .before .before .before .if1 .left))
+    (c .before .before .before .before .before .before .if2 .left)
+    (c .before .before .before .before .before .contents-of .ensures) (c .before .before .copy .ensures .1)
 
 pub write-within-spec : {M : Type 1} → statement M
 write-within-spec =

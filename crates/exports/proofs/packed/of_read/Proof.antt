@@ -11,7 +11,12 @@ enum-known-read : tie.Need-enum-known-read
 enum-known-read c = search needs
 
 cast-result : tie.Need-cast-result
-cast-result c = omega (arith, subst (λ (o : Read). ReadShort (readMeans o)) (c .before .read .given .1) (c .before .before .before .pre))
+cast-result c =
+    omega (
+      arith,
+      subst (λ (o : Read). ReadShort (readMeans o)) (c .before .read .given .1)
+          (c .before .before .before .pre),
+    )
 
 result-requires : tie.Need-result-requires
 result-requires c κs = search needs
@@ -20,7 +25,12 @@ enum-known-read-2 : tie.Need-enum-known-read-2
 enum-known-read-2 c = search needs
 
 cast-result-2 : tie.Need-cast-result-2
-cast-result-2 c = omega (arith, subst (λ (o : Read). ReadShort (readMeans o)) (c .before .read2 .given .1) (c .before .before .before .pre))
+cast-result-2 c =
+    omega (
+      arith,
+      subst (λ (o : Read). ReadShort (readMeans o)) (c .before .read2 .given .1)
+          (c .before .before .before .pre),
+    )
 
 result-requires-2 : tie.Need-result-requires-2
 result-requires-2 c κs = search needs

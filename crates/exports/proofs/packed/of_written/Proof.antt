@@ -11,7 +11,9 @@ enum-known-w : tie.Need-enum-known-w
 enum-known-w c = search needs
 
 cast-result : tie.Need-cast-result
-cast-result c = let s = c .before .before .before in omega (arith, subst (λ (o : Written). WriteShort (writtenMeans o)) (c .before .w .given .1) (s .pre))
+cast-result c =
+    let s = c .before .before .before in
+    omega (arith, subst (λ (o : Written). WriteShort (writtenMeans o)) (c .before .w .given .1) (s .pre))
 
 result-requires : tie.Need-result-requires
 result-requires c κs = search needs

@@ -46,7 +46,10 @@ add-result c = search needs
 
 returns : tie.Need-returns
 unfolding packed
-returns c = let f = c .before .before .before .before .before .args .f in tells (record { number = f .number; kind = f .kind; to = f .to; from = f .from; len = f .len }) (record { number = omega arith; kind = omega arith; to = omega arith; from = omega arith; len = omega arith })
+returns c =
+    let f = c .before .before .before .before .before .args .f in
+    tells (record { number = f .number; kind = f .kind; to = f .to; from = f .from; len = f .len })
+    (record { number = omega arith; kind = omega arith; to = omega arith; from = omega arith; len = omega arith })
 
 pub pack-spec : {M : Type 1} → statement M
 pack-spec =

@@ -35,8 +35,13 @@ loop-less c = search needs
 loop-again : tie.Need-loop-again Inv-loop μ-loop
 loop-again c =
     let l = c .before .before in
-    let a = l .before .args in
-    (search needs, length-set (l .loop .out) (a .at + l .loop .i) _ ∙ l .loop .inv .1, paste-more (a .out .now) (a .at) (a .s .now) (l .loop .out) (l .loop .i) (l .loop .inv .2) (l .before .pre) (c .before .loop-test .taken))
+    let a = l .before .args in (
+      search needs,
+      length-set (l .loop .out) (a .at + l .loop .i) _
+          ∙ l .loop .inv .1,
+      paste-more (a .out .now) (a .at) (a .s .now) (l .loop .out) (l .loop .i) (l .loop .inv .2)
+          (l .before .pre) (c .before .loop-test .taken),
+    )
 
 same-length : tie.Need-same-length Inv-loop μ-loop
 same-length c = c .before .loop .inv .1
@@ -45,7 +50,8 @@ returns : tie.Need-returns Inv-loop μ-loop
 returns c =
     let l = c .before in
     let a = l .before .args in
-    paste-all (a .out .now) (a .at) (a .s .now) (l .loop .out) (l .loop .i) (l .loop .inv .2) (l .loop .inv .0) (c .loop-test .left)
+    paste-all (a .out .now) (a .at) (a .s .now) (l .loop .out) (l .loop .i) (l .loop .inv .2) (l .loop .inv .0)
+    (c .loop-test .left)
 
 pub copy-spec : {M : Type 1} → statement M
 copy-spec =

@@ -10,7 +10,8 @@ use Rattle.frame.proofs.bytes.count_within.Statement.{statement}
 use Rattle.frame.proofs.bytes.count_within.Tie as tie
 
 abbrev Inv-loop : tie.InvT-loop
-Inv-loop s low high count₀ i₀ count i = (i ≤ length s) × (count + countOf (within low high) (drop i s) ≡ countOf (within low high) s)
+Inv-loop s low high count₀ i₀ count i =
+    (i ≤ length s) × (count + countOf (within low high) (drop i s) ≡ countOf (within low high) s)
 
 abbrev μ-loop : tie.MeasureT-loop
 μ-loop s low high count₀ i₀ count i = length s - i
@@ -28,7 +29,15 @@ add-count : tie.Need-add-count Inv-loop μ-loop
 add-count c =
     let l = c .before .before .before in
     let a = l .before .before .args in
-    omega (arith, l .loop .inv .1, l .before .before .pre, count-most (within (a .low) (a .high)) (a .s .now), count-at (within (a .low) (a .high)) (a .s .now) (l .loop .i) (c .before .before .loop-test .taken), c .mark .ensures)
+    omega (
+      arith,
+      l .loop .inv .1,
+      l .before .before .pre,
+      count-most (within (a .low) (a .high)) (a .s .now),
+      count-at
+          (within (a .low) (a .high)) (a .s .now) (l .loop .i) (c .before .before .loop-test .taken),
+      c .mark .ensures,
+    )
 
 add-i : tie.Need-add-i Inv-loop μ-loop
 add-i c = search needs
@@ -39,8 +48,16 @@ loop-less c = search needs
 loop-again : tie.Need-loop-again Inv-loop μ-loop
 loop-again c =
     let l = c .before .before .before in
-    let a = l .before .before .args in
-    (search needs, omega (arith, l .loop .inv .1, count-at (within (a .low) (a .high)) (a .s .now) (l .loop .i) (c .before .before .loop-test .taken), c .mark .ensures))
+    let a = l .before .before .args in (
+      search needs,
+      omega (
+        arith,
+        l .loop .inv .1,
+        count-at (within (a .low) (a .high)) (a .s .now) (l .loop .i)
+            (c .before .before .loop-test .taken),
+        c .mark .ensures,
+      ),
+    )
 
 returns : tie.Need-returns Inv-loop μ-loop
 returns c =

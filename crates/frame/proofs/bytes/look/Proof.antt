@@ -12,7 +12,8 @@ use Rattle.frame.proofs.bytes.look.Statement.{statement}
 use Rattle.frame.proofs.bytes.look.Tie as tie
 
 abbrev Inv-loop : tie.InvT-loop
-Inv-loop s low high seen₀ sum₀ i₀ seen sum i = (i ≤ length s) × (seen ≡ pick (noneOf (within low high) (take i s)) 0 1) × (sumFrom sum (drop i s) ≡ sumFrom 0 s)
+Inv-loop s low high seen₀ sum₀ i₀ seen sum i =
+    (i ≤ length s) × (seen ≡ pick (noneOf (within low high) (take i s)) 0 1) × (sumFrom sum (drop i s) ≡ sumFrom 0 s)
 
 abbrev μ-loop : tie.MeasureT-loop
 μ-loop s low high seen₀ sum₀ i₀ seen sum i = length s - i
@@ -40,14 +41,19 @@ loop-again : tie.Need-loop-again Inv-loop μ-loop
 loop-again c =
     let l = c .before .before .before .before in
     let a = l .before .before .args in
-    let h = c .before .before .before .loop-test .taken in
-    (search needs, mark-more (within (a .low) (a .high)) _ _ _ _ h (l .loop .inv .1) (c .before .mark .ensures), sym (sumFrom-at _ _ _ h) ∙ l .loop .inv .2)
+    let h = c .before .before .before .loop-test .taken in (
+      search needs,
+      mark-more (within (a .low) (a .high)) _ _ _ _ h (l .loop .inv .1) (c .before .mark .ensures),
+      sym
+          (sumFrom-at _ _ _ h) ∙ l .loop .inv .2,
+    )
 
 returns : tie.Need-returns Inv-loop μ-loop
 returns c =
     let l = c .before in
     let a = l .before .before .args in (
-      ap (λ (n : ℕ). eqb n 0) (l .loop .inv .1) ∙ mark-all (noneOf (within (a .low) (a .high)) (take (l .loop .i) (a .s .now)))
+      ap (λ (n : ℕ). eqb n 0) (l .loop .inv .1)
+          ∙ mark-all (noneOf (within (a .low) (a .high)) (take (l .loop .i) (a .s .now)))
           ∙ ap (noneOf (within (a .low) (a .high))) (take-all (l .loop .i) (a .s .now) (c .loop-test .left)),
       sym (sumFrom-end _ _ _ (c .loop-test .left)) ∙ l .loop .inv .2,
     )

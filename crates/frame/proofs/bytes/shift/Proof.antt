@@ -15,11 +15,16 @@ abbrev μ-loop : tie.MeasureT-loop
 μ-loop s₀ from count k₀ s k = count - k
 
 -- what is moved stands within the slice
-below : (l : tie.At-loop Inv-loop μ-loop) → l .loop .k < l .before .before .args .count → l .before .before .args .from + l .loop .k < length (l .before .before .args .s .now)
-below l h = omega (arith, l .before .before .pre, length-drop (l .before .before .args .from) (l .before .before .args .s .now))
+below : (l : tie.At-loop Inv-loop μ-loop) → l .loop .k < l .before .before .args .count
+    → l .before .before .args .from + l .loop .k < length (l .before .before .args .s .now)
+below l h =
+    omega (arith, l .before .before .pre, length-drop (l .before .before .args .from) (l .before .before .args .s .now))
 
 returns : tie.Need-returns Inv-loop μ-loop
-returns c = sym (ap (λ (n : ℕ). take (c .before .args .count) (drop n (c .before .args .s .now)) ++ drop (c .before .args .count) (c .before .args .s .now)) (c .if1 .taken) ∙ take-append-drop (c .before .args .count) (c .before .args .s .now))
+returns c =
+    sym (ap (λ (n : ℕ). take (c .before .args .count) (drop n (c .before .args .s .now))
+    ++ drop (c .before .args .count) (c .before .args .s .now)) (c .if1 .taken)
+    ∙ take-append-drop (c .before .args .count) (c .before .args .s .now))
 
 loop-holds : tie.Need-loop-holds Inv-loop μ-loop
 loop-holds c = (search needs, refl, refl)
@@ -28,10 +33,12 @@ add-s : tie.Need-add-s Inv-loop μ-loop
 add-s c = let b = below (c .before) (c .loop-test .taken) in search needs
 
 slice-read-s : tie.Need-slice-read-s Inv-loop μ-loop
-slice-read-s c = let b = below (c .before .before) (c .before .loop-test .taken) in omega (arith, c .before .before .loop .inv .1)
+slice-read-s c =
+    let b = below (c .before .before) (c .before .loop-test .taken) in omega (arith, c .before .before .loop .inv .1)
 
 slice-write-s : tie.Need-slice-write-s Inv-loop μ-loop
-slice-write-s c = let b = below (c .before .before) (c .before .loop-test .taken) in omega (arith, c .before .before .loop .inv .1)
+slice-write-s c =
+    let b = below (c .before .before) (c .before .loop-test .taken) in omega (arith, c .before .before .loop .inv .1)
 
 add-k : tie.Need-add-k Inv-loop μ-loop
 add-k c = search needs
@@ -42,8 +49,13 @@ loop-less c = search needs
 loop-again : tie.Need-loop-again Inv-loop μ-loop
 loop-again c =
     let l = c .before .before in
-    let a = l .before .before .args in
-    (search needs, length-set (l .loop .s) (l .loop .k) _ ∙ l .loop .inv .1, shift-more (a .s .now) (l .loop .s) (a .from) (l .loop .k) (below l (c .before .loop-test .taken)) (l .loop .inv .2))
+    let a = l .before .before .args in (
+      search needs,
+      length-set (l .loop .s) (l .loop .k) _
+          ∙ l .loop .inv .1,
+      shift-more (a .s .now) (l .loop .s) (a .from) (l .loop .k)
+          (below l (c .before .loop-test .taken)) (l .loop .inv .2),
+    )
 
 same-length : tie.Need-same-length Inv-loop μ-loop
 same-length c = search needs

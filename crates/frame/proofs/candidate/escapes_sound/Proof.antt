@@ -39,15 +39,20 @@ loop-less c = search needs
 
 loop-again : tie.Need-loop-again Inv-loop μ-loop
 loop-again c =
-    let l = c .before .before .before .before in
-    (search needs, l .loop .inv .1, paired-more _ _ _ _ (omega (arith, l .loop .inv .1)) (c .unsound .ensures) (l .loop .inv .2))
+    let l = c .before .before .before .before in (
+      search needs,
+      l .loop .inv .1,
+      paired-more _ _ _ _ (omega (arith, l .loop .inv .1)) (c .unsound .ensures)
+          (l .loop .inv .2),
+    )
 
 returns : tie.Need-returns Inv-loop μ-loop
 returns c =
     let l = c .before in
     let s = l .before .before .args .s .now in
     let at : length s - 1 ≡ l .loop .i = omega (arith, l .loop .inv .0, l .loop .inv .1) in
-    paired-all s _ (l .loop .i) (omega (arith, l .loop .inv .0, l .loop .inv .1)) (λ q. l .before .before .pre .1 (ap (λ (k : ℕ). getD s k 0) at ∙ q)) (l .loop .inv .2)
+    paired-all s _ (l .loop .i) (omega (arith, l .loop .inv .0, l .loop .inv .1))
+    (λ q. l .before .before .pre .1 (ap (λ (k : ℕ). getD s k 0) at ∙ q)) (l .loop .inv .2)
 
 pub escapes-sound-spec : {M : Type 1} → statement M
 escapes-sound-spec =

@@ -12,13 +12,17 @@ use Rattle.frame.proofs.candidate.examine.Tie as tie
 abbrev St : tie.After-addresses-in → tie.Start
 St f = f .before .before .before
 
-found : (f : tie.After-addresses-in) (x : Addresses) → f .addresses-in .result ≡ x → AddressesIn (St f .args .kind) (St f .args .body .now) x
-found f x e = subst (λ (y : Addresses). AddressesIn (St f .args .kind) (St f .args .body .now) y) e (f .addresses-in .ensures)
+found : (f : tie.After-addresses-in) (x : Addresses) → f .addresses-in .result ≡ x
+    → AddressesIn (St f .args .kind) (St f .args .body .now) x
+found f x e =
+    subst (λ (y : Addresses). AddressesIn (St f .args .kind) (St f .args .body .now) y) e (f .addresses-in .ensures)
 
 abbrev F : tie.After-known-told → tie.After-addresses-in
 F k = k .before .before .before
 
-at : (k : tie.After-known-told) → AddressesIn (St (F k) .args .kind) (St (F k) .args .body .now) (Found (k .before .found .given .0 .0) (k .before .found .given .0 .1 .0))
+at : (k : tie.After-known-told)
+    → AddressesIn (St (F k) .args .kind) (St (F k) .args .body .now)
+    (Found (k .before .found .given .0 .0) (k .before .found .given .0 .1 .0))
 at k = found (F k) _ (k .before .found .given .1)
 
 returns : tie.Need-returns
@@ -40,7 +44,8 @@ examine-rest-requires : tie.Need-examine-rest-requires
 examine-rest-requires c κs = (F c .before .if1 .left, (at c .0, refl, at c .2))
 
 returns-2 : tie.Need-returns-2
-returns-2 c = let f = c .before .before in judge-escape _ _ (f .before .if1 .left) (found f Broken (c .enum-told .given .1))
+returns-2 c =
+    let f = c .before .before in judge-escape _ _ (f .before .if1 .left) (found f Broken (c .enum-told .given .1))
 
 returns-3 : tie.Need-returns-3
 returns-3 c =
@@ -51,7 +56,8 @@ returns-3 c =
 returns-4 : tie.Need-returns-4
 returns-4 c =
     let k = c .before in
-    subst (λ (x : Kind). Examines x (St (F k) .args .body .now) (c .examine-rest .result)) (at k .1) (c .examine-rest .ensures)
+    subst (λ (x : Kind). Examines x (St (F k) .args .body .now) (c .examine-rest .result)) (at k .1)
+    (c .examine-rest .ensures)
 
 pub examine-spec : {M : Type 1} → statement M
 examine-spec =

@@ -11,7 +11,10 @@ examine-requires : tie.Need-examine-requires
 examine-requires c κs = search needs
 
 returns : tie.Need-returns
-returns c = let a = c .before .before .before .before .args in whole-examined (a .kind) (a .body .now) (sym (c .before .before .none-within .ensures) ∙ c .before .if1 .taken) (c .examine .result) (c .examine .ensures)
+returns c =
+    let a = c .before .before .before .before .args in
+    whole-examined (a .kind) (a .body .now) (sym (c .before .before .none-within .ensures) ∙ c .before .if1 .taken)
+    (c .examine .result) (c .examine .ensures)
 
 returns-2 : tie.Need-returns-2
 returns-2 c = simp (sym (c .before .none-within .ensures) ∙ c .if1 .left)

@@ -17,7 +17,13 @@ returns-2 c = simp (le-leb _ _ (c .before .before .if1 .left), lt-leb _ _ (c .if
 
 returns-3 : tie.Need-returns-3
 unfolding isBounded
-returns-3 c = simp (le-leb _ _ (c .before .before .before .if1 .left), le-leb _ _ (c .before .if2 .left), lt-leb _ _ (c .if3 .taken))
+returns-3 c =
+    simp (
+      le-leb _ _ (c .before .before .before .if1 .left),
+      le-leb _ _ (c .before .if2 .left),
+      lt-leb _ _
+          (c .if3 .taken),
+    )
 
 sub-stop : tie.Need-sub-stop
 sub-stop c = search needs
@@ -27,11 +33,25 @@ shared-slice-read-stop c = search needs
 
 returns-4 : tie.Need-returns-4
 unfolding isBounded
-returns-4 c = simp (le-leb _ _ (c .before .before .before .before .before .if1 .left), le-leb _ _ (c .before .before .before .if2 .left), le-leb _ _ (c .before .before .if3 .left), ne-eqb _ _ (c .if4 .taken))
+returns-4 c =
+    simp (
+      le-leb _ _ (c .before .before .before .before .before .if1 .left),
+      le-leb _ _
+          (c .before .before .before .if2 .left),
+      le-leb _ _ (c .before .before .if3 .left),
+      ne-eqb _ _ (c .if4 .taken),
+    )
 
 returns-5 : tie.Need-returns-5
 unfolding isBounded
-returns-5 c = simp (le-leb _ _ (c .before .before .before .before .before .if1 .left), le-leb _ _ (c .before .before .before .if2 .left), le-leb _ _ (c .before .before .if3 .left), eq-eqb _ _ (c .if4 .left))
+returns-5 c =
+    simp (
+      le-leb _ _ (c .before .before .before .before .before .if1 .left),
+      le-leb _ _
+          (c .before .before .before .if2 .left),
+      le-leb _ _ (c .before .before .if3 .left),
+      eq-eqb _ _ (c .if4 .left),
+    )
 
 pub is-bounded-spec : {M : Type 1} → statement M
 is-bounded-spec =

@@ -33,7 +33,9 @@ sub-look : tie.Need-sub-look
 sub-look c = search needs
 
 slice-aggregate-look : tie.Need-slice-aggregate-look
-slice-aggregate-look c = let s = c .before .before .before .before .before .before .before .args .body .now in sym (length-take-le (length s - 1) s (omega arith))
+slice-aggregate-look c =
+    let s = c .before .before .before .before .before .before .before .args .body .now in
+    sym (length-take-le (length s - 1) s (omega arith))
 
 look-requires : tie.Need-look-requires
 look-requires c κs = search needs
@@ -47,7 +49,9 @@ returns-4 c =
     let some : 1 ≤ length body = omega (arith, e .before .if1 .left) in
     λ y. record {
       limit = e .if2 .left;
-      clear = none-last isStuffed body _ some refl (sym (l .look .ensures .0) ∙ y) (sym (t .before .is-stuffed .ensures) ∙ t .if3 .left);
+      clear =
+          none-last isStuffed body _ some refl (sym (l .look .ensures .0) ∙ y)
+          (sym (t .before .is-stuffed .ensures) ∙ t .if3 .left);
       summed = sum-last body _ _ some refl (l .look .ensures .1);
     }
 

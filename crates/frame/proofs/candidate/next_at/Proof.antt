@@ -23,7 +23,13 @@ add-if3 c = search needs
 
 returns-3 : tie.Need-returns-3
 unfolding nextAt
-returns-3 c = simp (lt-ltb _ _ (c .before .before .before .if1 .left), eq-eqb _ _ (c .before .if2 .left), le-ltb _ _ (c .if3 .taken))
+returns-3 c =
+    simp (
+      lt-ltb _ _ (c .before .before .before .if1 .left),
+      eq-eqb _ _ (c .before .if2 .left),
+      le-ltb _ _
+          (c .if3 .taken),
+    )
 
 add-e : tie.Need-add-e
 add-e c = search needs
@@ -33,7 +39,14 @@ shared-slice-read-e c = search needs
 
 returns-4 : tie.Need-returns-4
 unfolding nextAt
-returns-4 c = simp (lt-ltb _ _ (c .before .before .before .before .before .if1 .left), eq-eqb _ _ (c .before .before .before .if2 .left), lt-ltb _ _ (c .before .before .if3 .left), lt-leb _ _ (c .if4 .taken))
+returns-4 c =
+    simp (
+      lt-ltb _ _ (c .before .before .before .before .before .if1 .left),
+      eq-eqb _ _
+          (c .before .before .before .if2 .left),
+      lt-ltb _ _ (c .before .before .if3 .left),
+      lt-leb _ _ (c .if4 .taken),
+    )
 
 add-t8 : tie.Need-add-t8
 add-t8 c = search needs
@@ -43,7 +56,14 @@ add-t10 c = search needs
 
 returns-5 : tie.Need-returns-5
 unfolding nextAt
-returns-5 c = simp (lt-ltb _ _ (c .before .before .before .before .before .if1 .left), eq-eqb _ _ (c .before .before .before .if2 .left), lt-ltb _ _ (c .before .before .if3 .left), le-leb _ _ (c .if4 .left))
+returns-5 c =
+    simp (
+      lt-ltb _ _ (c .before .before .before .before .before .if1 .left),
+      eq-eqb _ _
+          (c .before .before .before .if2 .left),
+      lt-ltb _ _ (c .before .before .if3 .left),
+      le-leb _ _ (c .if4 .left),
+    )
 
 pub next-at-spec : {M : Type 1} → statement M
 next-at-spec =

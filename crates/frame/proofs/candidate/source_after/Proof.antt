@@ -23,8 +23,13 @@ enum-known-second c = search needs
 returns : tie.Need-returns
 unfolding afterNext prepend
 returns c =
-    let s = c .before .before .before .before in
-    (s .args .to ∷ [], s .pre ∙ ap (prepend (s .args .to)) (told _ _ _ (c .before .before .next-at .ensures) End (c .enum-told .given .1)), omega arith)
+    let s = c .before .before .before .before in (
+      s .args .to ∷ [],
+      s .pre
+          ∙ ap (prepend (s .args .to)) (told _ _ _ (c .before .before .next-at .ensures) End (c .enum-told .given .1)),
+      omega
+          arith,
+    )
 
 returns-2 : tie.Need-returns-2
 unfolding afterNext prepend

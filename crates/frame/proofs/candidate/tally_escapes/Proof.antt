@@ -14,7 +14,9 @@ use Rattle.frame.proofs.candidate.tally_escapes.Statement.{statement}
 use Rattle.frame.proofs.candidate.tally_escapes.Tie as tie
 
 abbrev Inv-loop : tie.InvT-loop
-Inv-loop s escapes₀ sum₀ i₀ escapes sum i = (i ≤ length s) × (escapes + countOf (within 0xF3 0xF3) (drop i s) ≡ countOf (within 0xF3 0xF3) s) × (sumFrom sum (lowered (drop i s)) ≡ sumFrom 0 (lowered s))
+Inv-loop s escapes₀ sum₀ i₀ escapes sum i =
+    (i ≤ length s) × (escapes + countOf (within 0xF3 0xF3) (drop i s) ≡ countOf (within 0xF3 0xF3) s)
+    × (sumFrom sum (lowered (drop i s)) ≡ sumFrom 0 (lowered s))
 
 abbrev μ-loop : tie.MeasureT-loop
 μ-loop s escapes₀ sum₀ i₀ escapes sum i = length s - i
@@ -32,7 +34,15 @@ add-escapes : tie.Need-add-escapes Inv-loop μ-loop
 add-escapes c =
     let l = c .before .before .before in
     let s = l .before .before .args .s .now in
-    omega (arith, l .loop .inv .1, l .before .before .pre, count-most (within 0xF3 0xF3) s, count-at (within 0xF3 0xF3) s (l .loop .i) (c .before .before .loop-test .taken), c .mark .ensures)
+    omega (
+      arith,
+      l .loop .inv .1,
+      l .before .before .pre,
+      count-most (within 0xF3 0xF3) s,
+      count-at
+          (within 0xF3 0xF3) s (l .loop .i) (c .before .before .loop-test .taken),
+      c .mark .ensures,
+    )
 
 shared-slice-read-lower : tie.Need-shared-slice-read-lower Inv-loop μ-loop
 shared-slice-read-lower c = search needs
@@ -53,14 +63,18 @@ loop-again c =
     let t = c .before .before .before .before .loop-test .taken in (
       search needs,
       omega (arith, l .loop .inv .1, count-at (within 0xF3 0xF3) s (l .loop .i) t, c .before .before .mark .ensures),
-      ap (λ (b : ℕ). sumFrom (bitXor (l .loop .sum) b) (lowered (drop (l .loop .i + 1) s))) (c .lower .ensures) ∙ sym (lowered-at _ _ _ t) ∙ l .loop .inv .2,
+      ap (λ (b : ℕ). sumFrom (bitXor (l .loop .sum) b) (lowered (drop (l .loop .i + 1) s))) (c .lower .ensures)
+          ∙ sym (lowered-at _ _ _ t) ∙ l .loop .inv .2,
     )
 
 returns : tie.Need-returns Inv-loop μ-loop
 returns c =
     let l = c .before in
-    let s = l .before .before .args .s .now in
-    (omega (arith, l .loop .inv .1, count-end (within 0xF3 0xF3) s (l .loop .i) (c .loop-test .left)), sym (lowered-end _ _ _ (c .loop-test .left)) ∙ l .loop .inv .2)
+    let s = l .before .before .args .s .now in (
+      omega (arith, l .loop .inv .1, count-end (within 0xF3 0xF3) s (l .loop .i) (c .loop-test .left)),
+      sym
+          (lowered-end _ _ _ (c .loop-test .left)) ∙ l .loop .inv .2,
+    )
 
 pub tally-escapes-spec : {M : Type 1} → statement M
 tally-escapes-spec =

@@ -20,15 +20,24 @@ enum-known-first c = search needs
 
 source-after-requires : tie.Need-source-after-requires
 unfolding afterNext
-source-after-requires c κs = told (c .before .before .before .before .before .args .body .now) 0 _ (c .before .before .before .next-at .ensures) _ (c .before .first .given .1)
+source-after-requires c κs =
+    told (c .before .before .before .before .before .args .body .now) 0 _
+    (c .before .before .before .next-at .ensures) _ (c .before .first .given .1)
 
 returns : tie.Need-returns
 unfolding afterNext
-returns c = ([], told (c .before .before .before .before .args .body .now) 0 _ (c .before .before .next-at .ensures) End (c .enum-told .given .1), omega arith)
+returns c = (
+  [],
+  told (c .before .before .before .before .args .body .now) 0 _ (c .before .before .next-at .ensures) End
+      (c .enum-told .given .1),
+  omega arith,
+)
 
 returns-2 : tie.Need-returns-2
 unfolding afterNext
-returns-2 c = told (c .before .before .before .before .args .body .now) 0 _ (c .before .before .next-at .ensures) Bad (c .enum-told2 .given .1)
+returns-2 c =
+    told (c .before .before .before .before .args .body .now) 0 _ (c .before .before .next-at .ensures) Bad
+    (c .enum-told2 .given .1)
 
 returns-3 : tie.Need-returns-3
 returns-3 c = search needs

@@ -8,11 +8,17 @@ use Rattle.frame.proofs.candidate.unit_at.Statement.{statement}
 use Rattle.frame.proofs.candidate.unit_at.Tie as tie
 
 -- an escape has a byte after it, which is 00 to 03
-second : (c : tie.After-shared-slice-known2) → c .before .before .before .args .at + 1 < length (c .before .before .before .args .s .now)
-second c = let s = c .before .before .before in next-second (s .args .s .now) (s .args .at) (s .pre .1) (next-here _ _ (s .pre .0)) (c .before .if1 .left)
+second : (c : tie.After-shared-slice-known2)
+    → c .before .before .before .args .at + 1 < length (c .before .before .before .args .s .now)
+second c =
+    let s = c .before .before .before in
+    next-second (s .args .s .now) (s .args .at) (s .pre .1) (next-here _ _ (s .pre .0)) (c .before .if1 .left)
 
-low : (c : tie.After-shared-slice-known2) → getD (c .before .before .before .args .s .now) (c .before .before .before .args .at + 1) 0 ≤ 3
-low c = let s = c .before .before .before in next-low (s .args .s .now) (s .args .at) (s .pre .1) (next-here _ _ (s .pre .0)) (c .before .if1 .left)
+low : (c : tie.After-shared-slice-known2)
+    → getD (c .before .before .before .args .s .now) (c .before .before .before .args .at + 1) 0 ≤ 3
+low c =
+    let s = c .before .before .before in
+    next-low (s .args .s .now) (s .args .at) (s .pre .1) (next-here _ _ (s .pre .0)) (c .before .if1 .left)
 
 shared-slice-read-b : tie.Need-shared-slice-read-b
 shared-slice-read-b c = next-here _ _ (c .before .pre .0)
@@ -42,7 +48,13 @@ returns-2 : tie.Need-returns-2
 unfolding nextAt
 returns-2 c =
     let s = c .before .before .before in
-    simp (lt-ltb _ _ (next-here (s .args .s .now) (s .args .at) (s .pre .0)), eq-eqb _ _ (c .before .if1 .left), lt-ltb _ _ (second c), le-leb _ _ (low c))
+    simp (
+      lt-ltb _ _ (next-here (s .args .s .now) (s .args .at) (s .pre .0)),
+      eq-eqb _ _
+          (c .before .if1 .left),
+      lt-ltb _ _ (second c),
+      le-leb _ _ (low c),
+    )
 
 pub unit-at-spec : {M : Type 1} → statement M
 unit-at-spec =

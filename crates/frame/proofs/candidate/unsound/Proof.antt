@@ -14,7 +14,9 @@ mark-requires-2 : tie.Need-mark-requires-2
 mark-requires-2 c κs = search needs
 
 returns : tie.Need-returns
-returns c = let a = c .before .before .args in pair-mark (a .b) (a .after) _ _ (omega arith) (c .before .mark .ensures) (c .mark2 .ensures)
+returns c =
+    let a = c .before .before .args in
+    pair-mark (a .b) (a .after) _ _ (omega arith) (c .before .mark .ensures) (c .mark2 .ensures)
 
 pub unsound-spec : {M : Type 1} → statement M
 unsound-spec = tie.close (tie.spec mark-requires add-mark mark-requires-2 returns)

@@ -31,13 +31,17 @@ loop-holds c = (search needs, (search needs, refl, refl, refl))
 unit-at-requires : tie.Need-unit-at-requires Inv-loop μ-loop
 unit-at-requires c κs =
     let l = c .before .before in
-    let m = more l (c .before .loop-test .taken) in
-    (front-end (l .before .before .args .s .now) _ _ _ _ (l .loop .inv .1) m _ refl, front-bad (l .before .before .args .s .now) _ _ _ _ (l .loop .inv .1) m _ refl)
+    let m = more l (c .before .loop-test .taken) in (
+      front-end (l .before .before .args .s .now) _ _ _ _ (l .loop .inv .1) m _ refl,
+      front-bad
+          (l .before .before .args .s .now) _ _ _ _ (l .loop .inv .1) m _ refl,
+    )
 
 slice-write-s : tie.Need-slice-write-s Inv-loop μ-loop
 slice-write-s c =
     let l = c .before .before .before in
-    front-room (l .before .before .args .s .now) _ _ _ _ (l .loop .inv .1) (more l (c .before .before .loop-test .taken)) _ refl _ _ (c .unit-at .ensures)
+    front-room (l .before .before .args .s .now) _ _ _ _ (l .loop .inv .1)
+    (more l (c .before .before .loop-test .taken)) _ refl _ _ (c .unit-at .ensures)
 
 add-k : tie.Need-add-k Inv-loop μ-loop
 add-k c = search needs
@@ -47,8 +51,11 @@ loop-less c = search needs
 
 loop-again : tie.Need-loop-again Inv-loop μ-loop
 loop-again c =
-    let l = c .before .before .before in
-    (search needs, front-more (l .before .before .args .s .now) _ _ _ _ (l .loop .inv .1) (more l (c .before .before .loop-test .taken)) _ refl _ _ (c .unit-at .ensures))
+    let l = c .before .before .before in (
+      search needs,
+      front-more (l .before .before .args .s .now) _ _ _ _ (l .loop .inv .1)
+          (more l (c .before .before .loop-test .taken)) _ refl _ _ (c .unit-at .ensures),
+    )
 
 same-length : tie.Need-same-length Inv-loop μ-loop
 same-length c = c .before .loop .inv .1 .1

@@ -12,7 +12,10 @@ use Rattle.frame.proofs.candidate.unstuff_into.Statement.{statement}
 use Rattle.frame.proofs.candidate.unstuff_into.Tie as tie
 
 abbrev Inv-loop : tie.InvT-loop
-Inv-loop s count out₀ at₀ k₀ out at k = (k ≤ count) × (length out ≡ length out₀) × (unstuffedBytes (unstuff false (drop at s)) ≡ drop k (unstuffedBytes (unstuff false s))) × (out ≡ take k (unstuffedBytes (unstuff false s)) ++ drop k out₀)
+Inv-loop s count out₀ at₀ k₀ out at k =
+    (k ≤ count) × (length out ≡ length out₀)
+    × (unstuffedBytes (unstuff false (drop at s)) ≡ drop k (unstuffedBytes (unstuff false s)))
+    × (out ≡ take k (unstuffedBytes (unstuff false s)) ++ drop k out₀)
 
 abbrev μ-loop : tie.MeasureT-loop
 μ-loop s count out₀ at₀ k₀ out at k = count - k
@@ -22,7 +25,8 @@ abbrev U : tie.At-loop Inv-loop μ-loop → List ℕ
 U l = unstuffedBytes (unstuff false (l .before .before .before .args .s .now))
 
 -- there are bytes to come
-more : (l : tie.At-loop Inv-loop μ-loop) → l .loop .k < l .before .before .before .args .count → l .loop .k < length (U l)
+more : (l : tie.At-loop Inv-loop μ-loop) → l .loop .k < l .before .before .before .args .count
+    → l .loop .k < length (U l)
 more l h = omega (arith, l .before .before .before .pre .0)
 
 loop-holds : tie.Need-loop-holds Inv-loop μ-loop
@@ -31,11 +35,16 @@ loop-holds c = (search needs, refl, refl, refl)
 unit-at-requires : tie.Need-unit-at-requires Inv-loop μ-loop
 unit-at-requires c κs =
     let l = c .before in
-    let m = more l (c .loop-test .taken) in
-    (never-end _ (U l) (l .loop .at) (l .loop .k) m (l .loop .inv .2) _ refl, never-bad _ (U l) (l .loop .at) (l .loop .k) m (l .loop .inv .2) _ refl)
+    let m = more l (c .loop-test .taken) in (
+      never-end _ (U l) (l .loop .at) (l .loop .k) m (l .loop .inv .2) _ refl,
+      never-bad _ (U l) (l .loop .at)
+          (l .loop .k) m (l .loop .inv .2) _ refl,
+    )
 
 slice-write-out : tie.Need-slice-write-out Inv-loop μ-loop
-slice-write-out c = let l = c .before .before in omega (arith, l .before .before .before .pre .1, l .loop .inv .1, c .before .loop-test .taken)
+slice-write-out c =
+    let l = c .before .before in
+    omega (arith, l .before .before .before .pre .1, l .loop .inv .1, c .before .loop-test .taken)
 
 add-k : tie.Need-add-k Inv-loop μ-loop
 add-k c = search needs
@@ -47,7 +56,8 @@ loop-again : tie.Need-loop-again Inv-loop μ-loop
 loop-again c =
     let l = c .before .before in
     let t = c .before .loop-test .taken in
-    let m = fill-more _ (U l) (l .loop .at) (l .loop .k) (more l t) (l .loop .inv .2) _ refl _ _ _ _ (c .unit-at .ensures) (omega (arith, l .before .before .before .pre .1)) (l .loop .inv .3) in
+    let m = fill-more _ (U l) (l .loop .at) (l .loop .k) (more l t) (l .loop .inv .2) _ refl _ _ _ _
+    (c .unit-at .ensures) (omega (arith, l .before .before .before .pre .1)) (l .loop .inv .3) in
     (search needs, length-set (l .loop .out) (l .loop .k) (c .unit-at .result .byte) ∙ l .loop .inv .1, m .0, m .1)
 
 same-length : tie.Need-same-length Inv-loop μ-loop

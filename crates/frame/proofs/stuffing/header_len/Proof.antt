@@ -26,7 +26,14 @@ width-requires-2 : tie.Need-width-requires-2
 width-requires-2 c κs = search needs
 
 add-result-2 : tie.Need-add-result-2
-add-result-2 c = let h = c .before .before in omega (arith, stuffByte-between (h .before .header .given .0 .0), stuffByte-between (h .before .header .given .0 .1 .0))
+add-result-2 c =
+    let h = c .before .before in
+    omega (
+      arith,
+      stuffByte-between (h .before .header .given .0 .0),
+      stuffByte-between
+          (h .before .header .given .0 .1 .0),
+    )
 
 returns : tie.Need-returns
 returns c = search needs
@@ -34,7 +41,12 @@ returns c = search needs
 returns-2 : tie.Need-returns-2
 returns-2 c =
     let h = c .before .before .before in
-    omega (arith, length-append (stuffByte (h .header .given .0 .0)) (stuffByte (h .header .given .0 .1 .0)), ap (λ (x : Header). length (headerWire x)) (h .header .given .1))
+    omega (
+      arith,
+      length-append (stuffByte (h .header .given .0 .0)) (stuffByte (h .header .given .0 .1 .0)),
+      ap
+          (λ (x : Header). length (headerWire x)) (h .header .given .1),
+    )
 
 pub header-len-spec : {M : Type 1} → statement M
 header-len-spec =

@@ -12,7 +12,8 @@ use borrow.Author.Needs.{needs}
 use Rattle.frame.proofs.stuffing.put_byte.Statement.{statement}
 use Rattle.frame.proofs.stuffing.put_byte.Tie as tie
 
-two : (c : tie.Then1) → stuffByte (c .before .before .before .args .b) ≡ 0xF3 ∷ (c .before .before .before .args .b - 0xF0) ∷ []
+two : (c : tie.Then1) → stuffByte (c .before .before .before .args .b) ≡ 0xF3
+    ∷ (c .before .before .before .args .b - 0xF0) ∷ []
 two c = stuffByte-yes _ (sym (c .before .is-stuffed .ensures) ∙ c .if1 .taken)
 
 one : (c : tie.Else1) → stuffByte (c .before .before .before .args .b) ≡ c .before .before .before .args .b ∷ []
@@ -43,7 +44,8 @@ returns : tie.Need-returns
 returns c =
     let a = c .before .before .before .args in (
       omega (arith, ap length (two c)),
-      set2-splice (a .out .now) (a .at) _ (a .b - 0xF0) (omega (arith, ap length (two c))) ∙ ap (splice (a .out .now) (a .at)) (sym (two c)),
+      set2-splice (a .out .now) (a .at) _ (a .b - 0xF0) (omega (arith, ap length (two c)))
+          ∙ ap (splice (a .out .now) (a .at)) (sym (two c)),
     )
 
 slice-write-out-3 : tie.Need-slice-write-out-3
@@ -59,7 +61,8 @@ returns-2 : tie.Need-returns-2
 returns-2 c =
     let a = c .before .before .before .args in (
       omega (arith, ap length (one c)),
-      set-splice (a .out .now) (a .at) (a .b) (omega (arith, ap length (one c))) ∙ ap (splice (a .out .now) (a .at)) (sym (one c)),
+      set-splice (a .out .now) (a .at) (a .b) (omega (arith, ap length (one c)))
+          ∙ ap (splice (a .out .now) (a .at)) (sym (one c)),
     )
 
 pub put-byte-spec : {M : Type 1} → statement M

@@ -19,7 +19,13 @@ shared-slice-read-put-byte : tie.Need-shared-slice-read-put-byte Inv-loop μ-loo
 shared-slice-read-put-byte c = search needs
 
 put-byte-requires : tie.Need-put-byte-requires Inv-loop μ-loop
-put-byte-requires c κs = let l = c .before .before .before in omega (arith, stuff-room (l .before .before .before .args .s .now) (l .loop .i) (c .before .before .loop-test .taken))
+put-byte-requires c κs =
+    let l = c .before .before .before in
+    omega (
+      arith,
+      stuff-room (l .before .before .before .args .s .now) (l .loop .i)
+          (c .before .before .loop-test .taken),
+    )
 
 add-i : tie.Need-add-i Inv-loop μ-loop
 add-i c = search needs
@@ -30,8 +36,11 @@ loop-less c = search needs
 loop-again : tie.Need-loop-again Inv-loop μ-loop
 loop-again c =
     let p = c .before .before in
-    let l = p .before .before .before .before in
-    (search needs, stuffed-more _ _ _ (l .before .before .before .pre) _ _ _ _ _ (p .before .before .before .loop-test .taken) (l .loop .inv .1) (p .put-byte .ensures .0) (p .put-byte .ensures .1))
+    let l = p .before .before .before .before in (
+      search needs,
+      stuffed-more _ _ _ (l .before .before .before .pre) _ _ _ _ _
+          (p .before .before .before .loop-test .taken) (l .loop .inv .1) (p .put-byte .ensures .0) (p .put-byte .ensures .1),
+    )
 
 same-length : tie.Need-same-length Inv-loop μ-loop
 same-length c = c .before .loop .inv .1 .2
@@ -39,7 +48,8 @@ same-length c = c .before .loop .inv .1 .2
 returns : tie.Need-returns Inv-loop μ-loop
 returns c =
     let l = c .before in
-    let r = stuffed-all _ _ _ (l .before .before .before .pre) _ _ _ (c .loop-test .left) (l .loop .inv .1) in (r .0, r .1)
+    let r = stuffed-all _ _ _ (l .before .before .before .pre) _ _ _ (c .loop-test .left) (l .loop .inv .1) in
+    (r .0, r .1)
 
 pub put-each-spec : {M : Type 1} → statement M
 put-each-spec =

@@ -25,7 +25,8 @@ from k = k .before .header .given .0 .1 .0
 room : (k : tie.After-known-told) → length (headerWire (Addressed (to k) (from k))) ≤ length (St k .args .out .now)
 room k = omega (arith, St k .pre, ap (λ (h : Header). length (headerWire h)) (k .before .header .given .1))
 
-long : (k : tie.After-known-told) → length (headerWire (Addressed (to k) (from k))) ≡ 1 + length (stuffByte (to k)) + length (stuffByte (from k))
+long : (k : tie.After-known-told)
+    → length (headerWire (Addressed (to k) (from k))) ≡ 1 + length (stuffByte (to k)) + length (stuffByte (from k))
 long k = addressed-length (St k .args .out .now) (to k) (from k) (room k)
 
 enum-told : tie.Need-enum-told
@@ -47,7 +48,15 @@ put-byte-requires-2 : tie.Need-put-byte-requires-2
 put-byte-requires-2 c κs =
     let p = c .before .before .before in
     let k = p .before .before in
-    omega (arith, room k, long k, p .put-byte .ensures .0, p .put-byte .kept .1 .0, length-set (St k .args .out .now) 0 0xF0)
+    omega (
+      arith,
+      room k,
+      long k,
+      p .put-byte .ensures .0,
+      p .put-byte .kept .1 .0,
+      length-set
+          (St k .args .out .now) 0 0xF0,
+    )
 
 same-length : tie.Need-same-length
 same-length c = search needs
@@ -56,7 +65,8 @@ returns : tie.Need-returns
 returns c =
     let a = c .before .before .before .args in (
       ap (λ (h : Header). length (headerWire h)) (sym (c .enum-told .given .1)),
-      set-splice (a .out .now) 0 _ (omega (arith, header-between (a .header), c .before .before .before .pre)) ∙ ap (λ (h : Header). splice (a .out .now) 0 (headerWire h)) (sym (c .enum-told .given .1)),
+      set-splice (a .out .now) 0 _ (omega (arith, header-between (a .header), c .before .before .before .pre))
+          ∙ ap (λ (h : Header). splice (a .out .now) 0 (headerWire h)) (sym (c .enum-told .given .1)),
     )
 
 same-length-2 : tie.Need-same-length-2
@@ -72,8 +82,12 @@ returns-2 c =
     let k = p .before .before in
     let a = St k .args in
     let e = k .before .header .given .1 in
-    let r = put-addressed (a .out .now) (to k) (from k) (room k) _ _ _ _ (p .put-byte .ensures .0) (p .put-byte .ensures .1) (q .put-byte2 .ensures .0) (q .put-byte2 .ensures .1) in
-    (r .0 ∙ ap (λ (h : Header). length (headerWire h)) (sym e), r .1 ∙ ap (λ (h : Header). splice (a .out .now) 0 (headerWire h)) (sym e))
+    let r = put-addressed (a .out .now) (to k) (from k) (room k) _ _ _ _ (p .put-byte .ensures .0)
+    (p .put-byte .ensures .1) (q .put-byte2 .ensures .0) (q .put-byte2 .ensures .1) in (
+      r .0 ∙ ap (λ (h : Header). length (headerWire h)) (sym e),
+      r .1
+          ∙ ap (λ (h : Header). splice (a .out .now) 0 (headerWire h)) (sym e),
+    )
 
 pub put-header-spec : {M : Type 1} → statement M
 put-header-spec =

@@ -20,8 +20,12 @@ returns : tie.Need-returns
 returns c =
     let s = c .before .before .before .before .before .before .before in
     let a = s .args in
-    let plain : stuff (a .s .now) ≡ a .s .now = stuff-same (a .s .now) (sym (s .pre .0) ∙ c .before .before .before .before .if1 .taken) in
-    (ap (λ (n : ℕ). a .from + n) (s .pre .0), c .before .before .copy .ensures ∙ ap (splice (a .out .now) (a .from)) (sym plain))
+    let plain : stuff (a .s .now) ≡ a .s .now =
+    stuff-same (a .s .now) (sym (s .pre .0) ∙ c .before .before .before .before .if1 .taken) in (
+      ap (λ (n : ℕ). a .from + n) (s .pre .0),
+      c .before .before .copy .ensures
+          ∙ ap (splice (a .out .now) (a .from)) (sym plain),
+    )
 
 put-each-requires : tie.Need-put-each-requires
 put-each-requires c κs = search needs

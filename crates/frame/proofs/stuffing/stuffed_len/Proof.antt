@@ -7,7 +7,8 @@ use Rattle.frame.proofs.stuffing.stuffed_len.Statement.{statement}
 use Rattle.frame.proofs.stuffing.stuffed_len.Tie as tie
 
 returns : tie.Need-returns
-returns c = let s = c .before .before in sym (ap length (stuff-none (s .args .s .now) (sym (s .pre .0) ∙ c .if1 .taken)))
+returns c =
+    let s = c .before .before in sym (ap length (stuff-none (s .args .s .now) (sym (s .pre .0) ∙ c .if1 .taken)))
 
 count-within-requires : tie.Need-count-within-requires
 count-within-requires c κs = search needs
@@ -19,7 +20,8 @@ add-result : tie.Need-add-result
 add-result c = search needs
 
 returns-2 : tie.Need-returns-2
-returns-2 c = ap (λ (n : ℕ). length (c .before .before .before .args .s .now) + n) (c .count-within .ensures) ∙ stuff-count _
+returns-2 c =
+    ap (λ (n : ℕ). length (c .before .before .before .args .s .now) + n) (c .count-within .ensures) ∙ stuff-count _
 
 pub stuffed-len-spec : {M : Type 1} → statement M
 stuffed-len-spec =

@@ -12,7 +12,8 @@ keep-requires c κs = search needs
 
 returns : tie.Need-returns
 returns c =
-    c .keep .ensures (c .before .before .before .before .before .args .state .mode) (sym (c .before .before .before .is-held .ensures) ∙ c .before .before .if1 .taken)
+    c .keep .ensures (c .before .before .before .before .before .args .state .mode)
+    (sym (c .before .before .before .is-held .ensures) ∙ c .before .before .if1 .taken)
 
 skip-requires : tie.Need-skip-requires
 skip-requires c κs = search needs
@@ -20,7 +21,8 @@ skip-requires c κs = search needs
 returns-2 : tie.Need-returns-2
 returns-2 c =
     let a = c .before .before .before .before .args in
-    c .skip .ensures (lentReader (a .bytes .now) (a .state)) (sym (c .before .before .is-held .ensures) ∙ c .before .if1 .left)
+    c .skip .ensures (lentReader (a .bytes .now) (a .state))
+    (sym (c .before .before .is-held .ensures) ∙ c .before .if1 .left)
 
 pub consume-spec : {M : Type 1} → statement M
 consume-spec = tie.close (tie.spec is-held-requires keep-requires returns skip-requires returns-2)

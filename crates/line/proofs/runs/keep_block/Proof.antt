@@ -11,7 +11,9 @@ use Rattle.line.proofs.runs.keep_block.Statement.{statement}
 use Rattle.line.proofs.runs.keep_block.Tie as tie
 
 abbrev Inv-loop : tie.InvT-loop
-Inv-loop bytes₀ len input from k₀ bytes k = (k ≤ 32) × ((mode : Mode) → isHeld mode ≡ true → Reaches input from (reader bytes₀ len mode) (from + k) (reader bytes (len + k) mode))
+Inv-loop bytes₀ len input from k₀ bytes k =
+    (k ≤ 32) × ((mode : Mode) → isHeld mode ≡ true
+    → Reaches input from (reader bytes₀ len mode) (from + k) (reader bytes (len + k) mode))
 
 abbrev μ-loop : tie.MeasureT-loop
 μ-loop bytes₀ len input from k₀ bytes k = 32 - k
@@ -41,15 +43,20 @@ loop-again : tie.Need-loop-again Inv-loop μ-loop
 loop-again c =
     let l = c .before .before in
     let p = l .before .pre in
-    let t = c .before .loop-test .taken in
-    (search needs, λ m h. held-more _ _ _ _ _ _ m (keep-more _ _ _ _ _ _ _ (l .loop .inv .1) (omega (arith, p .0)) (in-block _ _ 32 _ (p .0) (p .1 .1) t) (omega (arith, p .1 .0)) m h))
+    let t = c .before .loop-test .taken in (
+      search needs,
+      λ m h. held-more _ _ _ _ _ _ m
+          (keep-more _ _ _ _ _ _ _ (l .loop .inv .1) (omega (arith, p .0)) (in-block _ _ 32 _ (p .0) (p .1 .1) t)
+          (omega (arith, p .1 .0)) m h),
+    )
 
 returns : tie.Need-returns Inv-loop μ-loop
 returns c =
     let l = c .before in
     let e : l .loop .k ≡ 32 = omega arith in
     let a = l .before .args in
-    λ m h. subst (λ (k : ℕ). Reaches (a .input .now) (a .from) (reader (a .bytes .now) (a .len) m) (a .from + k) (reader (l .loop .bytes) (a .len + k) m)) e (l .loop .inv .1 m h)
+    λ m h. subst (λ (k : ℕ). Reaches (a .input .now) (a .from) (reader (a .bytes .now) (a .len) m) (a .from + k)
+    (reader (l .loop .bytes) (a .len + k) m)) e (l .loop .inv .1 m h)
 
 pub keep-block-spec : {M : Type 1} → statement M
 keep-block-spec =

@@ -17,7 +17,15 @@ count-before-requires : tie.Need-count-before-requires
 count-before-requires c κs = search needs
 
 add-result : tie.Need-add-result
-add-result c = let a = c .before .before .before in record { fits = omega (arith, skip-fits (a .args .input .now) (a .args .from) (c .count-before .result) (a .pre) (c .count-before .ensures)) }
+add-result c =
+    let a = c .before .before .before in
+    record {
+      fits = omega (
+        arith,
+        skip-fits (a .args .input .now) (a .args .from) (c .count-before .result) (a .pre)
+            (c .count-before .ensures),
+      );
+    }
 
 returns : tie.Need-returns
 returns c = skip-all _ _ _ (c .before .before .before .pre) (c .count-before .ensures)

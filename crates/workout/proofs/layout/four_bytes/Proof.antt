@@ -17,7 +17,13 @@ low-requires-4 c κs = search needs
 
 returns : tie.Need-returns
 unfolding bytesOf
-returns c = simp (c .before .before .before .low .ensures, c .before .before .low2 .ensures, c .before .low3 .ensures, c .low4 .ensures)
+returns c =
+    simp (
+      c .before .before .before .low .ensures,
+      c .before .before .low2 .ensures,
+      c .before .low3 .ensures,
+      c .low4 .ensures,
+    )
 
 pub four-bytes-spec : {M : Type 1} → statement M
 four-bytes-spec =

@@ -35,7 +35,13 @@ returns : tie.Need-returns
 unfolding layout bytesOf
 returns c =
     let k = c .before .before .before .before in
-    simp (k .command-of .ensures, c .before .before .before .identifier-of .ensures, c .before .before .four-bytes .ensures, c .before .low .ensures, c .low2 .ensures)
+    simp (
+      k .command-of .ensures,
+      c .before .before .before .identifier-of .ensures,
+      c .before .before .four-bytes .ensures,
+      c .before .low .ensures,
+      c .low2 .ensures,
+    )
 
 pub lay-out-spec : {M : Type 1} → statement M
 lay-out-spec =

@@ -27,7 +27,8 @@ returns : tie.Need-returns Inv-loop μ-loop
 returns c =
     let l = c .before .before .before .before in
     let a = l .before .args in
-    sym (same-at (a .s .now) (a .t .now) (l .loop .i) (c .before .before .before .loop-test .taken) (l .before .pre) ∙ simp (ne-eqb _ _ (c .if1 .taken))) ∙ l .loop .inv .1
+    sym (same-at (a .s .now) (a .t .now) (l .loop .i) (c .before .before .before .loop-test .taken) (l .before .pre)
+    ∙ simp (ne-eqb _ _ (c .if1 .taken))) ∙ l .loop .inv .1
 
 add-i : tie.Need-add-i Inv-loop μ-loop
 add-i c = search needs
@@ -39,7 +40,8 @@ loop-again : tie.Need-loop-again Inv-loop μ-loop
 loop-again c =
     let l = c .before .before .before .before in
     let a = l .before .args in
-    let e = same-at (a .s .now) (a .t .now) (l .loop .i) (c .before .before .before .loop-test .taken) (l .before .pre) in
+    let e = same-at (a .s .now) (a .t .now) (l .loop .i) (c .before .before .before .loop-test .taken)
+    (l .before .pre) in
     (search needs, sym (e ∙ simp (eq-eqb _ _ (c .if1 .left))) ∙ l .loop .inv .1)
 
 returns-2 : tie.Need-returns-2 Inv-loop μ-loop

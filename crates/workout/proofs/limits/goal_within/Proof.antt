@@ -33,7 +33,8 @@ product-requires c κs = search needs
 returns-5 : tie.Need-returns-5
 returns-5 c =
     let a = c .before .before .before .before .before .before .before .before .before .before .args in
-    sym (goal-outside (goalLimitsOf (a .limits)) (a .splits) (a .scale) (a .goal) (a .split) (λ w. omega (arith, c .before .product .ensures)))
+    sym (goal-outside (goalLimitsOf (a .limits)) (a .splits) (a .scale) (a .goal) (a .split)
+    (λ w. omega (arith, c .before .product .ensures)))
 
 product-requires-2 : tie.Need-product-requires-2
 product-requires-2 c κs = search needs
@@ -41,14 +42,29 @@ product-requires-2 c κs = search needs
 returns-6 : tie.Need-returns-6
 returns-6 c =
     let a = c .before .before .before .before .before .before .before .before .before .before .before .before .args in
-    sym (goal-outside (goalLimitsOf (a .limits)) (a .splits) (a .scale) (a .goal) (a .split) (λ w. omega (arith, ceil-div-product (a .scale * a .goal) (a .split) (a .splits) (omega (arith, w .shortest)) .0 (w .few), c .before .product2 .ensures, c .before .before .before .product .ensures)))
+    sym (goal-outside (goalLimitsOf (a .limits)) (a .splits) (a .scale) (a .goal) (a .split)
+    (λ w. omega (
+      arith,
+      ceil-div-product (a .scale * a .goal) (a .split) (a .splits) (omega (arith, w .shortest)) .0
+          (w .few),
+      c .before .product2 .ensures,
+      c .before .before .before .product .ensures,
+    )))
 
 returns-7 : tie.Need-returns-7
 returns-7 c =
     let a = c .before .before .before .before .before .before .before .before .before .before .before .before .args in
     let covered : a .scale * a .goal ≤ a .splits * a .split = omega arith in
     sym (goal-within (goalLimitsOf (a .limits)) (a .splits) (a .scale) (a .goal) (a .split)
-    (record { least = omega arith; most = omega arith; shortest = omega arith; longest = omega arith; inGoal = omega arith; few = ceil-div-product (a .scale * a .goal) (a .split) (a .splits) (omega arith) .1 covered }))
+    (record {
+      least = omega arith;
+      most = omega arith;
+      shortest = omega arith;
+      longest = omega arith;
+      inGoal =
+          omega arith;
+      few = ceil-div-product (a .scale * a .goal) (a .split) (a .splits) (omega arith) .1 covered;
+    }))
 
 pub goal-within-spec : {M : Type 1} → statement M
 goal-within-spec =

@@ -20,11 +20,17 @@ goal-within-requires-2 c κs = search needs
 
 returns : tie.Need-returns
 unfolding withinLimits
-returns c = let a = c .before .before .before .before .args in c .goal-within .ensures ∙ by-goal (withinLimits (limitsOf (a .limits))) (a .workout) (c .before .before .goal .given .1)
+returns c =
+    let a = c .before .before .before .before .args in
+    c .goal-within .ensures ∙ by-goal (withinLimits (limitsOf (a .limits))) (a .workout)
+    (c .before .before .goal .given .1)
 
 returns-2 : tie.Need-returns-2
 unfolding withinLimits
-returns-2 c = let a = c .before .before .before .before .args in c .goal-within2 .ensures ∙ by-goal (withinLimits (limitsOf (a .limits))) (a .workout) (c .before .before .goal2 .given .1)
+returns-2 c =
+    let a = c .before .before .before .before .args in
+    c .goal-within2 .ensures
+    ∙ by-goal (withinLimits (limitsOf (a .limits))) (a .workout) (c .before .before .goal2 .given .1)
 
 pub within-limits-spec : {M : Type 1} → statement M
 within-limits-spec =
