@@ -1,5 +1,5 @@
 -- The fields of what each library function answers.
-use Prim.Native.Nat.{ℕ, _^_, _<_}
+use Prim.Native.Nat.{ℕ}
 use mathlib.Core.List.{List}
 use lib.ListN.{length}
 use Rattle.answer.specs.Answer.{result, refused, Answer}

@@ -4,10 +4,8 @@ use Rattle.frame.specs.Answers.{readAnswer, FrameOutline}
 use Rattle.frame.specs.Conditions.{ReadJudged, refusedBy, noRoom, fits, Terminated, WithinLimit, EscapesSound}
 use Rattle.frame.specs.Conditions.{Unstuffs, none, plain, escape, fewest, SoundFrame, Judged, truncated, long}
 use Rattle.frame.specs.Conditions.{badEscape as badEscapes, short, badSum, sound}
-use Rattle.framing.specs.Reference.{FlagFree}
-use Prim.Native.Nat.{ℕ, zero, suc, _+_, _≤_, _<_}
+use Prim.Native.Nat.{ℕ, zero, suc, _+_, _≤_}
 use mathlib.Core.Path.{_≡_, refl, sym, ap, _∙_, subst}
-use mathlib.Core.Logic.{_⊎_, inl, inr}
 use mathlib.Core.Bool.{Bool, true, false, true≢false}
 use mathlib.Core.List.{List, [], _∷_}
 use native.Mathlib.Omega.{arith}
@@ -16,8 +14,7 @@ use lib.ListN.{length, getD}
 use borrow.Author.Tests.{leb-true, leb-false, eqb-true, eqb-false, lt-leb, le-leb, ne-eqb}
 use Rattle.lists.specs.Choice.{pick}
 use Rattle.lists.proofs.Cases.{by-bool}
-use Rattle.lists.proofs.Tests.{none-at, at-none}
-use Rattle.frame.specs.Flags.{isFlag, flagless, kindOf}
+use Rattle.frame.specs.Flags.{kindOf}
 use Rattle.frame.specs.Stuffing.{Unstuffed, badEscape, bytes, prepend, unstuff}
 use Rattle.frame.specs.Checksum.{checksum}
 use Rattle.frame.specs.Verdict.{Verdict, addressCount, contentsIn, lastOf, frameIn, judge, bodyOf, isTerminated}

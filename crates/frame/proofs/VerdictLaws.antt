@@ -8,7 +8,7 @@ use lib.Bits.{bitXor}
 use lib.Dec.{leb, eqb}
 use lib.ListN.{length, getD, drop, length-append, length-drop}
 use lib.Seq.{take-at, getD-at, take-suc, take-all, getD-drop, drop-cons}
-use borrow.Author.Tests.{leb-true, eqb-true, eqb-false, lt-leb, le-leb, eq-eqb, ne-eqb}
+use borrow.Author.Tests.{leb-true, eqb-true, lt-leb, le-leb, eq-eqb, ne-eqb}
 use Rattle.lists.specs.Choice.{within, noneOf}
 use Rattle.lists.proofs.Cases.{by-bool, both-true}
 use Rattle.lists.proofs.Lists.{drop-two}
@@ -25,7 +25,7 @@ use Rattle.frame.specs.Answers.{outlineOf, judgeAnswer, readAnswer, read
 use Rattle.frame.specs.Private.{isBounded, frameOf, headerKind, headed, readAs, scanFrom, unstuffedBytes, SoundAt}
 use Rattle.frame.specs.Private.{Unescaped, UnescapedAfter, Examines, judgeWhole, ExaminesWhole}
 use Rattle.frame.specs.declared.Kind.{Kind}
-use Rattle.frame.specs.declared.Kind.the-variants.{Standard, Extended}
+use Rattle.frame.specs.declared.Kind.the-variants.{Extended}
 use Rattle.frame.specs.declared.Header.{Header}
 use Rattle.frame.specs.declared.Header.the-variants.{Plain, Addressed}
 use Rattle.frame.specs.declared.candidate.Scan.the-variants.{Fault, Good}

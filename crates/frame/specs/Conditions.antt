@@ -2,7 +2,6 @@
 -- None speaks of the verdict or of the steps by which it is reached.
 use Prim.Native.Nat.{ℕ, _+_, _≤_, _<_}
 use mathlib.Core.Path.{_≡_}
-use mathlib.Core.Logic.{_⊎_}
 use mathlib.Core.List.{List, [], _∷_, _++_}
 use lib.ListN.{length, getD}
 use Rattle.frame.specs.Checksum.{checksum}

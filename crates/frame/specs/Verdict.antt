@@ -4,7 +4,7 @@ use mathlib.Core.Bool.{Bool, false}
 use mathlib.Core.List.{List}
 use lib.Dec.{leb, eqb}
 use lib.ListN.{length, getD, take, drop}
-use Rattle.lists.specs.Choice.{pick, within}
+use Rattle.lists.specs.Choice.{pick}
 use Rattle.answer.specs.Answer.{Answer, result, refused}
 use Rattle.frame.specs.Stuffing.{unstuff, Unstuffed, badEscape, bytes}
 use Rattle.frame.specs.Flags.{flagless, stopFlag, kindOf, isStart}

@@ -12,7 +12,7 @@ use lib.ListN.{length, take, set, length-append, length-set}
 use lib.Seq.{take-suc-set, length-take-le}
 use borrow.Author.Tests.{ltb-true, ltb-false}
 use Rattle.lists.specs.Choice.{pick}
-use Rattle.lists.specs.Machine.{Turn, run, Ran, Answered}
+use Rattle.lists.specs.Machine.{Turn, run, Answered}
 use Rattle.lists.proofs.Machines.{ran-run}
 use Rattle.framing.specs.Reference.{Call, byte, finish, Role, starts, stops, plain, FlagFree, Candidate, none}
 use Rattle.framing.specs.Reference.{opened, Protocol, byteAnswer, byteAfter, endAnswer, answerTo, candidateAfter}

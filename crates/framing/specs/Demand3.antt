@@ -1,6 +1,6 @@
 -- Demand 3 of what answers lists of calls, over a protocol's parameters.
 use mathlib.Core.Path.{_≡_}
-use mathlib.Core.List.{List, [], _∷_, _++_, map}
+use mathlib.Core.List.{List, _∷_, _++_, map}
 use lib.ListN.{drop}
 use Prim.Native.Nat.{ℕ}
 use Rattle.framing.specs.Reference.{Call, byte, starts, FlagFree, Protocol, Reference}

@@ -1,18 +1,15 @@
 -- Demand 3: the line reader answers every list of calls as the reference decoder does, and starts again at each start
 -- flag.
 use mathlib.Core.Path.{_≡_, refl, sym, ap, _∙_}
-use mathlib.Core.Bool.{Bool, true, false}
 use mathlib.Core.List.{List, [], _∷_, _++_}
-use native.Mathlib.Omega.{arith}
 use Prim.Native.Nat.{ℕ}
-use lib.Dec.{eqb}
 use lib.ListN.{length}
 use Rattle.lists.specs.Machine.{run}
-use Rattle.framing.specs.Reference.{Role, starts, stops, FlagFree}
+use Rattle.framing.specs.Reference.{starts, stops, FlagFree}
 use Rattle.framing.specs.Demand3.{Follows}
 use Rattle.framing.specs.Bounded.{Suits}
 use Rattle.framing.proofs.Bounded.{bounded-follows}
-use Rattle.frame.specs.Flags.{startFlag, stopFlag, roleOf, kindOf}
+use Rattle.frame.specs.Flags.{startFlag, roleOf, kindOf}
 use Rattle.frame.specs.Verdict.{judge, verdict}
 use Rattle.frame.proofs.FlagLaws.{role-start, role-stop, free-flagless}
 use Rattle.frame.proofs.VerdictLaws.{whole-verdict, judge-long}

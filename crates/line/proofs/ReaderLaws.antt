@@ -7,7 +7,7 @@ use lib.Dec.{ltb}
 use lib.ListN.{set}
 use Rattle.lists.specs.Choice.{pick}
 use Rattle.lists.specs.Machine.{turn}
-use Rattle.framing.specs.Reference.{Call, byte, finish, Role, starts, stops, plain}
+use Rattle.framing.specs.Reference.{Call, byte, finish, plain}
 use Rattle.framing.specs.Bounded.{BoundedMode, outside, inside, overlong, BoundedReader, bounded, boundedTurn}
 use Rattle.frame.specs.declared.Kind.{Kind}
 use Rattle.frame.specs.declared.Kind.the-variants.{Standard, Extended}

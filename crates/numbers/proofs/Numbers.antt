@@ -4,9 +4,9 @@ use mathlib.Core.Path.{_≡_, refl, sym, ap, ap₂, _∙_}
 use mathlib.Core.Logic.{_⊎_, inl, inr}
 use mathlib.Core.List.{List, [], _∷_, _++_, append-assoc}
 use native.Mathlib.Omega.{arith}
-use native.Mathlib.Nat.{pow-suc, pow-zero, add-zero, mul-suc, mul-zero, pow-le-pow-right}
-use lib.ListN.{length, getD, set, take, drop, length-set, length-append, take-append-drop}
-use lib.Seq.{getD-set-same, getD-set-other, set-getD, set-out, drop-set-lt, take-suc-set, drop-cons, getD-at, drop-drop}
+use native.Mathlib.Nat.{pow-suc, pow-zero, mul-suc, mul-zero, pow-le-pow-right}
+use lib.ListN.{length, getD, set, take, drop, length-set, length-append}
+use lib.Seq.{getD-set-same, getD-set-other, set-getD, set-out, drop-cons, getD-at, drop-drop}
 use lib.Seq.{take-add}
 use Rattle.numbers.specs.Number.{number, put, bytesOf, Bytes, numbers, bytesOfAll}
 

@@ -1,6 +1,6 @@
 -- What is written reads back.
 use Rattle.answer.proofs.Drafts.{written-first}
-use Prim.Native.Nat.{ℕ, _+_, _-_, _/_, _%_, _<_}
+use Prim.Native.Nat.{ℕ, _/_, _%_, _<_}
 use mathlib.Core.Path.{_≡_, refl, sym, ap, _∙_}
 use mathlib.Core.Bool.{Bool}
 use mathlib.Core.List.{List, [], _∷_, _++_, append-assoc, append-nil}
@@ -10,7 +10,7 @@ use lib.ListN.{length, take}
 use Rattle.answer.specs.Draft.{Draft, draftAnswer, draftOut}
 use Rattle.answer.specs.Answer.{result, refused, Answer}
 use Rattle.lists.proofs.Cases.{by-bool}
-use Rattle.command.specs.Entries.{Entry, entry, items, entryBytes, WellFormed, Parsed, unsound, sound, parse, found}
+use Rattle.command.specs.Entries.{Entry, entry, items, entryBytes, WellFormed, Parsed, unsound, sound, parse}
 use Rattle.command.specs.Entries.{nthOf}
 use Rattle.command.specs.Answers.{partOf}
 use Rattle.command.proofs.Extents.{parse-last, nth-earlier, data-at}

@@ -1,7 +1,7 @@
 // The 23 bytes of a workout, and the numbers in them.
 ghost use mathlib.Core.Path.{_≡_};
 ghost use mathlib.Core.List.{[], _∷_};
-ghost use Prim.Native.Nat.{_+_, _*_, _/_, _%_};
+ghost use Prim.Native.Nat.{_+_, _*_, _%_};
 ghost use lib.ListN.{length};
 ghost use Rattle.numbers.specs.Number.{bytesOf};
 ghost use Rattle.workout.specs.Workout.{layout, commandOf, identifierOf, distanceBytes, timeBytes};

@@ -1,6 +1,6 @@
 use lib.ListN.{List·getD-eq-default}
 use native.Mathlib.Omega.{arith}
-use Prim.Native.Nat.{_+_, _-_}
+use Prim.Native.Nat.{_+_}
 use mathlib.Core.Path.{sym}
 use borrow.Author.Needs.{needs}
 use Rattle.numbers.proofs.byte_at.Statement.{statement}

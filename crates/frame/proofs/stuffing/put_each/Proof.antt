@@ -39,7 +39,8 @@ loop-again c =
     let l = p .before .before .before .before in (
       search needs,
       stuffed-more _ _ _ (l .before .before .before .pre) _ _ _ _ _
-          (p .before .before .before .loop-test .taken) (l .loop .inv .1) (p .put-byte .ensures .0) (p .put-byte .ensures .1),
+          (p .before .before .before .loop-test .taken) (l .loop .inv .1)
+          (p .put-byte .ensures .0) (p .put-byte .ensures .1),
     )
 
 same-length : tie.Need-same-length Inv-loop μ-loop

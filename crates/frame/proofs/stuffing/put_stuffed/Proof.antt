@@ -1,5 +1,5 @@
 use mathlib.Core.Path.{_≡_, sym, ap, _∙_}
-use Prim.Native.Nat.{ℕ, _+_, _-_}
+use Prim.Native.Nat.{ℕ, _+_}
 use Rattle.frame.specs.Stuffing.{stuff}
 use Rattle.lists.specs.Splice.{splice}
 use Rattle.frame.proofs.StuffingLaws.{stuff-same}
