@@ -11,11 +11,12 @@ use Rattle.lists.specs.Choice.{pick}
 use Rattle.framing.specs.Reference.{Reference}
 use Rattle.framing.specs.Demand3.{feed}
 use Rattle.frame.specs.Flags.{roleOf}
-use Rattle.line.specs.Outcome.{Outcome, Summary, toldMeans, summaryOf, outcomeOf}
+use Rattle.frame.specs.Verdict.{Verdict}
+use Rattle.line.specs.Outcome.{Outcome, withAnswer, answersIn, Summary, toldMeans, summaryOf, outcomeOf}
 use Rattle.line.specs.Reader.{ReaderTurn, lentReader, reader, stepOf}
 use Rattle.line.specs.Rowing.{rowing}
 use Rattle.line.specs.Feed.{isAnswer, ChunkTurn, chunkTurn, laterBy, feedOf, ChunkStepIs}
-use Rattle.line.specs.Chunks.{withAnswer, answersIn, afterBytes, Chunks, done, chunk}
+use Rattle.line.specs.Chunks.{afterBytes, Chunks, done, chunk}
 use Rattle.line.specs.declared.LineReader.{LineReader}
 use Rattle.line.specs.declared.State.{State}
 use Rattle.line.specs.declared.Mode.the-variants.{Outside}
@@ -52,16 +53,16 @@ feeds-outcome bytes f r s k =
 
 -- Calls of `feed_in` that take a stream to its end, with the answers that they gave and the reader that the last one
 -- leaves. Each is lent the array as the last one left it, and given any part of what is left of the stream.
-pub data ChunksLent : LineReader → List ℕ → List Outcome → LineReader → Type 0 where
+pub data ChunksLent : LineReader → List ℕ → List Verdict → LineReader → Type 0 where
   done-lent : {r : LineReader} → ChunksLent r [] [] r
-  chunk-lent : (κs : Lfts 2) (ρ ρ′ given : RefT (List ℕ)) {state : State} {s : ChunkStep} {rest : List Outcome}
+  chunk-lent : (κs : Lfts 2) (ρ ρ′ given : RefT (List ℕ)) {state : State} {s : ChunkStep} {rest : List Verdict}
       {last : LineReader} (later : List ℕ)
       → feed-in-reads.Learnt κs (ρ, (state, (given, tt))) s (ρ′, (state, (given, tt)))
       → ChunksLent (lentReader (ρ′ .now) (s .state)) (drop (s .taken) (given .now ++ later)) rest last
       → ChunksLent (lentReader (ρ .now) state) (given .now ++ later)
       (withAnswer (outcomeOf (toldMeans (s .told)) (ρ′ .now)) rest) last
 
-one-chunk : (r : LineReader) (left : List ℕ) (s : ChunkStep) (given later : List ℕ) (rest : List Outcome)
+one-chunk : (r : LineReader) (left : List ℕ) (s : ChunkStep) (given later : List ℕ) (rest : List Verdict)
     (last : LineReader)
     → ChunkStepIs left s (feedOf r given)
     → Chunks (lentReader left (s .state)) (drop (s .taken) (given ++ later)) rest last
@@ -73,7 +74,7 @@ one-chunk r left s given later rest last k t =
     subst (λ (o : Outcome). Chunks r (given ++ later) (withAnswer o rest) last) (sym (feeds-outcome left s r given k))
     (chunk given later u)
 
-chunks-lent : {r last : LineReader} {stream : List ℕ} {answers : List Outcome} → ChunksLent r stream answers last
+chunks-lent : {r last : LineReader} {stream : List ℕ} {answers : List Verdict} → ChunksLent r stream answers last
     → Chunks r stream answers last
 chunks-lent done-lent = done
 chunks-lent (chunk-lent κs ρ ρ′ given {state = state} {s = s} {rest = rest} {last = last} later k t) =
@@ -82,7 +83,7 @@ chunks-lent (chunk-lent κs ρ ρ′ given {state = state} {s = s} {rest = rest}
 -- However a stream is cut, from any array and any length outside of a candidate: the answers are those of the reference
 -- decoder, and the reader left is that of the bytes fed singly.
 pub lent-chunks-follow : (bytes : List ℕ) (len : ℕ) → length bytes ≡ 118
-    → (stream : List ℕ) (answers : List Outcome) (last : LineReader)
+    → (stream : List ℕ) (answers : List Verdict) (last : LineReader)
     → ChunksLent (reader bytes len Outside) stream answers last
     → (answers ≡ answersIn (Reference rowing (feed stream))) × (last ≡ afterBytes (reader bytes len Outside) stream)
 lent-chunks-follow bytes len h stream answers last t =

@@ -1,5 +1,5 @@
 -- What a call on a line reader is answered with: document 01, "The line".
-use mathlib.Core.List.{List}
+use mathlib.Core.List.{List, [], _∷_}
 use Prim.Native.Nat.{ℕ, _≤_}
 use lib.ListN.{replicate}
 use Rattle.answer.specs.Answer.{Answer, result, refused}
@@ -13,6 +13,16 @@ use Rattle.line.specs.declared.Told.the-variants.{Nothing, Refused, Stan
 pub data Outcome : Type 0 where
   nothing : Outcome
   judged : Verdict → Outcome
+
+-- A verdict before others, where an outcome is one.
+abbrev pub withAnswer : Outcome → List Verdict → List Verdict
+withAnswer nothing answers = answers
+withAnswer (judged v) answers = v ∷ answers
+
+-- The answers among the outcomes of calls: those that are not nothing, in order.
+abbrev pub answersIn : List Outcome → List Verdict
+answersIn [] = []
+answersIn (o ∷ outcomes) = withAnswer o (answersIn outcomes)
 
 -- An outcome without the contents: what the enum `Told` holds.
 pub data Summary : Type 0 where
