@@ -1,6 +1,5 @@
--- Document 01's listing of an example trace, and the readings of `stop=yes`, computed.
+-- Document 01's listing of an example trace, and those of two others, computed.
 use mathlib.Core.Path.{_≡_, refl}
-use mathlib.Core.Bool.{true, false}
 use mathlib.Core.List.{[], _∷_}
 use Rattle.lists.specs.Choice.{noneOf}
 use Rattle.frame.specs.Stuffing.{unstuff, prepend}
@@ -8,7 +7,7 @@ use Rattle.frame.specs.Checksum.{sumFrom}
 use Rattle.frame.specs.Verdict.{frameIn, judgeBytes, judge, isTerminated, verdict}
 use Rattle.command.specs.Entries.{parse, withEntry}
 use Rattle.text.specs.Digits.{decimal}
-use Rattle.text.specs.Stop.{anyOf, anyIn, isOneTwo, terminates, stopsWithin, stopsWorkout}
+use Rattle.command.specs.Stop.{anyOf, anyIn, isOneTwo, terminates, stopsWithin, stopsWorkout}
 use Rattle.text.specs.Lines.{ascii, field, hexField, refusedLine, standardLine, extendedLine, totals}
 use Rattle.text.specs.Text.{text}
 
@@ -24,16 +23,3 @@ standard-example = refl
 pub empty-example : text [] ≡ ascii "frames=0 refused=0 loose=0\n"
 unfolding decimal field totals
 empty-example = refl
-
--- The top list is unsound after the wrapper; another wrapper is unsound; the first 76 is unsound and the second is not; the 76 is unsound
--- after its command; command 13 stands in 1A, at the top, and with data 01 02 00.
-pub stop-examples :
-    (stopsWorkout (0x76 ∷ 0x04 ∷ 0x13 ∷ 0x02 ∷ 0x01 ∷ 0x02 ∷ 0x20 ∷ []) ≡ false)
-    × (stopsWorkout (0x76 ∷ 0x04 ∷ 0x13 ∷ 0x02 ∷ 0x01 ∷ 0x02 ∷ 0x1A ∷ 0x01 ∷ 0x05 ∷ []) ≡ true)
-    × (stopsWorkout (0x76 ∷ 0x01 ∷ 0x13 ∷ 0x76 ∷ 0x04 ∷ 0x13 ∷ 0x02 ∷ 0x01 ∷ 0x02 ∷ []) ≡ true)
-    × (stopsWorkout (0x76 ∷ 0x05 ∷ 0x13 ∷ 0x02 ∷ 0x01 ∷ 0x02 ∷ 0x01 ∷ []) ≡ false)
-    × (stopsWorkout (0x1A ∷ 0x04 ∷ 0x13 ∷ 0x02 ∷ 0x01 ∷ 0x02 ∷ []) ≡ false)
-    × (stopsWorkout (0x13 ∷ 0x02 ∷ 0x01 ∷ 0x02 ∷ []) ≡ false)
-    × (stopsWorkout (0x76 ∷ 0x05 ∷ 0x13 ∷ 0x03 ∷ 0x01 ∷ 0x02 ∷ 0x00 ∷ []) ≡ false)
-unfolding parse withEntry anyOf anyIn isOneTwo terminates stopsWithin stopsWorkout
-stop-examples = (refl, refl, refl, refl, refl, refl, refl)

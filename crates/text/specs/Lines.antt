@@ -7,9 +7,9 @@ use Prim.Native.String.{String, [] as empty, _∷_ as _then_}
 use lib.ListN.{length}
 use Rattle.frame.specs.Frame.{standard, extended}
 use Rattle.answer.specs.Answer.{result, refused}
+use Rattle.command.specs.Stop.{stopsWorkout}
 use Rattle.line.specs.Outcome.{Outcome, nothing, judged}
 use Rattle.text.specs.Digits.{decimal, hex}
-use Rattle.text.specs.Stop.{stopsWorkout}
 
 -- A text as bytes.
 abbrev pub ascii : String → List ℕ

@@ -1,7 +1,6 @@
 // The lines of a listing, written into an output that is lent: one for each answer of the line reader, and one of totals.
 // Document 01, "Listing".
 mod digits;
-pub mod stop;
 
 use answer::Refusal;
 use line::Told;
@@ -9,9 +8,9 @@ ghost use mathlib.Core.Path.{_≡_};
 ghost use Prim.Native.Nat.{_+_, _≤_};
 ghost use lib.ListN.{length};
 ghost use Rattle.answer.specs.Refusals.{numberOf};
+ghost use Rattle.command.specs.Stop.{stopsWorkout};
 ghost use Rattle.line.specs.Outcome.{toldMeans, outcomeOf};
 ghost use Rattle.text.specs.Lines.{field, hexField, stopText, refusedLine, standardLine, extendedLine, line, totals};
-ghost use Rattle.text.specs.Stop.{stopsWorkout};
 ghost use Rattle.text.specs.Writing.{Wrote, Puts};
 
 // The room that any line fits in. A line is written only where there is so much, so that no line has to be measured first.
@@ -112,7 +111,7 @@ fn put_stop(contents: &[u8], out: &mut [u8], at: usize) -> usize
     ensures { λ r. ⌜ Wrote (now (out .entry)) at (stopText (stopsWorkout (now (contents .entry)))) (now (out .exit)) r ⌝ }
     ensures { λ r. ⌜ r ≤ at + 10 ⌝ }
 {
-    if stop::stops_workout(contents) {
+    if command::stop::stops_workout(contents) {
         return put_bytes(b" stop=yes\n", out, at);
     }
     put_bytes(b" stop=no\n", out, at)
