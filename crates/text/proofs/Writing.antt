@@ -9,7 +9,7 @@ use lib.ListN.{length, take, drop, set, getD, length-append}
 use lib.Seq.{length-take-le, take-suc, take-all}
 use Rattle.lists.specs.Splice.{splice}
 use Rattle.lists.proofs.Splices.{splice-nil, splice-splice, length-splice, set-splice, set2-splice}
-use Rattle.text.specs.Writing.{Wrote, Puts}
+use Rattle.text.specs.Writing.{Wrote, lineRoom, Puts}
 
 -- Nothing, one byte, two bytes.
 pub wrote-nothing : (out : List ℕ) (at : ℕ) → Wrote out at [] out at
@@ -62,8 +62,9 @@ copy-all s out₀ at i out h p = wrote-as (take-all i s h) p
 
 -- ---- a line that is written only where there is room for any
 
-pub puts-short : (out : List ℕ) (at : ℕ) (w : List ℕ) → length out < at + 96 → Puts out at w out at
+pub puts-short : (out : List ℕ) (at : ℕ) (w : List ℕ) → length out < at + lineRoom → Puts out at w out at
 puts-short out at w h = record { written = λ g. absurd (omega arith); short = λ g. (refl, refl) }
 
-pub puts-done : {out : List ℕ} {at : ℕ} {w out′ : List ℕ} {e : ℕ} → at + 96 ≤ length out → Wrote out at w out′ e → e ≤ at + 96 → Puts out at w out′ e
+pub puts-done : {out : List ℕ} {at : ℕ} {w out′ : List ℕ} {e : ℕ} → at + lineRoom ≤ length out → Wrote out at w out′ e
+    → e ≤ at + lineRoom → Puts out at w out′ e
 puts-done h p k = record { written = λ g. (p, k); short = λ g. absurd (omega arith) }
