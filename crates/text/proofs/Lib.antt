@@ -2,4 +2,5 @@ pub mod Writing
 pub mod DigitLaws
 pub mod Spelling
 pub mod StrayCounts
+pub mod LineLaws
 pub mod Examples

@@ -12,6 +12,7 @@ use Rattle.framing.specs.Reference.{finish, Role, starts, stops, plain}
 use Rattle.lists.specs.Machine.{run}
 use Rattle.framing.specs.Demand3.{feed}
 use Rattle.answer.specs.Answer.{result, refused}
+use Rattle.frame.specs.Verdict.{Verdict}
 use Rattle.line.specs.Outcome.{Outcome, nothing, judged}
 use Rattle.line.specs.Reader.{reader, restartOf, stopOf, growOf, withByte, grownIn, stepOf, finishOf}
 use Rattle.line.specs.Rowing.{roleOf, outcomeAt, nextAfter}
@@ -20,7 +21,8 @@ use Rattle.line.specs.declared.Mode.{Mode}
 use Rattle.line.specs.declared.Mode.the-variants.{Outside, InStandard, InExtended, Overlong}
 use Rattle.text.specs.Lines.{line, totals}
 use Rattle.text.specs.Strays.{strayAt, openAfter, strays}
-use Rattle.text.specs.Text.{frameOne, refusedOne, frames, refusals, lines}
+use Rattle.text.specs.Text.{frameOne, refusedOne, verdictsIn, frames, refusals, lines}
+use Rattle.text.proofs.LineLaws.{lines-more, frames-more, refusals-more}
 use Rattle.trace.specs.Machine.{add64, isOpen, numberAfter, nextOf, textOf, listingAfter, texts, lastText}
 use Rattle.trace.specs.declared.Listing.{Listing}
 
@@ -70,43 +72,52 @@ open-is r b = open-at r b (eqb b 0xF0) (eqb b 0xF1) (eqb b 0xF2)
 
 -- ---- the text from a state on
 
--- The reader's answers to bytes and the finish.
-abbrev pub told : LineReader → List ℕ → List Outcome
-told r bytes = run outcomeAt nextAfter r (feed bytes ++ finish ∷ [])
+-- What calls on a reader are answered with: its bytes, and then the finish.
+abbrev pub outcomesFrom : LineReader → List ℕ → List Outcome
+outcomesFrom r bytes = run outcomeAt nextAfter r (feed bytes ++ finish ∷ [])
 
 -- The text of answers and bytes that come after so many frames, refusals and stray bytes.
 abbrev pub Rest : (f r st : ℕ) → Bool → List Outcome → List ℕ → List ℕ
-Rest f r st o os bytes = lines (f + r) os ++ totals (f + frames os) (r + refusals os) (st + strays o bytes)
+Rest f r st o os bytes =
+    lines (f + r) (verdictsIn os) ++ totals (f + frames (verdictsIn os)) (r + refusals (verdictsIn os)) (st + strays o bytes)
 
 same-rest : (f f′ r r′ st st′ : ℕ) (o o′ : Bool) (os : List Outcome) (bytes : List ℕ) → f ≡ f′ → r ≡ r′ → st ≡ st′ → o ≡ o′ → Rest f r st o os bytes ≡ Rest f′ r′ st′ o′ os bytes
 same-rest f f′ r r′ st st′ o o′ os bytes p q u v = rw (p, q, u, v)
 
-same-text : (l : List ℕ) (n n′ x x′ y y′ z z′ : ℕ) (os : List Outcome) → n ≡ n′ → x ≡ x′ → y ≡ y′ → z ≡ z′ → l ++ (lines n os ++ totals x y z) ≡ l ++ (lines n′ os ++ totals x′ y′ z′)
-same-text l n n′ x x′ y y′ z z′ os p q u v = rw (p, q, u, v)
+same-text : (l : List ℕ) (n n′ x x′ y y′ z z′ : ℕ) (vs : List Verdict) → n ≡ n′ → x ≡ x′ → y ≡ y′ → z ≡ z′
+    → l ++ (lines n vs ++ totals x y z) ≡ l ++ (lines n′ vs ++ totals x′ y′ z′)
+same-text l n n′ x x′ y y′ z z′ vs p q u v = rw (p, q, u, v)
 
 rest-step : (f r st : ℕ) (o : Bool) (b : ℕ) (a : Outcome) (os : List Outcome) (bytes : List ℕ)
     → line (f + r + 1) a ++ Rest (f + frameOne a) (r + refusedOne a) (st + strayAt (roleOf b) o) (openAfter (roleOf b) o) os bytes ≡ Rest f r st o (a ∷ os) (b ∷ bytes)
 rest-step f r st o b a os bytes =
-    same-text (line (f + r + 1) a) _ (f + r + (frameOne a + refusedOne a)) _ (f + (frameOne a + frames os)) _ (r + (refusedOne a + refusals os)) _ (st + (strayAt (roleOf b) o + strays (openAfter (roleOf b) o) bytes)) os
+    let vs : List Verdict = verdictsIn os in
+    let all : List Verdict = verdictsIn (a ∷ os) in
+    let F = frames-more a os in
+    let R = refusals-more a os in
+    let z : ℕ = st + (strayAt (roleOf b) o + strays (openAfter (roleOf b) o) bytes) in
+    same-text (line (f + r + 1) a) _ (f + r + (frameOne a + refusedOne a)) _ (f + frames all) _ (r + refusals all) _ z vs
     (omega arith) (omega arith) (omega arith) (omega arith)
-    ∙ sym (append-assoc (line (f + r + 1) a) (lines (f + r + (frameOne a + refusedOne a)) os) (totals (f + (frameOne a + frames os)) (r + (refusedOne a + refusals os)) (st + (strayAt (roleOf b) o + strays (openAfter (roleOf b) o) bytes))))
+    ∙ sym (append-assoc (line (f + r + 1) a) (lines (f + r + (frameOne a + refusedOne a)) vs) (totals (f + frames all) (r + refusals all) z))
+    ∙ ap (λ (l : List ℕ). l ++ totals (f + frames all) (r + refusals all) z) (lines-more (f + r) a os)
 
 -- the finish
 same-last : (a : Outcome) (n n′ x x′ y y′ z z′ : ℕ) → n ≡ n′ → x ≡ x′ → y ≡ y′ → z ≡ z′ → line n a ++ totals x y z ≡ line n′ a ++ totals x′ y′ z′
 same-last a n n′ x x′ y y′ z z′ p q u v = rw (p, q, u, v)
 
 last-is : (s : Listing) → s .frames + s .refused + 1 < 2 ^ 64 → s .stray < 2 ^ 64
-    → lastText s ≡ Rest (s .frames) (s .refused) (s .stray) (isOpen (s .reader .mode)) (told (s .reader) []) []
+    → lastText s ≡ Rest (s .frames) (s .refused) (s .stray) (isOpen (s .reader .mode)) (outcomesFrom (s .reader) []) []
 unfolding lastText
 last-is s h g =
     let a : Outcome = finishOf (s .reader) .outcome in
     let k = one-answer a in
-    same-last a _ (s .frames + s .refused + 1) _ (s .frames + (frameOne a + 0)) _ (s .refused + (refusedOne a + 0)) _ (s .stray + 0)
+    same-last a _ (s .frames + s .refused + 1) _ (s .frames + frameOne a) _ (s .refused + refusedOne a) _ (s .stray + 0)
     (number-is (s .frames) (s .refused) h)
-    (add64-is (s .frames) (frameOne a) (omega arith) ∙ omega arith)
-    (add64-is (s .refused) (refusedOne a) (omega arith) ∙ omega arith)
+    (add64-is (s .frames) (frameOne a) (omega arith))
+    (add64-is (s .refused) (refusedOne a) (omega arith))
     (omega arith)
-    ∙ ap (λ (l : List ℕ). l ++ totals (s .frames + (frameOne a + 0)) (s .refused + (refusedOne a + 0)) (s .stray + 0)) (sym (append-nil (line (s .frames + s .refused + 1) a)))
+    ∙ ap (λ (l : List ℕ). l ++ totals (s .frames + frameOne a) (s .refused + refusedOne a) (s .stray + 0))
+    (sym (append-nil (line (s .frames + s .refused + 1) a)) ∙ lines-more (s .frames + s .refused) a [])
 
 -- a byte
 module _ (s : Listing) (b : ℕ) (h : s .frames + s .refused + 1 < 2 ^ 64) (g : s .stray + 1 < 2 ^ 64) where
@@ -137,12 +148,12 @@ module _ (s : Listing) (b : ℕ) (h : s .frames + s .refused + 1 < 2 ^ 64) (g : 
   unfolding textOf answer
   text-line = ap (λ (k : ℕ). line k (stepOf (s .reader) b .outcome)) (number-is (s .frames) (s .refused) h)
 
-  told-next : (bytes : List ℕ) → told (s .reader) (b ∷ bytes) ≡ answer ∷ told (nextOf s b .reader) bytes
+  outcomes-next : (bytes : List ℕ) → outcomesFrom (s .reader) (b ∷ bytes) ≡ answer ∷ outcomesFrom (nextOf s b .reader) bytes
   unfolding nextOf answer
-  told-next bytes = refl
+  outcomes-next bytes = refl
 
 pub all-text : (s : Listing) (bytes : List ℕ) → s .frames + s .refused + length bytes + 1 < 2 ^ 64 → s .stray + length bytes < 2 ^ 64
-    → texts s bytes ++ lastText (listingAfter s bytes) ≡ Rest (s .frames) (s .refused) (s .stray) (isOpen (s .reader .mode)) (told (s .reader) bytes) bytes
+    → texts s bytes ++ lastText (listingAfter s bytes) ≡ Rest (s .frames) (s .refused) (s .stray) (isOpen (s .reader .mode)) (outcomesFrom (s .reader) bytes) bytes
 all-text s [] h g = last-is s (omega arith) (omega arith)
 all-text s (b ∷ bytes) h g =
     let h₁ : s .frames + s .refused + 1 < 2 ^ 64 = omega arith in
@@ -155,10 +166,10 @@ all-text s (b ∷ bytes) h g =
     let S = next-stray s b h₁ g₁ in
     let k = one-answer a in
     let u = one-stray (roleOf b) o in
-    let ih : texts n bytes ++ lastText (listingAfter n bytes) ≡ Rest (n .frames) (n .refused) (n .stray) (isOpen (n .reader .mode)) (told (n .reader) bytes) bytes =
+    let ih : texts n bytes ++ lastText (listingAfter n bytes) ≡ Rest (n .frames) (n .refused) (n .stray) (isOpen (n .reader .mode)) (outcomesFrom (n .reader) bytes) bytes =
     all-text n bytes (omega arith) (omega arith) in
     append-assoc (textOf s b) (texts n bytes) (lastText (listingAfter n bytes))
-    ∙ ap (λ (l : List ℕ). textOf s b ++ l) (ih ∙ same-rest _ _ _ _ _ _ _ _ (told (n .reader) bytes) bytes F R S (next-open s b h₁ g₁))
-    ∙ ap (λ (l : List ℕ). l ++ Rest (s .frames + frameOne a) (s .refused + refusedOne a) (s .stray + strayAt (roleOf b) o) (openAfter (roleOf b) o) (told (n .reader) bytes) bytes) (text-line s b h₁ g₁)
-    ∙ rest-step (s .frames) (s .refused) (s .stray) o b a (told (n .reader) bytes) bytes
-    ∙ ap (λ (os : List Outcome). Rest (s .frames) (s .refused) (s .stray) o os (b ∷ bytes)) (sym (told-next s b h₁ g₁ bytes))
+    ∙ ap (λ (l : List ℕ). textOf s b ++ l) (ih ∙ same-rest _ _ _ _ _ _ _ _ (outcomesFrom (n .reader) bytes) bytes F R S (next-open s b h₁ g₁))
+    ∙ ap (λ (l : List ℕ). l ++ Rest (s .frames + frameOne a) (s .refused + refusedOne a) (s .stray + strayAt (roleOf b) o) (openAfter (roleOf b) o) (outcomesFrom (n .reader) bytes) bytes) (text-line s b h₁ g₁)
+    ∙ rest-step (s .frames) (s .refused) (s .stray) o b a (outcomesFrom (n .reader) bytes) bytes
+    ∙ ap (λ (os : List Outcome). Rest (s .frames) (s .refused) (s .stray) o os (b ∷ bytes)) (sym (outcomes-next s b h₁ g₁ bytes))

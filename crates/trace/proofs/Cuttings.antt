@@ -9,13 +9,14 @@ use lib.Seq.{take-at}
 use lib.Dec.{ltb}
 use borrow.Author.Tests.{le-ltb}
 use Rattle.lists.specs.Choice.{pick}
-use Rattle.framing.specs.Reference.{finish}
+use Rattle.framing.specs.Reference.{finish, Reference}
 use Rattle.framing.specs.Demand3.{feed}
 use Rattle.line.specs.Outcome.{Outcome}
+use Rattle.line.specs.Rowing.{rowing}
 use Rattle.line.proofs.Follows.{reader-follows}
 use Rattle.text.specs.Lines.{totals}
 use Rattle.text.specs.Strays.{strays}
-use Rattle.text.specs.Text.{frames, refusals, lines, answersTo, text}
+use Rattle.text.specs.Text.{verdictsIn, frames, refusals, lines, text}
 use Rattle.text.specs.Writing.{lineRoom}
 use Rattle.trace.specs.Machine.{newListing, nextOf, textOf, listingAfter, texts, takenOf, lastText, Lists}
 use Rattle.trace.specs.Cutting.{Calls, none, call, longest, WritesText, TakesSome}
@@ -50,18 +51,21 @@ calls-texts (call {s = s} chunk rest out out′ r l t) =
 
 -- ---- from a new state
 
-from-zero : (os : List Outcome) (bytes : List ℕ) → Rest 0 0 0 false os bytes ≡ lines 0 os ++ totals (frames os) (refusals os) (strays false bytes)
+from-zero : (os : List Outcome) (bytes : List ℕ)
+    → Rest 0 0 0 false os bytes
+    ≡ lines 0 (verdictsIn os) ++ totals (frames (verdictsIn os)) (refusals (verdictsIn os)) (strays false bytes)
 from-zero os bytes =
-    let x : 0 + frames os ≡ frames os = omega arith in
-    let y : 0 + refusals os ≡ refusals os = omega arith in
+    let x : 0 + frames (verdictsIn os) ≡ frames (verdictsIn os) = omega arith in
+    let y : 0 + refusals (verdictsIn os) ≡ refusals (verdictsIn os) = omega arith in
     let z : 0 + strays false bytes ≡ strays false bytes = omega arith in
     rw (x, y, z)
 
-new-text : (trace : List ℕ) → length trace ≤ longest → texts newListing trace ++ lastText (listingAfter newListing trace) ≡ text trace
+new-text : (trace : List ℕ) → length trace ≤ longest
+    → texts newListing trace ++ lastText (listingAfter newListing trace) ≡ text trace
 new-text trace h =
     all-text newListing trace (omega arith) (omega arith)
     ∙ ap (λ (os : List Outcome). Rest 0 0 0 false os trace) (reader-follows .same (feed trace ++ finish ∷ []))
-    ∙ from-zero (answersTo trace) trace
+    ∙ from-zero (Reference rowing (feed trace ++ finish ∷ [])) trace
 
 pub writes-text : WritesText
 writes-text trace written h s =

@@ -2,7 +2,7 @@
 use mathlib.Core.Path.{_≡_}
 use mathlib.Core.Bool.{Bool, true, false}
 use mathlib.Core.List.{List, [], _∷_, _++_}
-use Prim.Native.Nat.{ℕ, _+_, _-_, _%_, _^_, _<_, _≤_}
+use Prim.Native.Nat.{ℕ, _+_, _-_, _*_, _%_, _^_, _<_, _≤_}
 use lib.ListN.{length, take, drop}
 use lib.Dec.{ltb}
 use Rattle.lists.specs.Choice.{pick}
@@ -19,7 +19,6 @@ use Rattle.text.specs.Text.{frameOne, refusedOne}
 use Rattle.text.specs.Writing.{lineRoom}
 use Rattle.trace.specs.declared.Listing.{Listing}
 use Rattle.trace.specs.declared.Listed.{Listed}
-use Rattle.trace.specs.declared.Tally.{Tally}
 
 -- ---- what an answer and a mode tell
 
@@ -97,7 +96,7 @@ pub record Lists (s : Listing) (chunk out out′ : List ℕ) (r : Listed) : Type
 
 -- The room in which the line of the finish and the totals fit.
 abbrev pub lastRoom : ℕ
-lastRoom = 192
+lastRoom = 2 * lineRoom
 
 -- The text after the last byte.
 unfoldable pub lastText : Listing → List ℕ
