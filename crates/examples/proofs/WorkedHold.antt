@@ -3,16 +3,17 @@ use mathlib.Core.Path.{refl}
 use Rattle.lists.specs.Choice.{noneOf}
 use Rattle.frame.specs.Stuffing.{stuffByte, stuff, prepend, unstuff}
 use Rattle.frame.specs.Checksum.{sumFrom}
-use Rattle.frame.specs.Frame.{contentsOf, startOf, addressesOf, payload, wireOf}
+use Rattle.frame.specs.Frame.{contentsOf, addressesOf, payload, wireOf}
 use Rattle.frame.specs.Verdict.{frameIn, judgeBytes, judge, isTerminated, verdict}
 use Rattle.frame.specs.Answers.{frameDraft}
 use Rattle.command.specs.Entries.{withEntry, parse}
 use Rattle.reply.specs.Status.{soundStatus, statusIn}
 use Rattle.reply.specs.Replies.{headIn, afterStatus, replyIn}
 use Rattle.lease.specs.Lease.{stopFrame, answerOf, heldAfter}
-use Rattle.lease.specs.History.{answersOn}
 use Rattle.examples.specs.Worked.{AllHold, markedExamples}
 
 pub examples-hold : AllHold markedExamples
-unfolding AllHold noneOf stuffByte stuff prepend unstuff sumFrom contentsOf startOf addressesOf payload wireOf frameIn judgeBytes judge isTerminated verdict frameDraft withEntry parse soundStatus statusIn headIn afterStatus replyIn stopFrame answerOf heldAfter answersOn
+unfolding AllHold noneOf stuffByte stuff prepend unstuff sumFrom contentsOf addressesOf payload wireOf frameIn
+    judgeBytes judge isTerminated verdict frameDraft withEntry parse soundStatus statusIn headIn afterStatus replyIn
+    stopFrame answerOf heldAfter
 examples-hold = (refl, (refl, (refl, (refl, (refl, (refl, (refl, (refl, (refl, (refl, (refl, (refl, tt))))))))))))

@@ -3,7 +3,7 @@ use Prim.Native.Nat.{ℕ}
 use mathlib.Core.Bool.{true}
 use mathlib.Core.Path.{_≡_}
 use mathlib.Core.List.{List, [], _∷_}
-use Rattle.answer.specs.Answer.{result, refused, result as granted, Answer}
+use Rattle.answer.specs.Answer.{result, refused, Answer}
 use Rattle.frame.specs.Frame.{Frame, standard, extended}
 use Rattle.frame.specs.Verdict.{Verdict, verdict}
 use Rattle.frame.specs.Answers.{frameDraft}
@@ -12,19 +12,22 @@ use Rattle.reply.specs.Replies.{reply, replyIn, Reply}
 use Rattle.lease.specs.Lease.{hold, stop}
 use Rattle.lease.specs.History.{newTable, answersOn}
 
--- A slice and its verdict; a frame and its bytes on the wire; contents and the reply that they are; an address and the stop that its holder gets.
+-- A slice and its verdict; a frame and its bytes on the wire; contents and the reply that they are; an address and the
+-- stop that its holder gets.
 pub data Case : Type 0 where
   reads : (wire : List ℕ) → Verdict → Case
   writes : Frame → (wire : List ℕ) → Case
   replies : (contents : List ℕ) → Answer Reply → Case
   stops : (address : ℕ) → (wire : List ℕ) → Case
 
--- What a case says of the definitions that the contracts cite. The stop is one by token 1, which took the address on a new table; its output has 120 bytes.
+-- What a case says of the definitions that the contracts cite. The stop is one by token 1, which took the address on a
+-- new table; its output has 120 bytes.
 abbrev pub Holds : Case → Type 0
 Holds (reads wire expected) = verdict wire ≡ expected
 Holds (writes frame wire) = frameDraft frame ≡ result wire
 Holds (replies contents expected) = replyIn contents ≡ expected
-Holds (stops address wire) = answersOn newTable (hold address 1 ∷ stop address 1 120 ∷ []) ≡ granted [] ∷ granted wire ∷ []
+Holds (stops address wire) =
+    answersOn newTable (hold address 1 ∷ stop address 1 120 ∷ []) ≡ result [] ∷ result wire ∷ []
 
 -- Every case of a list holds.
 unfoldable pub AllHold : List Case → Type 0

@@ -42,7 +42,7 @@ unfolding workoutDraft
 workout-short limits w room =
     draft-short (workoutDraft limits w) room (by-bool (withinLimits limits w) (λ y. simp y (omega (arith, contents-length w))) (λ y. simp y tt))
 
-token-fits : (a t room held : ℕ) → WriteShort (writtenLength (answerOf (stop a t room) held))
+token-fits : (a t room held : ℕ) → WriteShort (writtenLength (answerOf held (stop a t room)))
 unfolding answerOf
 token-fits a t room held =
     by-bool (inRange a)
@@ -51,9 +51,10 @@ token-fits a t room held =
     (λ o. simp (r, o) tt))
     (λ r. simp r tt)
 
-pub stop-fits : (a t room : ℕ) (s : List ℕ) → WriteShort (writtenLength (lentAnswer (stop a t room) s))
+pub stop-fits : (a t room : ℕ) (s : List ℕ) → WriteShort (writtenLength (lentAnswer s (stop a t room)))
 unfolding lentAnswer
-stop-fits a t room s = by-bool (eqb (length s) 2048) (λ y. simp y (token-fits a t room (getD (tableOf s) a 0))) (λ y. simp y tt)
+stop-fits a t room s =
+    by-bool (eqb (length s) 2048) (λ y. simp y (token-fits a t room (getD (tableOf s) a 0))) (λ y. simp y tt)
 
 pub read-short : (w : List ℕ) (room : ℕ) → ReadShort (readAnswer (verdict w) room)
 unfolding readAnswer contentsOf

@@ -1,4 +1,4 @@
--- Packing a line reader's length and mode and taking them apart are inverse, and an answer that tells nothing is told from every other.
+-- Packing a line reader's state and taking it apart are inverse, and an answer that tells nothing is told from every other.
 use Prim.Native.Nat.{ℕ, _+_, _*_, _/_, _%_, _<_}
 use mathlib.Core.Path.{_≡_, refl, sym, ap, _∙_}
 use mathlib.Core.Bool.{Bool, true, false}
@@ -10,11 +10,12 @@ use Rattle.lists.specs.Choice.{pick}
 use Rattle.frame.specs.Answers.{standardOutline, extendedOutline, FrameOutline}
 use Rattle.answer.specs.Answer.{Answer, result, refused}
 use Rattle.line.specs.Outcome.{silent, tells}
-use Rattle.line.specs.Reader.{reader}
+use Rattle.line.specs.Reader.{lentReader}
+use Rattle.line.specs.declared.State.{State}
 use Rattle.line.specs.declared.Mode.{Mode}
 use Rattle.line.specs.declared.Mode.the-variants.{Outside, InStandard, InExtended, Overlong}
 use Rattle.exports.specs.Packed.{Fields, Tells}
-use Rattle.exports.specs.LineState.{digitOf, modeOf, stateOf, readerIn}
+use Rattle.exports.specs.LineState.{digitOf, modeOf, packedState, stateIn, readerIn}
 use Rattle.exports.specs.LineAnswers.{lineFields}
 
 digit-small : (m : Mode) → digitOf m < 4
@@ -30,12 +31,12 @@ mode-of-digit InExtended = refl
 mode-of-digit Overlong = refl
 
 -- A reader that was packed is what its number is taken apart to.
-pub state-tells : (bytes : List ℕ) (len : ℕ) (m : Mode) → readerIn bytes (stateOf len m) ≡ reader bytes len m
-state-tells bytes len m =
-    let l : stateOf len m / 4 ≡ len = omega (arith, digit-small m) in
-    let d : stateOf len m % 4 ≡ digitOf m = omega (arith, digit-small m) in
-    let e : modeOf (stateOf len m % 4) ≡ m = ap modeOf d ∙ mode-of-digit m in
-    λ i. record { bytes = bytes; len = l i; mode = e i }
+pub state-tells : (bytes : List ℕ) (s : State) → readerIn bytes (packedState s) ≡ lentReader bytes s
+state-tells bytes s =
+    let l : packedState s / 4 ≡ s .len = omega (arith, digit-small (s .mode)) in
+    let d : packedState s % 4 ≡ digitOf (s .mode) = omega (arith, digit-small (s .mode)) in
+    let e : modeOf (packedState s % 4) ≡ s .mode = ap modeOf d ∙ mode-of-digit (s .mode) in
+    λ i. record { bytes = bytes; state = record { len = l i; mode = e i } }
 
 digit-of-mode : (n : ℕ) → n < 4 → digitOf (modeOf n) ≡ n
 digit-of-mode n h = by-tests (eqb n 0) (eqb n 1) (eqb n 2) refl refl refl
@@ -47,8 +48,8 @@ digit-of-mode n h = by-tests (eqb n 0) (eqb n 1) (eqb n 2) refl refl refl
     by-tests false false false a b c = omega (arith, h, eqb-false n 0 a, eqb-false n 1 b, eqb-false n 2 c)
 
 -- A number is that of the reader that it is taken apart to.
-pub state-packs : (bytes : List ℕ) (n : ℕ) → stateOf (readerIn bytes n .len) (readerIn bytes n .mode) ≡ n
-state-packs bytes n =
+pub state-packs : (n : ℕ) → packedState (stateIn n) ≡ n
+state-packs n =
     let h : n % 4 < 4 = omega arith in
     ap (λ (d : ℕ). d + 4 * (n / 4)) (digit-of-mode (n % 4) h) ∙ omega arith
 

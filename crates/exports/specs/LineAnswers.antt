@@ -3,11 +3,11 @@ use Prim.Native.Nat.{ℕ}
 use mathlib.Core.List.{List}
 use mathlib.Core.Path.{_≡_}
 use Rattle.line.specs.Outcome.{Summary, silent, tells, summaryOf}
-use Rattle.line.specs.Feed.{Feeding, feedOf}
-use Rattle.line.specs.Reader.{Turn, finishOf}
+use Rattle.line.specs.Feed.{ChunkTurn, feedOf}
+use Rattle.line.specs.Reader.{ReaderTurn, finishOf}
 use Rattle.exports.specs.Packed.{Fields, Tells}
 use Rattle.exports.specs.Answers.{resultFields, readFields}
-use Rattle.exports.specs.LineState.{stateOf, readerIn}
+use Rattle.exports.specs.LineState.{packedState, readerIn}
 
 -- Where nothing is told the kind is 2, which is no kind of frame, and all else is 0. A frame or a refusal is told as reading tells it.
 abbrev pub lineFields : Summary → Fields
@@ -15,20 +15,20 @@ lineFields silent = resultFields 2 0 0 0
 lineFields (tells a) = readFields a
 
 -- Bytes fed to the reader that an array and a number are.
-abbrev pub fedTo : List ℕ → ℕ → List ℕ → Feeding
+abbrev pub fedTo : List ℕ → ℕ → List ℕ → ChunkTurn
 fedTo bytes state input = feedOf (readerIn bytes state) input
 
-abbrev pub finished : List ℕ → ℕ → Turn
+abbrev pub finished : List ℕ → ℕ → ReaderTurn
 finished bytes state = finishOf (readerIn bytes state)
 
 -- A number that is answered, with what stands in the array, the state and the count afterwards.
-pub record FedAs (answer : ℕ) (bytes : List ℕ) (state taken : ℕ) (f : Feeding) : Type 0 where
-  pub answered : Tells answer (lineFields (summaryOf (f .outcome)))
+pub record FedAs (answer : ℕ) (bytes : List ℕ) (state taken : ℕ) (f : ChunkTurn) : Type 0 where
+  pub answered : Tells answer (lineFields (summaryOf (f .answer)))
   pub bytes-left : bytes ≡ f .next .bytes
-  pub state-left : state ≡ stateOf (f .next .len) (f .next .mode)
+  pub state-left : state ≡ packedState (f .next .state)
   pub count : taken ≡ f .taken
 
 -- The same of a finish, where the array is not lent.
-pub record FinishedAs (answer state : ℕ) (t : Turn) : Type 0 where
-  pub answered : Tells answer (lineFields (summaryOf (t .outcome)))
-  pub state-left : state ≡ stateOf (t .next .len) (t .next .mode)
+pub record FinishedAs (answer state : ℕ) (t : ReaderTurn) : Type 0 where
+  pub answered : Tells answer (lineFields (summaryOf (t .answer)))
+  pub state-left : state ≡ packedState (t .next .state)

@@ -56,7 +56,7 @@ pub extern "C" fn csafe_read(wire: &[u8], out: &mut [u8]) -> u64
 }
 
 // Feeds bytes to a line reader up to the first that is answered, and counts those taken. With no answer all are taken. The reader is its array
-// and the number that holds its length and mode, 0 for a new one.
+// and the number that holds its state, 0 for a new one.
 #[no_mangle]
 pub extern "C" fn csafe_feed(
     bytes: &mut [u8; 118],
@@ -66,12 +66,10 @@ pub extern "C" fn csafe_feed(
 ) -> u64
     ensures { λ r. ⌜ FedAs r (now (bytes .exit)) (now (state .exit)) (now (taken .exit)) (fedTo (now (bytes .entry)) (now (state .entry)) (now (input .entry))) ⌝ }
 {
-    let before = *state;
-    let len = line_state::len_in(before);
-    let mode = line_state::mode_in(before);
-    let fed = line::feed_in(bytes, len, mode, input);
-    let after = fed.mode;
-    *state = line_state::state_of(fed.len, after);
+    let before = line_state::state_in(*state);
+    let fed = line::feed_in(bytes, before, input);
+    let after = fed.state;
+    *state = line_state::pack_state(after);
     *taken = fed.taken as u64;
     let told = fed.told;
     packed::of_told(told)
@@ -82,10 +80,10 @@ pub extern "C" fn csafe_feed(
 pub extern "C" fn csafe_finish(state: &mut u64) -> u64
     ensures { λ r. ⌜ ((bytes : List ℕ) → FinishedAs r (now (state .exit)) (finished bytes (now (state .entry)))) ⌝ }
 {
-    let mode = line_state::mode_in(*state);
-    let ended = line::finish_in(mode);
-    let after = ended.mode;
-    *state = line_state::state_of(ended.len, after);
+    let before = line_state::state_in(*state);
+    let ended = line::finish_in(before);
+    let after = ended.state;
+    *state = line_state::pack_state(after);
     let told = ended.told;
     packed::of_told(told)
 }
@@ -131,8 +129,8 @@ pub extern "C" fn csafe_write_time_workout(
 // Takes a free address. Refusals 18, 9, 14 and 10.
 #[no_mangle]
 pub extern "C" fn csafe_hold(table: &mut [u8], address: u32, token: u64) -> u64
-    ensures { λ r. ⌜ Tells r (leaseFields (lentAnswer (hold address token) (now (table .entry)))) ⌝ }
-    ensures { λ r. ⌜ now (table .exit) ≡ lentAfter (hold address token) (now (table .entry)) ⌝ }
+    ensures { λ r. ⌜ Tells r (leaseFields (lentAnswer (now (table .entry)) (hold address token))) ⌝ }
+    ensures { λ r. ⌜ now (table .exit) ≡ lentAfter (now (table .entry)) (hold address token) ⌝ }
 {
     let outcome = lease::hold_lent(table, address, token);
     packed::of_outcome(outcome)
@@ -141,8 +139,8 @@ pub extern "C" fn csafe_hold(table: &mut [u8], address: u32, token: u64) -> u64
 // Frees an address for its holder. Refusals 18, 9 and 11.
 #[no_mangle]
 pub extern "C" fn csafe_release(table: &mut [u8], address: u32, token: u64) -> u64
-    ensures { λ r. ⌜ Tells r (leaseFields (lentAnswer (release address token) (now (table .entry)))) ⌝ }
-    ensures { λ r. ⌜ now (table .exit) ≡ lentAfter (release address token) (now (table .entry)) ⌝ }
+    ensures { λ r. ⌜ Tells r (leaseFields (lentAnswer (now (table .entry)) (release address token))) ⌝ }
+    ensures { λ r. ⌜ now (table .exit) ≡ lentAfter (now (table .entry)) (release address token) ⌝ }
 {
     let outcome = lease::release_lent(table, address, token);
     packed::of_outcome(outcome)
@@ -151,8 +149,10 @@ pub extern "C" fn csafe_release(table: &mut [u8], address: u32, token: u64) -> u
 // Writes the stop frame for the holder. Refusals 18, 9, 11 and 1.
 #[no_mangle]
 pub extern "C" fn csafe_stop(table: &[u8], address: u32, token: u64, out: &mut [u8]) -> u64
-    ensures { λ r. ⌜ Tells r (writeFields (writtenLength (lentAnswer (stop address token (length (now (out .entry)))) (now (table .entry))))) ⌝ }
-    ensures { λ r. ⌜ now (out .exit) ≡ outAfter (lentAnswer (stop address token (length (now (out .entry)))) (now (table .entry))) (now (out .entry)) ⌝ }
+    ensures { λ r. ⌜ Tells r (writeFields
+        (writtenLength (lentAnswer (now (table .entry)) (stop address token (length (now (out .entry))))))) ⌝ }
+    ensures { λ r. ⌜ now (out .exit)
+        ≡ outAfter (lentAnswer (now (table .entry)) (stop address token (length (now (out .entry))))) (now (out .entry)) ⌝ }
 {
     let written = lease::stop_lent(table, address, token, out);
     packed::of_written(written)

@@ -1,8 +1,9 @@
-// The number that holds the length and the mode of a line reader: the mode in the lowest two bits, the length above them.
+// The number that holds the state of a line reader: the mode in the lowest two bits, the length above them.
 use line::Mode;
+use line::State;
 ghost use mathlib.Core.Path.{_≡_};
-ghost use Prim.Native.Nat.{_%_, _/_, _<_, _^_};
-ghost use Rattle.exports.specs.LineState.{digitOf, modeOf, stateOf};
+ghost use Prim.Native.Nat.{_%_, _<_, _^_};
+ghost use Rattle.exports.specs.LineState.{digitOf, modeOf, packedState, stateIn};
 
 const OUTSIDE: u64 = 0;
 
@@ -15,10 +16,10 @@ const OVERLONG: u64 = 3;
 // How many modes there are.
 const MODES: u64 = 4;
 
-pub(crate) fn mode_in(state: u64) -> Mode
-    ensures { λ r. ⌜ r ≡ modeOf (state % 4) ⌝ }
+fn mode_in(number: u64) -> Mode
+    ensures { λ r. ⌜ r ≡ modeOf (number % 4) ⌝ }
 {
-    let digit = state % MODES;
+    let digit = number % MODES;
     if digit == OUTSIDE {
         return Mode::Outside;
     }
@@ -31,10 +32,14 @@ pub(crate) fn mode_in(state: u64) -> Mode
     Mode::Overlong
 }
 
-pub(crate) fn len_in(state: u64) -> usize
-    ensures { λ r. ⌜ r ≡ state / 4 ⌝ }
+pub(crate) fn state_in(number: u64) -> State
+    ensures { λ r. ⌜ r ≡ stateIn number ⌝ }
 {
-    (state / MODES) as usize
+    let mode = mode_in(number);
+    State {
+        len: (number / MODES) as usize,
+        mode,
+    }
 }
 
 fn digit_of(mode: Mode) -> u64
@@ -49,9 +54,10 @@ fn digit_of(mode: Mode) -> u64
     }
 }
 
-pub(crate) fn state_of(len: usize, mode: Mode) -> u64
-    requires { ⌜ len < 2 ^ 62 ⌝ }
-    ensures { λ r. ⌜ r ≡ stateOf len mode ⌝ }
+pub(crate) fn pack_state(state: State) -> u64
+    requires { ⌜ state .len < 2 ^ 62 ⌝ }
+    ensures { λ r. ⌜ r ≡ packedState state ⌝ }
 {
-    digit_of(mode) + MODES * (len as u64)
+    let mode = state.mode;
+    digit_of(mode) + MODES * (state.len as u64)
 }

@@ -1,3 +1,4 @@
+pub mod FlagLaws
 pub mod StuffingLaws
 pub mod ChecksumLaws
 pub mod EscapeLaws

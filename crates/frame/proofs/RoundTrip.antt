@@ -17,27 +17,19 @@ use lib.Seq.{take-at, getD-at}
 use Rattle.lists.proofs.Lists.{drop-two}
 use Rattle.frame.specs.Stuffing.{stuff, bytes}
 use Rattle.frame.specs.Checksum.{checksum}
-use Rattle.frame.specs.Frame.{Frame, standard, extended, contentsOf, startOf, addressesOf, payload, wireOf}
-use Rattle.frame.specs.Conditions.{startFlag}
+use Rattle.frame.specs.Frame.{Frame, standard, extended, contentsOf, frameKind, addressesOf, payload, wireOf}
+use Rattle.frame.specs.Flags.{startFlag, stopFlag}
 use Rattle.frame.specs.declared.Kind.{Kind}
 use Rattle.frame.specs.declared.Kind.the-variants.{Standard, Extended}
 use Rattle.frame.proofs.StuffingLaws.{unstuff-stuff, flagless-stuff, stuff-unstuff}
 use Rattle.frame.proofs.ChecksumLaws.{contents-last}
 use Rattle.frame.proofs.VerdictLaws.{whole, whole-length, whole-verdict, judge-bytes}
-use Rattle.frame.proofs.Table.{accepted-exactly, unstuffs-bytes, free-flagless, fewest-is}
+use Rattle.frame.proofs.Table.{accepted-exactly, unstuffs-bytes, fewest-is}
+use Rattle.frame.proofs.FlagLaws.{free-flagless}
 
 -- ---- frames and verdicts
 
-abbrev kindOfFrame : Frame → Kind
-kindOfFrame (standard c) = Standard
-kindOfFrame (extended to from c) = Extended
-
-start-of : (f : Frame) → startOf f ≡ startFlag (kindOfFrame f)
-unfolding startOf
-start-of (standard c) = refl
-start-of (extended to from c) = refl
-
-judge-payload : (f : Frame) → judgeBytes (kindOfFrame f) (bytes (payload f)) ≡ result f
+judge-payload : (f : Frame) → judgeBytes (frameKind f) (bytes (payload f)) ≡ result f
 unfolding judgeBytes payload addressesOf contentsOf frameIn
 judge-payload (standard c) =
     let u = c ++ (checksum c ∷ []) in
@@ -57,14 +49,14 @@ pub reads-back : (f : Frame) → length (wireOf f) ≤ 120 → verdict (wireOf f
 unfolding wireOf
 reads-back f l =
     let b = stuff (payload f) in
-    let e : wireOf f ≡ whole (kindOfFrame f) b = ap (λ (s : ℕ). s ∷ b ++ (0xF2 ∷ [])) (start-of f) in
-    ap verdict e ∙ whole-verdict (kindOfFrame f) b (flagless-stuff (payload f))
-    ∙ judge-bytes (kindOfFrame f) b (omega (arith, ap length e, whole-length (kindOfFrame f) b))
-    ∙ ap (judgeBytes (kindOfFrame f)) (unstuff-stuff (payload f)) ∙ judge-payload f
+    let e : wireOf f ≡ whole (frameKind f) b = refl in
+    whole-verdict (frameKind f) b (flagless-stuff (payload f))
+    ∙ judge-bytes (frameKind f) b (omega (arith, ap length e, whole-length (frameKind f) b))
+    ∙ ap (judgeBytes (frameKind f)) (unstuff-stuff (payload f)) ∙ judge-payload f
 
 payload-in : (kind : Kind) (u : List ℕ) → addressCount kind + 1 ≤ length u → lastOf u ≡ checksum (contentsIn (addressCount kind) u)
-    → (payload (frameIn kind u) ≡ u) × (startOf (frameIn kind u) ≡ startFlag kind)
-unfolding payload addressesOf contentsOf startOf frameIn
+    → (payload (frameIn kind u) ≡ u) × (frameKind (frameIn kind u) ≡ kind)
+unfolding payload addressesOf contentsOf frameIn
 payload-in Standard u h r = (ap (λ (b : ℕ). contentsIn 0 u ++ (b ∷ [])) (sym r) ∙ sym (contents-last 0 u h), refl)
 payload-in Extended u h r = (
   ap (λ (b : ℕ). getD u 0 0 ∷ getD u 1 0 ∷ contentsIn 2 u ++ (b ∷ [])) (sym r)
@@ -82,7 +74,7 @@ writes-back w f e =
     let u = s .unstuffed in
     let p = payload-in (t .kind) u (omega (arith, s .enough, fewest-is (t .kind))) (s .sum) in
     let b : stuff u ≡ t .body = stuff-unstuff false (t .body) u (unstuffs-bytes (s .unstuffs)) (free-flagless (t .body) (t .inside)) in (
-      ap wireOf (s .frame) ∙ ap (λ (n : ℕ). n ∷ stuff (payload (frameIn (t .kind) u)) ++ (0xF2 ∷ [])) (p .1)
+      ap wireOf (s .frame) ∙ ap (λ (k : Kind). startFlag k ∷ stuff (payload (frameIn (t .kind) u)) ++ (stopFlag ∷ [])) (p .1)
           ∙ ap (λ (l : List ℕ). startFlag (t .kind) ∷ stuff l ++ (0xF2 ∷ [])) (p .0)
           ∙ ap (λ (l : List ℕ). startFlag (t .kind) ∷ l ++ (0xF2 ∷ [])) b
           ∙ sym (t .shape),

@@ -15,7 +15,8 @@ use Rattle.lists.specs.Splice.{splice}
 use Rattle.lists.proofs.Cases.{by-bool}
 use Rattle.lists.proofs.Tests.{within-yes, within-true, none-append}
 use Rattle.lists.proofs.Splices.{splice-nil, splice-splice, length-splice}
-use Rattle.frame.specs.Stuffing.{isFlag, isStuffed, stuffByte, stuff, Unstuffed, badEscape, bytes, prepend, unstuff, flagless}
+use Rattle.frame.specs.Flags.{isFlag, flagless}
+use Rattle.frame.specs.Stuffing.{isStuffed, stuffByte, stuff, Unstuffed, badEscape, bytes, prepend, unstuff}
 use Rattle.frame.specs.Private.{unstuffedBytes}
 
 -- ---- one byte

@@ -1,7 +1,8 @@
 -- Which verdict is given exactly when: document 01's table of refusals, and demand 2's "accepted exactly when".
 use Rattle.frame.specs.Frame.{contentsOf, Frame}
 use Rattle.frame.specs.Answers.{readAnswer, FrameOutline}
-use Rattle.frame.specs.Conditions.{ReadJudged, refusedBy, noRoom, fits, FlagFree, Terminated, WithinLimit, EscapesSound, Unstuffs, none, plain, escape, fewest, SoundFrame, Judged, truncated, long, badEscape as badEscapes, short, badSum, sound}
+use Rattle.frame.specs.Conditions.{ReadJudged, refusedBy, noRoom, fits, Terminated, WithinLimit, EscapesSound, Unstuffs, none, plain, escape, fewest, SoundFrame, Judged, truncated, long, badEscape as badEscapes, short, badSum, sound}
+use Rattle.framing.specs.Reference.{FlagFree}
 use Prim.Native.Nat.{ℕ, zero, suc, _+_, _≤_, _<_}
 use mathlib.Core.Path.{_≡_, refl, sym, ap, _∙_, subst}
 use mathlib.Core.Logic.{_⊎_, inl, inr}
@@ -14,14 +15,16 @@ use borrow.Author.Tests.{leb-true, leb-false, eqb-true, eqb-false, lt-leb, le-le
 use Rattle.lists.specs.Choice.{pick}
 use Rattle.lists.proofs.Cases.{by-bool}
 use Rattle.lists.proofs.Tests.{none-at, at-none}
-use Rattle.frame.specs.Stuffing.{isFlag, Unstuffed, badEscape, bytes, prepend, unstuff, flagless}
+use Rattle.frame.specs.Flags.{isFlag, flagless, kindOf}
+use Rattle.frame.specs.Stuffing.{Unstuffed, badEscape, bytes, prepend, unstuff}
 use Rattle.frame.specs.Checksum.{checksum}
-use Rattle.frame.specs.Verdict.{Verdict, kindOf, addressCount, contentsIn, lastOf, frameIn, judge, bodyOf, isTerminated, verdict}
+use Rattle.frame.specs.Verdict.{Verdict, addressCount, contentsIn, lastOf, frameIn, judge, bodyOf, isTerminated, verdict}
 use Rattle.answer.specs.Answer.{result, refused, Answer}
 use Rattle.frame.specs.declared.Kind.{Kind}
 use Rattle.frame.specs.declared.Kind.the-variants.{Standard, Extended}
 use Rattle.frame.proofs.StuffingLaws.{prepend-inv}
 use Rattle.frame.proofs.VerdictLaws.{whole-length, whole-terminated, whole-verdict, terminated-means, terminated-whole, verdict-truncated, judge-long, judge-escape, judge-short, judge-sum, judge-sound}
+use Rattle.frame.proofs.FlagLaws.{flagless-free, free-flagless}
 
 -- ---- the conditions, and what the definitions compute
 
@@ -78,20 +81,6 @@ sound-unstuffs (b ∷ k ∷ s) h =
     ((0xF0 + k) ∷ r .0, simp (y, le-leb k 3 low, r .1)))
     (λ n. let r = sound-unstuffs (k ∷ s) (λ i l e. let q = h (suc i) (omega arith) e in (omega (arith, q .0), omega (arith, q .1, after-cons b (k ∷ s) i))) in
     (b ∷ r .0, (simp n) ∙ ap (prepend b) (r .1)))
-
-flagless-free : (s : List ℕ) → flagless s ≡ true → FlagFree s
-flagless-free s h i k =
-    let f = none-at isFlag s h i k in
-    by-bool (leb 0xF0 (getD s i 0))
-    (λ y. let g : leb (getD s i 0) 0xF2 ≡ false = simp y at f in inr (leb-false _ _ g))
-    (λ n. inl (leb-false _ _ n))
-
-pub free-flagless : (s : List ℕ) → FlagFree s → flagless s ≡ true
-free-flagless s h = at-none isFlag s (λ i k. apart (getD s i 0) (h i k))
-  where
-    apart : (b : ℕ) → (b < 0xF0) ⊎ (0xF2 < b) → isFlag b ≡ false
-    apart b (inl l) = simp (lt-leb 0xF0 b l)
-    apart b (inr l) = simp (le-leb 0xF0 b (omega arith), lt-leb b 0xF2 l)
 
 pub fewest-is : (kind : Kind) → fewest kind ≡ addressCount kind + 1
 fewest-is Standard = refl

@@ -13,13 +13,13 @@ use Rattle.lists.specs.Choice.{within, noneOf}
 use Rattle.lists.proofs.Cases.{by-bool, both-true}
 use Rattle.lists.proofs.Lists.{drop-two}
 use Rattle.lists.proofs.Tests.{within-yes, within-true, none-drop, none-stronger}
-use Rattle.frame.specs.Stuffing.{isFlag, isStuffed, Unstuffed, badEscape, bytes, prepend, unstuff, flagless}
+use Rattle.frame.specs.Flags.{isFlag, flagless, kindOf, startFlag}
+use Rattle.frame.specs.Stuffing.{isStuffed, Unstuffed, badEscape, bytes, prepend, unstuff}
 use Rattle.frame.specs.Checksum.{sumFrom, checksum}
 use Rattle.frame.specs.Frame.{Frame, contentsOf}
-use Rattle.frame.specs.Verdict.{Verdict, kindOf, addressCount, contentsIn, lastOf, frameIn, judgeBytes, judge, bodyOf, isTerminated, verdict}
+use Rattle.frame.specs.Verdict.{Verdict, addressCount, contentsIn, lastOf, frameIn, judgeBytes, judge, bodyOf, isTerminated, verdict}
 use Rattle.answer.specs.Answer.{result, refused}
 use Rattle.answer.specs.Draft.{draftOut}
-use Rattle.frame.specs.Conditions.{startFlag}
 use Rattle.frame.specs.Answers.{outlineOf, judgeAnswer, readAnswer, readOut}
 use Rattle.frame.specs.Private.{isBounded, frameOf, headerKind, headed, readAs, scanFrom, unstuffedBytes, SoundAt, Unescaped, UnescapedAfter, Examines, judgeWhole, ExaminesWhole}
 use Rattle.frame.specs.declared.Kind.{Kind}
@@ -29,23 +29,12 @@ use Rattle.frame.specs.declared.Header.the-variants.{Plain, Addressed}
 use Rattle.frame.specs.declared.candidate.Scan.the-variants.{Fault, Good}
 use Rattle.frame.specs.declared.candidate.Examined.{Examined}
 use Rattle.frame.specs.declared.candidate.Examined.the-variants.{Unsound, Sound}
+use Rattle.frame.proofs.FlagLaws.{kind-start, start-kind, start-between}
 use Rattle.frame.proofs.ChecksumLaws.{contents-last, sum-right, sum-wrong, sum-after}
 use Rattle.frame.proofs.StuffingLaws.{unstuff-plain}
 use Rattle.frame.proofs.EscapeLaws.{scan-as-is}
 
 -- ---- a start flag, a body and F2
-
-pub kind-start : (kind : Kind) → kindOf (startFlag kind) ≡ kind
-kind-start Standard = refl
-kind-start Extended = refl
-
-pub start-between : (kind : Kind) → (0xF0 ≤ startFlag kind) × (startFlag kind ≤ 0xF1)
-start-between Standard = omega arith
-start-between Extended = omega arith
-
-start-kind : (b : ℕ) → 0xF0 ≤ b → b ≤ 0xF1 → startFlag (kindOf b) ≡ b
-start-kind b h k =
-    by-bool (eqb b 0xF0) (λ y. (simp y) ∙ sym (eqb-true b 0xF0 y)) (λ n. let z : 0xF1 ≡ b = omega (arith, eqb-false b 0xF0 n) in (simp n) ∙ z)
 
 abbrev pub whole : Kind → List ℕ → List ℕ
 whole kind body = startFlag kind ∷ body ++ (0xF2 ∷ [])

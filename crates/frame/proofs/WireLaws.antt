@@ -9,7 +9,7 @@ use Rattle.lists.specs.Splice.{splice}
 use Rattle.lists.proofs.Splices.{splice-next, set-splice}
 use Rattle.frame.specs.Stuffing.{stuffByte, stuff}
 use Rattle.frame.specs.Checksum.{checksum}
-use Rattle.frame.specs.Frame.{Frame, contentsOf, startOf, addressesOf, payload, wireOf}
+use Rattle.frame.specs.Frame.{Frame, contentsOf, addressesOf, payload, wireOf}
 use Rattle.frame.specs.Answers.{frameDraft}
 use Rattle.answer.specs.Answer.{result, refused}
 use Rattle.frame.specs.Private.{frameOf, headerWire}
@@ -32,7 +32,7 @@ unfolding stuff
 stuff-two a b = ap (λ (l : List ℕ). stuffByte a ++ l) (append-nil (stuffByte b))
 
 pub wire-parts : (h : Header) (c : List ℕ) → wireOf (frameOf h c) ≡ headerWire h ++ (stuff c ++ (stuffByte (checksum c) ++ (0xF2 ∷ [])))
-unfolding wireOf payload startOf addressesOf contentsOf
+unfolding wireOf payload addressesOf contentsOf
 wire-parts Plain c = ap (λ (l : List ℕ). 0xF1 ∷ l) (stuff-tail c)
 wire-parts (Addressed to from) c =
     ap (λ (l : List ℕ). 0xF0 ∷ l)

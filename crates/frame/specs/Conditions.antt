@@ -12,22 +12,15 @@ use Rattle.answer.specs.Answer.{result, refused, Answer}
 use Rattle.frame.specs.Answers.{outlineOf, FrameOutline}
 use Rattle.frame.specs.declared.Kind.{Kind}
 use Rattle.frame.specs.declared.Kind.the-variants.{Standard, Extended}
-
--- The start flag of a kind.
-abbrev pub startFlag : Kind → ℕ
-startFlag Standard = 0xF1
-startFlag Extended = 0xF0
-
--- Neither F0, nor F1, nor F2 stands anywhere.
-abbrev pub FlagFree : List ℕ → Type 0
-FlagFree s = (i : ℕ) → i < length s → (getD s i 0 < 0xF0) ⊎ (0xF2 < getD s i 0)
+use Rattle.framing.specs.Reference.{FlagFree}
+use Rattle.frame.specs.Flags.{startFlag, stopFlag, roleOf}
 
 -- One terminated candidate (document 01: one whole closed stretch).
 pub record Terminated (w : List ℕ) : Type 0 where
   pub kind : Kind
   pub body : List ℕ
-  pub shape : w ≡ startFlag kind ∷ body ++ (0xF2 ∷ [])
-  pub inside : FlagFree body
+  pub shape : w ≡ startFlag kind ∷ body ++ (stopFlag ∷ [])
+  pub inside : FlagFree roleOf body
 
 -- At most 120 bytes on the wire, flags and escapes included.
 abbrev pub WithinLimit : List ℕ → Type 0

@@ -3,6 +3,9 @@ use Prim.Native.Nat.{ℕ}
 use mathlib.Core.List.{List, [], _∷_, _++_}
 use Rattle.frame.specs.Stuffing.{stuff}
 use Rattle.frame.specs.Checksum.{checksum}
+use Rattle.frame.specs.Flags.{startFlag, stopFlag}
+use Rattle.frame.specs.declared.Kind.{Kind}
+use Rattle.frame.specs.declared.Kind.the-variants.{Standard, Extended}
 
 pub data Frame : Type 0 where
   standard : (contents : List ℕ) → Frame
@@ -12,10 +15,9 @@ unfoldable pub contentsOf : Frame → List ℕ
 contentsOf (standard c) = c
 contentsOf (extended to from c) = c
 
--- The start flag.
-unfoldable pub startOf : Frame → ℕ
-startOf (standard c) = 0xF1
-startOf (extended to from c) = 0xF0
+abbrev pub frameKind : Frame → Kind
+frameKind (standard c) = Standard
+frameKind (extended to from c) = Extended
 
 -- The destination and the source, which only an extended frame has.
 unfoldable pub addressesOf : Frame → List ℕ
@@ -28,4 +30,4 @@ payload f = addressesOf f ++ (contentsOf f ++ (checksum (contentsOf f) ∷ []))
 
 -- The frame as it is sent.
 unfoldable pub wireOf : Frame → List ℕ
-wireOf f = startOf f ∷ stuff (payload f) ++ (0xF2 ∷ [])
+wireOf f = startFlag (frameKind f) ∷ stuff (payload f) ++ (stopFlag ∷ [])

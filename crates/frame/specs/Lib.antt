@@ -1,3 +1,4 @@
+pub mod Flags
 pub mod Stuffing
 pub mod Checksum
 pub mod Frame

@@ -7,7 +7,8 @@ use lib.Dec.{leb, ltb, eqb}
 use lib.ListN.{length, getD, drop}
 use Rattle.lists.specs.Choice.{pick, within, noneOf}
 use Rattle.answer.specs.Refusals.{numberOf}
-use Rattle.frame.specs.Stuffing.{isStuffed, stuffByte, unstuff, Unstuffed, badEscape, bytes, prepend, flagless}
+use Rattle.frame.specs.Stuffing.{isStuffed, stuffByte, unstuff, Unstuffed, badEscape, bytes, prepend}
+use Rattle.frame.specs.Flags.{flagless, stopFlag, isStart}
 use Rattle.frame.specs.Checksum.{sumFrom, checksum}
 use Rattle.frame.specs.Frame.{Frame, standard, extended}
 use Rattle.frame.specs.Verdict.{Verdict, judge, addressCount, lastOf}
@@ -56,7 +57,7 @@ readAs (Addressed to from) len = result (extendedOutline to from len)
 
 -- Whether a list begins with a start flag and ends with the stop flag.
 unfoldable pub isBounded : List ℕ → Bool
-isBounded w = pick (leb 2 (length w)) (pick (within 0xF0 0xF1 (getD w 0 0)) (eqb (lastOf w) 0xF2) false) false
+isBounded w = pick (leb 2 (length w)) (pick (isStart (getD w 0 0)) (eqb (lastOf w) stopFlag) false) false
 
 -- The unstuffed byte at an index of stuffed bytes, and the index after it.
 unfoldable pub nextAt : List ℕ → ℕ → Next

@@ -3,11 +3,7 @@ use Prim.Native.Nat.{ℕ, _+_, _-_}
 use mathlib.Core.Bool.{Bool, true, false}
 use mathlib.Core.List.{List, [], _∷_, _++_}
 use lib.Dec.{leb, eqb}
-use Rattle.lists.specs.Choice.{pick, within, noneOf}
-
--- A flag: F0 and F1 start a frame, F2 stops one.
-abbrev pub isFlag : ℕ → Bool
-isFlag b = within 0xF0 0xF2 b
+use Rattle.lists.specs.Choice.{pick, within}
 
 -- A byte that is sent as two between the flags: a flag, or F3 itself.
 abbrev pub isStuffed : ℕ → Bool
@@ -37,7 +33,3 @@ unstuff false [] = bytes []
 unstuff true [] = badEscape
 unstuff false (b ∷ bs) = pick (eqb b 0xF3) (unstuff true bs) (prepend b (unstuff false bs))
 unstuff true (b ∷ bs) = pick (leb b 3) (prepend (0xF0 + b) (unstuff false bs)) badEscape
-
--- Whether no byte is a flag.
-abbrev pub flagless : List ℕ → Bool
-flagless s = noneOf isFlag s

@@ -6,7 +6,8 @@ use lib.Dec.{leb, eqb}
 use lib.ListN.{length, getD, take, drop}
 use Rattle.lists.specs.Choice.{pick, within}
 use Rattle.answer.specs.Answer.{Answer, result, refused}
-use Rattle.frame.specs.Stuffing.{unstuff, Unstuffed, badEscape, bytes, flagless}
+use Rattle.frame.specs.Stuffing.{unstuff, Unstuffed, badEscape, bytes}
+use Rattle.frame.specs.Flags.{flagless, stopFlag, kindOf, isStart}
 use Rattle.frame.specs.Checksum.{checksum}
 use Rattle.frame.specs.Frame.{Frame, standard, extended}
 use Rattle.frame.specs.declared.Kind.{Kind}
@@ -15,10 +16,6 @@ use Rattle.frame.specs.declared.Kind.the-variants.{Standard, Extended}
 -- A frame, or a refusal.
 abbrev pub Verdict : Type 0
 Verdict = Answer Frame
-
--- The kind of frame that a start flag opens.
-abbrev pub kindOf : ℕ → Kind
-kindOf b = pick (eqb b 0xF0) Extended Standard
 
 -- How many bytes of address a kind has.
 abbrev pub addressCount : Kind → ℕ
@@ -57,7 +54,7 @@ bodyOf w = take (length w - 2) (drop 1 w)
 -- Whether a slice is one terminated candidate (document 01: one whole closed stretch): a start flag, bytes that are no flags, and F2.
 unfoldable pub isTerminated : List ℕ → Bool
 isTerminated w =
-    pick (leb 2 (length w)) (pick (within 0xF0 0xF1 (getD w 0 0)) (pick (eqb (lastOf w) 0xF2) (flagless (bodyOf w)) false) false) false
+    pick (leb 2 (length w)) (pick (isStart (getD w 0 0)) (pick (eqb (lastOf w) stopFlag) (flagless (bodyOf w)) false) false) false
 
 -- The verdict on a slice: refusals 6, 2, 3, 4 and 5.
 unfoldable pub verdict : List ℕ → Verdict

@@ -2,6 +2,7 @@
 use crate::Header;
 use crate::Kind;
 use crate::bytes::Looked;
+use crate::flags;
 use answer::Refusal;
 ghost use mathlib.Core.Path.{_≡_};
 ghost use mathlib.Core.Bool.{true, false};
@@ -15,8 +16,6 @@ ghost use Rattle.frame.specs.Private.{isBounded, nextAt, scanFrom, isSou
 
 // The most bytes that may stand between the flags.
 const BODY_LIMIT: usize = 118;
-
-const ESCAPE: u8 = 0xF3;
 
 // The byte after an escape that is F0 more unstuffed: 00 to 03.
 const ESCAPED_LIMIT: u8 = 3;
@@ -66,14 +65,14 @@ pub(crate) fn is_bounded(w: &[u8]) -> bool
         return false;
     }
     let start = w[0];
-    if start < crate::EXTENDED_START {
+    if start < flags::EXTENDED_START {
         return false;
     }
-    if crate::STANDARD_START < start {
+    if flags::STANDARD_START < start {
         return false;
     }
     let stop = w[n - 1];
-    if stop != crate::STOP {
+    if stop != flags::STOP {
         return false;
     }
     true
@@ -86,7 +85,7 @@ pub(crate) fn next_at(s: &[u8], at: usize) -> Next
         return Next::End;
     }
     let b = s[at];
-    if b != ESCAPE {
+    if b != flags::ESCAPE {
         return Next::Byte(b, at + 1);
     }
     if s.len() <= at + 1 {
@@ -111,7 +110,7 @@ fn scan_bytes(s: &[u8]) -> Scan
         return Scan::Good { len: 0, sum: 0 };
     }
     let last = s[n - 1];
-    if last == ESCAPE {
+    if last == flags::ESCAPE {
         return Scan::Fault;
     }
     let found = tally_escapes(&s[..n - 1]);
@@ -148,7 +147,7 @@ fn escapes_sound(s: &[u8]) -> bool
 fn unsound(b: u8, after: u8) -> u8
     ensures { λ r. ⌜ r ≡ pick (goodPair b after) 0 1 ⌝ }
 {
-    lists::mark(b, ESCAPE, ESCAPE) & lists::mark(after, ESCAPED_LIMIT + 1, 0xFF)
+    lists::mark(b, flags::ESCAPE, flags::ESCAPE) & lists::mark(after, ESCAPED_LIMIT + 1, 0xFF)
 }
 
 // How many bytes are escapes, and the exclusive or of all with an escape taken as F0.
@@ -161,7 +160,7 @@ fn tally_escapes(s: &[u8]) -> Escapes
     let mut sum: u8 = 0;
     let mut i: usize = 0;
     while i < s.len() {
-        escapes = escapes + lists::mark(s[i], ESCAPE, ESCAPE);
+        escapes = escapes + lists::mark(s[i], flags::ESCAPE, flags::ESCAPE);
         sum = sum ^ lower(s[i]);
         i += 1;
     }
@@ -171,7 +170,7 @@ fn tally_escapes(s: &[u8]) -> Escapes
 fn lower(b: u8) -> u8
     ensures { λ r. ⌜ r ≡ lowerByte b ⌝ }
 {
-    if b == ESCAPE { 0xF0 } else { b }
+    if b == flags::ESCAPE { 0xF0 } else { b }
 }
 
 fn addresses_in(kind: Kind, body: &[u8]) -> Addresses
@@ -231,13 +230,13 @@ pub(crate) fn look_plain(body: &[u8]) -> Looked
         };
     }
     let last = body[n - 1];
-    if crate::stuffing::is_stuffed(last) {
+    if flags::is_stuffed(last) {
         return Looked {
             clear: false,
             sum: 0,
         };
     }
-    let looked = crate::bytes::look(&body[..n - 1], 0xF0, 0xF3);
+    let looked = crate::bytes::look(&body[..n - 1], flags::EXTENDED_START, flags::ESCAPE);
     Looked {
         clear: looked.clear,
         sum: looked.sum ^ last,
@@ -249,7 +248,7 @@ pub(crate) fn look_plain(body: &[u8]) -> Looked
 pub(crate) fn examine_flagged(kind: Kind, body: &[u8]) -> Examined
     ensures { λ r. ⌜ ExaminesWhole kind (now (body .entry)) r ⌝ }
 {
-    if lists::none_within(body, 0xF0, 0xF2) {
+    if lists::none_within(body, flags::EXTENDED_START, flags::STOP) {
         return examine(kind, body);
     }
     Examined::Unsound(Refusal::Truncated)
@@ -307,7 +306,7 @@ fn unit_at(s: &[u8], at: usize) -> Unit
     ensures { λ r. ⌜ nextAt (now (s .entry)) at ≡ Next.Byte (r .byte) (r .after) ⌝ }
 {
     let b = s[at];
-    if b != ESCAPE {
+    if b != flags::ESCAPE {
         return Unit {
             byte: b,
             after: at + 1,

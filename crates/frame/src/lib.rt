@@ -2,6 +2,7 @@
 // Document 01, "Frames on the wire".
 mod bytes;
 mod candidate;
+pub mod flags;
 mod stuffing;
 
 use answer::Refusal;
@@ -15,15 +16,9 @@ ghost use lib.ListN.{length, take, drop};
 ghost use Rattle.answer.specs.Draft.{draftAnswer, draftOut, writtenMeans};
 ghost use Rattle.frame.specs.Stuffing.{unstuff};
 ghost use Rattle.frame.specs.Frame.{standard, extended};
-ghost use Rattle.frame.specs.Verdict.{kindOf, judge, verdict};
+ghost use Rattle.frame.specs.Verdict.{judge, verdict};
 ghost use Rattle.frame.specs.Answers.{frameDraft, readMeans, judgeAnswer, readAnswer, readOut, leftIn};
 ghost use Rattle.frame.specs.Private.{frameOf, headerKind, readAs, unstuffedBytes, Unescaped, UnescapedAfter};
-
-const STANDARD_START: u8 = 0xF1;
-
-const EXTENDED_START: u8 = 0xF0;
-
-const STOP: u8 = 0xF2;
 
 // The longest frame on the wire, flags and escapes included.
 const WIRE_LIMIT: usize = 120;
@@ -77,7 +72,7 @@ pub fn read_frame(wire: &[u8], out: &mut [u8]) -> Read
     let n = wire.len();
     let start = wire[0];
     let body = &wire[1..n - 1];
-    let kind = kind_of(start);
+    let kind = flags::kind_of(start);
     let looked = candidate::look_plain(body);
     if looked.clear {
         return read_plain(kind, body, looked.sum, out);
@@ -122,7 +117,7 @@ fn write_frame(header: Header, contents: &[u8], out: &mut [u8]) -> Written
     if CONTENTS_LIMIT < contents.len() {
         return Written::Refused(Refusal::TooLong);
     }
-    let looked = bytes::look(contents, 0xF0, 0xF3);
+    let looked = bytes::look(contents, flags::EXTENDED_START, flags::ESCAPE);
     let sum = looked.sum;
     let stuffed = stuffing::stuffed_len(contents, looked.clear);
     let n = stuffing::header_len(header) + stuffed + stuffing::width(sum) + 1;
@@ -135,7 +130,7 @@ fn write_frame(header: Header, contents: &[u8], out: &mut [u8]) -> Written
     let a = stuffing::put_header(header, out);
     let b = stuffing::put_stuffed(contents, stuffed, out, a);
     let c = stuffing::put_byte(sum, out, b);
-    out[c] = STOP;
+    out[c] = flags::STOP;
     Written::Length(n)
 }
 
@@ -178,15 +173,6 @@ fn read_after(header: Header, body: &[u8], start: usize, sum: u8, out: &mut [u8]
     }
     bytes::copy(&body[start..n - 1], out, 0);
     read_as(header, len)
-}
-
-fn kind_of(start: u8) -> Kind
-    ensures { λ r. ⌜ r ≡ kindOf start ⌝ }
-{
-    if start == EXTENDED_START {
-        return Kind::Extended;
-    }
-    Kind::Standard
 }
 
 fn read_as(header: Header, len: usize) -> Read

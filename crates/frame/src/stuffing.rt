@@ -1,5 +1,6 @@
 // Bytes as they are sent between the flags, written into a slice.
 use crate::Header;
+use crate::flags;
 ghost use mathlib.Core.Path.{_≡_};
 ghost use mathlib.Core.List.{[], _∷_, _++_};
 ghost use Prim.Native.Nat.{_+_, _≤_};
@@ -9,18 +10,11 @@ ghost use Rattle.lists.specs.Splice.{splice};
 ghost use Rattle.frame.specs.Stuffing.{isStuffed, stuff, stuffByte};
 ghost use Rattle.frame.specs.Private.{headerWire};
 
-// Whether a byte is sent as two: F0, F1, F2 or F3.
-pub(crate) fn is_stuffed(b: u8) -> bool
-    ensures { λ r. ⌜ r ≡ isStuffed b ⌝ }
-{
-    if 0xF0 <= b { b <= 0xF3 } else { false }
-}
-
 // How many bytes a byte takes on the wire.
 pub(crate) fn width(b: u8) -> usize
     ensures { λ r. ⌜ r ≡ length (stuffByte b) ⌝ }
 {
-    if is_stuffed(b) { 2 } else { 1 }
+    if flags::is_stuffed(b) { 2 } else { 1 }
 }
 
 // How many bytes a slice takes on the wire, where it is known whether all of them are sent as they are.
@@ -32,7 +26,7 @@ pub(crate) fn stuffed_len(s: &[u8], clear: bool) -> usize
     if clear {
         return s.len();
     }
-    let doubled = crate::bytes::count_within(s, 0xF0, 0xF3);
+    let doubled = crate::bytes::count_within(s, flags::EXTENDED_START, flags::ESCAPE);
     s.len() + doubled as usize
 }
 
@@ -54,11 +48,11 @@ pub(crate) fn put_header(header: Header, out: &mut [u8]) -> usize
 {
     match header {
         Header::Plain => {
-            out[0] = crate::STANDARD_START;
+            out[0] = flags::STANDARD_START;
             1
         }
         Header::Addressed { to, from } => {
-            out[0] = crate::EXTENDED_START;
+            out[0] = flags::EXTENDED_START;
             let a = put_byte(to, out, 1);
             put_byte(from, out, a)
         }
@@ -71,9 +65,9 @@ pub(crate) fn put_byte(b: u8, out: &mut [u8], at: usize) -> usize
     ensures { λ r. ⌜ r ≡ at + length (stuffByte b) ⌝ }
     ensures { λ r. ⌜ now (out .exit) ≡ splice (now (out .entry)) at (stuffByte b) ⌝ }
 {
-    if is_stuffed(b) {
-        out[at] = 0xF3;
-        out[at + 1] = b - 0xF0;
+    if flags::is_stuffed(b) {
+        out[at] = flags::ESCAPE;
+        out[at + 1] = b - flags::EXTENDED_START;
         return at + 2;
     }
     out[at] = b;

@@ -4,10 +4,15 @@ use mathlib.Core.Logic.{_⊎_, inl, inr}
 use mathlib.Core.List.{List, [], _∷_, _++_}
 use native.Mathlib.Omega.{arith}
 use Prim.Native.Nat.{ℕ}
-use Rattle.framing.specs.Reference.{Call, byte, Role, starts, stops, plain, Candidate, none, opened, Protocol, byteAnswer, byteAfter, answerTo, candidateAfter, Reference}
-use Rattle.lists.specs.Machine.{run}
-use Rattle.framing.specs.Demand3.{feed, FlagFree, LeftOpen, Restarts, Follows}
-use Rattle.lists.proofs.Machines.{simulates}
+use lib.ListN.{drop}
+use Rattle.framing.specs.Reference.{Call, byte, Role, starts, stops, plain, Candidate, none, opened, Protocol, byteAnswer, byteAfter, answerTo, candidateAfter, Reference, FlagFree}
+use Rattle.lists.specs.Machine.{run, leftAfter}
+use Rattle.framing.specs.Demand3.{feed, LeftOpen, Restarts, Follows, Demand3}
+use Rattle.lists.proofs.Machines.{run-append, left-append, runs-anew, simulates}
+
+pub feed-append : (xs ys : List ℕ) → feed (xs ++ ys) ≡ feed xs ++ feed ys
+feed-append [] ys = refl
+feed-append (x ∷ xs) ys = ap (λ (l : List Call). byte x ∷ l) (feed-append xs ys)
 
 module _ {A : Type 0} (P : Protocol A) where
   -- the answers from any open candidate on
@@ -16,16 +21,10 @@ module _ {A : Type 0} (P : Protocol A) where
 
   -- the candidate that is open after bytes
   abbrev fed : Candidate → List ℕ → Candidate
-  fed k [] = k
-  fed k (b ∷ bytes) = fed (candidateAfter P k (byte b)) bytes
-
-  fed-answers : (k : Candidate) (bytes : List ℕ) (calls : List Call) → from k (feed bytes ++ calls) ≡ from k (feed bytes) ++ from (fed k bytes) calls
-  fed-answers k [] calls = refl
-  fed-answers k (b ∷ bytes) calls = ap (λ l. answerTo P k (byte b) ∷ l) (fed-answers (candidateAfter P k (byte b)) bytes calls)
+  fed k bytes = leftAfter (candidateAfter P) k (feed bytes)
 
   fed-append : (k : Candidate) (xs ys : List ℕ) → fed k (xs ++ ys) ≡ fed (fed k xs) ys
-  fed-append k [] ys = refl
-  fed-append k (x ∷ xs) ys = fed-append (candidateAfter P k (byte x)) xs ys
+  fed-append k xs ys = ap (leftAfter (candidateAfter P) k) (feed-append xs ys) ∙ left-append (candidateAfter P) k (feed xs) (feed ys)
 
   -- a start flag opens a candidate, whatever was open
   opens : (k : Candidate) (w : ℕ) → P .role w ≡ starts → candidateAfter P k (byte w) ≡ opened (w ∷ [])
@@ -34,11 +33,11 @@ module _ {A : Type 0} (P : Protocol A) where
   -- ---- bytes that leave a candidate open
 
   -- bytes that are no flags keep it open
-  keeps : (s bytes : List ℕ) → FlagFree P bytes → (t : List ℕ) × (fed (opened s) bytes ≡ opened t)
+  keeps : (s bytes : List ℕ) → FlagFree (P .role) bytes → (t : List ℕ) × (fed (opened s) bytes ≡ opened t)
   keeps s [] n = (s, refl)
   keeps s (b ∷ bytes) n =
       let k : (t : List ℕ) × (fed (opened (s ++ b ∷ [])) bytes ≡ opened t) = keeps (s ++ b ∷ []) bytes (n .1) in
-      (k .0, rw (n .0) (k .1))
+      (k .0, ap (λ (ρ : Role). fed (byteAfter P ρ (opened s) b) bytes) (n .0) ∙ k .1)
 
   left-opened : (bytes : List ℕ) → LeftOpen P bytes → (t : List ℕ) × (fed none bytes ≡ opened t)
   left-opened bytes o =
@@ -50,7 +49,7 @@ module _ {A : Type 0} (P : Protocol A) where
 
   -- what follows a start flag: bytes that are no flags, or bytes that leave a candidate open themselves
   data Since (bytes : List ℕ) : Type 0 where
-    flagless : FlagFree P bytes → Since bytes
+    flagless : FlagFree (P .role) bytes → Since bytes
     again : LeftOpen P bytes → Since bytes
 
   later : (b : ℕ) (bytes : List ℕ) → LeftOpen P bytes → LeftOpen P (b ∷ bytes)
@@ -102,10 +101,11 @@ module _ {A : Type 0} (P : Protocol A) where
   not-left-open D w (opened t) e n = absurd (n (says D .0 t e))
 
   -- Demand 3's second part of the reference decoder.
-  pub reference-restarts : (D : List ℕ) (w : ℕ) (W : List ℕ) (L : List Call) → P .role w ≡ starts → Restarts P (Reference P) D w W L
+  pub reference-restarts : (D : List ℕ) (w : ℕ) (W : List ℕ) (L : List Call) → P .role w ≡ starts
+      → Restarts P D (Reference P (feed D ++ (feed (w ∷ W) ++ L))) (Reference P (feed D)) (Reference P (feed (w ∷ W) ++ L))
   reference-restarts D w W L e = record {
     first = answerTo P (fed none D) (byte w);
-    whole = fed-answers none D (feed (w ∷ W) ++ L)
+    whole = run-append (answerTo P) (candidateAfter P) none (feed D) (feed (w ∷ W) ++ L)
         ∙ ap (λ k. from none (feed D) ++ answerTo P (fed none D) (byte w) ∷ from k (feed W ++ L)) (opens (fed none D) w e ∙ sym (opens none w e));
     truncated = λ o. let k : (t : List ℕ) × (fed none D ≡ opened t) = left-opened D o in rw (e, k .1);
     nothing = λ n. rw e (not-left-open D w (fed none D) refl n);
@@ -113,25 +113,39 @@ module _ {A : Type 0} (P : Protocol A) where
 
   -- ---- after a candidate that was terminated, and after a finish
 
-  module _ (c : Call) (ends : (k : Candidate) → candidateAfter P k c ≡ none) where
-    from-as-new : (k : Candidate) (calls rest : List Call) → from k (calls ++ c ∷ rest) ≡ from k (calls ++ c ∷ []) ++ from none rest
-    from-as-new k [] rest = ap (λ x. answerTo P k c ∷ from x rest) (ends k)
-    from-as-new k (x ∷ calls) rest = ap (λ l. answerTo P k x ∷ l) (from-as-new (candidateAfter P k x) calls rest)
+  -- A call that leaves none open leaves the decoder as new; so does everything that answers as it does.
+  pub as-new : (c : Call) → ((k : Candidate) → candidateAfter P k c ≡ none) → (f : List Call → List A) → ((calls : List Call) → f calls ≡ Reference P calls)
+      → (calls rest : List Call) → f (calls ++ c ∷ rest) ≡ f (calls ++ c ∷ []) ++ f rest
+  as-new c ends f e calls rest = simp e (runs-anew (answerTo P) (candidateAfter P) none c ends none calls rest)
 
-    -- A call that leaves none open leaves the decoder as new; so does everything that answers as it does.
-    pub as-new : (f : List Call → List A) → ((calls : List Call) → f calls ≡ Reference P calls) → (calls rest : List Call)
-        → f (calls ++ c ∷ rest) ≡ f (calls ++ c ∷ []) ++ f rest
-    as-new f e calls rest = simp e (from-as-new none calls rest)
-
-  -- What answers as another does starts again as that does.
-  pub restarts-alike : (f g : List Call → List A) → ((calls : List Call) → f calls ≡ g calls) → (D : List ℕ) (w : ℕ) (W : List ℕ) (L : List Call)
-      → Restarts P g D w W L → Restarts P f D w W L
-  restarts-alike f g e D w W L k = record { first = k .first; whole = simp e (k .whole); truncated = k .truncated; nothing = k .nothing }
+  -- ---- demand 3
 
   -- Demand 3 of any machine, from a relation that each of its calls keeps.
   pub follows : {S : Type 0} (answer : S → Call → A) (next : S → Call → S) (R : S → Candidate → Type 0)
       → ((s : S) (k : Candidate) (c : Call) → R s k → (answer s c ≡ answerTo P k c) × R (next s c) (candidateAfter P k c))
       → (s : S) → R s none → Follows P (run answer next s)
-  follows answer next R step s r =
-      let e : (calls : List Call) → run answer next s calls ≡ Reference P calls = simulates answer next (answerTo P) (candidateAfter P) R step s none r in
-      record { same = e; restarts = λ D w W L q. restarts-alike (run answer next s) (Reference P) e D w W L (reference-restarts D w W L q) }
+  follows answer next R step s r = follows-of (run answer next s) (simulates answer next (answerTo P) (candidateAfter P) R step s none r)
+    where
+      follows-of : (f : List Call → List A) → ((calls : List Call) → f calls ≡ Reference P calls) → Follows P f
+      follows-of f e = record {
+        same = e;
+        restarts = λ D w W L q.
+            let k = reference-restarts D w W L q in
+            record { first = k .first; whole = simp e (k .whole); truncated = k .truncated; nothing = k .nothing };
+      }
+
+  -- Demand 3 of any relation whose answers are the reference decoder's.
+  pub demand3-of : (answered : List Call → List A → Type 0) → ((calls : List Call) (answers : List A) → answered calls answers → answers ≡ Reference P calls)
+      → Demand3 P answered
+  demand3-of answered e = record {
+    same = e;
+    restarts = λ D w W L all alone later s a b c.
+        let k = reference-restarts D w W L s in
+        record {
+          first = k .first;
+          whole = e _ all a ∙ k .whole
+              ∙ sym (ap (λ (l : List A). l ++ k .first ∷ drop 1 later) (e _ alone b) ∙ ap (λ (l : List A). Reference P (feed D) ++ k .first ∷ drop 1 l) (e _ later c));
+          truncated = k .truncated;
+          nothing = k .nothing;
+        };
+  }

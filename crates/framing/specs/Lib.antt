@@ -1,2 +1,3 @@
 pub mod Reference
 pub mod Demand3
+pub mod Bounded

@@ -1,5 +1,6 @@
 -- The reference decoder over a protocol's parameters (document 01, "The line": the rule for the line).
 -- It is fed a list of calls alone, and keeps the open candidate as a list that grows without limit, or none.
+use mathlib.Core.Path.{_≡_}
 use mathlib.Core.List.{List, [], _∷_, _++_}
 use Prim.Native.Nat.{ℕ}
 use Rattle.lists.specs.Machine.{run}
@@ -14,6 +15,11 @@ pub data Role : Type 0 where
   starts : Role
   stops : Role
   plain : Role
+
+-- No byte of a list starts or stops a candidate, by the role of each.
+abbrev pub FlagFree : (ℕ → Role) → List ℕ → Type 0
+FlagFree role [] = Unit {0}
+FlagFree role (b ∷ bytes) = (role b ≡ plain) × FlagFree role bytes
 
 -- The open candidate (document 01: the open stretch), its start flag first, or none.
 pub data Candidate : Type 0 where

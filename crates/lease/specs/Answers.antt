@@ -1,7 +1,7 @@
 -- What each case of an answer means, in document 01's numbers, and the output afterwards.
 use Prim.Native.Nat.{ℕ}
 use mathlib.Core.List.{List, [], _++_}
-use lib.ListN.{length, drop}
+use lib.ListN.{length, take, drop}
 use Rattle.answer.specs.Answer.{Answer, result, refused, through}
 use Rattle.answer.specs.Refusals.{numberOf}
 use Rattle.lease.specs.declared.LeaseAnswer.{LeaseAnswer}
@@ -23,3 +23,8 @@ writtenIn (refused n) = []
 -- The output afterwards: what was written, and then the bytes that were there.
 abbrev pub outAfter : Answer (List ℕ) → List ℕ → List ℕ
 outAfter r out = writtenIn r ++ drop (length (writtenIn r)) out
+
+-- What a caller of stop has: the answer, and with a length that many bytes of the output.
+unfoldable pub stopTold : Answer ℕ → (last : List ℕ) → Answer (List ℕ)
+stopTold (result n) last = result (take n last)
+stopTold (refused n) last = refused n

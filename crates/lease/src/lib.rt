@@ -6,7 +6,6 @@ use answer::Refusal;
 use answer::Written;
 ghost use mathlib.Core.Path.{_≡_};
 ghost use lib.ListN.{length, replicate};
-ghost use Prim.Native.Nat.{_≤_};
 ghost use Rattle.answer.specs.Draft.{writtenMeans};
 ghost use Rattle.lease.specs.Lease.{hold, release, stop, answerOf, inRange, owns};
 ghost use Rattle.lease.specs.Answers.{leaseMeans, writtenLength, outAfter};
@@ -53,7 +52,8 @@ impl LeaseTable {
 
     // Takes a free address. Refusals 9, 14 and 10.
     pub fn hold(self, address: u32, token: u64) -> Leased
-        ensures { λ r. ⌜ TableCall (hold address token) (self .tokens) (leaseMeans (r .outcome)) (r .table .tokens) ⌝ }
+        ensures { λ r. ⌜ TableCall (self .tokens) (hold address token) (leaseMeans (r .outcome))
+            (r .table .tokens) ⌝ }
     {
         let held = tokens::token_at(&self.tokens, address);
         let outcome = judge_hold(address, token, held);
@@ -62,7 +62,8 @@ impl LeaseTable {
 
     // Frees an address for its holder. Refusals 9 and 11.
     pub fn release(self, address: u32, token: u64) -> Leased
-        ensures { λ r. ⌜ TableCall (release address token) (self .tokens) (leaseMeans (r .outcome)) (r .table .tokens) ⌝ }
+        ensures { λ r. ⌜ TableCall (self .tokens) (release address token) (leaseMeans (r .outcome))
+            (r .table .tokens) ⌝ }
     {
         let held = tokens::token_at(&self.tokens, address);
         let outcome = judge_release(address, token, held);
@@ -71,7 +72,8 @@ impl LeaseTable {
 
     // Writes the stop frame for the holder, who keeps the address. Refusals 9, 11 and 1.
     pub fn stop(self, address: u32, token: u64, out: &mut [u8]) -> Written
-        ensures { λ r. ⌜ TableStop address token (self .tokens) (now (out .entry)) (writtenMeans r) (now (out .exit)) ⌝ }
+        ensures { λ r. ⌜ TableStop (self .tokens) address token (now (out .entry)) (writtenMeans r)
+            (now (out .exit)) ⌝ }
     {
         let held = tokens::token_at(&self.tokens, address);
         write_stop(address, token, held, out)
@@ -80,7 +82,7 @@ impl LeaseTable {
 
 // As `LeaseTable::hold`, on the bytes of a table. Refusal 18 comes first.
 pub fn hold_lent(table: &mut [u8], address: u32, token: u64) -> LeaseAnswer
-    ensures { λ r. ⌜ LentCall (hold address token) (now (table .entry)) (leaseMeans r) (now (table .exit)) ⌝ }
+    ensures { λ r. ⌜ LentCall (now (table .entry)) (hold address token) (leaseMeans r) (now (table .exit)) ⌝ }
 {
     if table.len() != TABLE_BYTES {
         return LeaseAnswer::Refused(Refusal::BadTable);
@@ -92,7 +94,7 @@ pub fn hold_lent(table: &mut [u8], address: u32, token: u64) -> LeaseAnswer
 
 // As `LeaseTable::release`, on the bytes of a table. Refusal 18 comes first.
 pub fn release_lent(table: &mut [u8], address: u32, token: u64) -> LeaseAnswer
-    ensures { λ r. ⌜ LentCall (release address token) (now (table .entry)) (leaseMeans r) (now (table .exit)) ⌝ }
+    ensures { λ r. ⌜ LentCall (now (table .entry)) (release address token) (leaseMeans r) (now (table .exit)) ⌝ }
 {
     if table.len() != TABLE_BYTES {
         return LeaseAnswer::Refused(Refusal::BadTable);
@@ -104,7 +106,8 @@ pub fn release_lent(table: &mut [u8], address: u32, token: u64) -> LeaseAnswer
 
 // As `LeaseTable::stop`, on the bytes of a table. Refusal 18 comes first.
 pub fn stop_lent(table: &[u8], address: u32, token: u64, out: &mut [u8]) -> Written
-    ensures { λ r. ⌜ LentStop address token (now (table .entry)) (now (out .entry)) (writtenMeans r) (now (out .exit)) ⌝ }
+    ensures { λ r. ⌜ LentStop (now (table .entry)) address token (now (out .entry)) (writtenMeans r)
+        (now (out .exit)) ⌝ }
 {
     if table.len() != TABLE_BYTES {
         return Written::Refused(Refusal::BadTable);
@@ -133,7 +136,7 @@ fn is_holder(token: u64, held: u64) -> bool
 
 // What hold answers where `held` is the address's token.
 fn judge_hold(address: u32, token: u64, held: u64) -> LeaseAnswer
-    ensures { λ r. ⌜ leaseMeans r ≡ answerOf (hold address token) held ⌝ }
+    ensures { λ r. ⌜ leaseMeans r ≡ answerOf held (hold address token) ⌝ }
 {
     if !in_range(address) {
         return LeaseAnswer::Refused(Refusal::BadAddress);
@@ -141,15 +144,15 @@ fn judge_hold(address: u32, token: u64, held: u64) -> LeaseAnswer
     if token == FREE {
         return LeaseAnswer::Refused(Refusal::ZeroToken);
     }
-    if held != FREE {
-        return LeaseAnswer::Refused(Refusal::AlreadyHeld);
+    if held == FREE {
+        return LeaseAnswer::Done;
     }
-    LeaseAnswer::Done
+    LeaseAnswer::Refused(Refusal::AlreadyHeld)
 }
 
 // What release answers where `held` is the address's token.
 fn judge_release(address: u32, token: u64, held: u64) -> LeaseAnswer
-    ensures { λ r. ⌜ leaseMeans r ≡ answerOf (release address token) held ⌝ }
+    ensures { λ r. ⌜ leaseMeans r ≡ answerOf held (release address token) ⌝ }
 {
     if !in_range(address) {
         return LeaseAnswer::Refused(Refusal::BadAddress);
@@ -162,8 +165,9 @@ fn judge_release(address: u32, token: u64, held: u64) -> LeaseAnswer
 
 // Writes the stop frame where `held` is the address's token and the caller has it.
 fn write_stop(address: u32, token: u64, held: u64, out: &mut [u8]) -> Written
-    ensures { λ r. ⌜ writtenMeans r ≡ writtenLength (answerOf (stop address token (length (now (out .entry)))) held) ⌝ }
-    ensures { λ r. ⌜ now (out .exit) ≡ outAfter (answerOf (stop address token (length (now (out .entry)))) held) (now (out .entry)) ⌝ }
+    ensures { λ r. ⌜ writtenMeans r ≡ writtenLength (answerOf held (stop address token (length (now (out .entry))))) ⌝ }
+    ensures { λ r. ⌜ now (out .exit)
+        ≡ outAfter (answerOf held (stop address token (length (now (out .entry))))) (now (out .entry)) ⌝ }
 {
     if !in_range(address) {
         return Written::Refused(Refusal::BadAddress);
@@ -178,7 +182,8 @@ fn write_stop(address: u32, token: u64, held: u64, out: &mut [u8]) -> Written
 // The store of hold and of release: an accepted call leaves `token` at the address.
 fn settle(mut table: LeaseTable, outcome: LeaseAnswer, address: u32, token: u64) -> Leased
     requires { ⌜ Settles address (leaseMeans outcome) ⌝ }
-    ensures { λ r. ⌜ (leaseMeans (r .outcome) ≡ leaseMeans outcome) × (r .table .tokens ≡ settled (leaseMeans outcome) address token (table .tokens)) ⌝ }
+    ensures { λ r. ⌜ (leaseMeans (r .outcome) ≡ leaseMeans outcome)
+        × (r .table .tokens ≡ settled (leaseMeans outcome) address token (table .tokens)) ⌝ }
 {
     match outcome {
         LeaseAnswer::Done => {

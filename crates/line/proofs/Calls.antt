@@ -1,31 +1,31 @@
--- Demand 3 of the functions themselves: any run of calls, known by nothing but what the contracts tell a caller, is answered as the reference decoder answers.
-use Rattle.framing.proofs.Restart.{reference-restarts}
-use Rattle.framing.specs.Demand3.{feed, LeftOpen}
-use mathlib.Core.Path.{_≡_, refl, sym, ap, _∙_}
-use mathlib.Core.Bool.{Bool, true, false}
-use mathlib.Core.List.{List, [], _∷_, _++_}
+-- Demand 3 of the functions themselves: any run of calls, known by nothing but what the contracts tell a caller, is answered as the
+-- reference decoder answers.
+use mathlib.Core.Path.{_≡_, refl, ap, _∙_}
+use mathlib.Core.List.{List}
 use Prim.Native.Nat.{ℕ}
-use lib.Dec.{eqb}
-use lib.ListN.{take, drop}
+use lib.ListN.{length, take}
 use contract.Lifetimes.{Lfts}
 use denote.Ref.{RefT}
-use Rattle.lists.specs.Choice.{pick}
-use Rattle.framing.specs.Reference.{Call, byte, finish, Reference, starts}
-use Rattle.lists.specs.Machine.{run}
 use Rattle.answer.specs.Answer.{result, refused}
+use Rattle.lists.specs.Machine.{Answered}
+use Rattle.framing.specs.Reference.{Call, byte, finish, Role, starts, stops, plain}
+use Rattle.framing.specs.Demand3.{Demand3}
+use Rattle.framing.specs.Bounded.{BoundedMode, outside, inside, overlong, truncatedIn, terminatedIn, leftIn, boundedTurn}
+use Rattle.framing.proofs.Bounded.{bounded-demand-3}
+use Rattle.frame.specs.Flags.{roleOf}
 use Rattle.frame.specs.Verdict.{judge}
 use Rattle.frame.specs.Answers.{standardOutline, extendedOutline, judgeAnswer, frameRead}
-use Rattle.frame.specs.declared.Kind.the-variants.{Standard, Extended}
+use Rattle.frame.specs.declared.Kind.{Kind}
 use Rattle.frame.proofs.ContentsLaws.{left-whole}
-use Rattle.line.specs.Outcome.{Outcome, nothing, judged, Summary, silent, tells, toldMeans, summaryOf, outcomeOf, contentsBeside}
-use Rattle.line.specs.Reader.{Turn, reader, newReader, truncatedIn, terminatedIn, leftBy, restartOf, stopOf, growOf, Moves, Steps}
-use Rattle.line.specs.Rowing.{turnOf, outcomeAt, nextAfter, rowing, roleOf}
+use Rattle.line.specs.Outcome.{Outcome, judged, Summary, silent, tells, toldMeans, summaryOf, outcomeOf, contentsBeside}
+use Rattle.line.specs.Rowing.{rowing, rowingBounds}
+use Rattle.line.specs.Reader.{ReaderTurn, lentReader, newReader, modeSeen, seen, roleStep, turnOf, outcomeAt, nextAfter, LentStepIs, StepIs}
+use Rattle.line.specs.declared.State.{State}
 use Rattle.line.specs.declared.LineReader.{LineReader}
-use Rattle.line.specs.declared.Mode.{Mode}
-use Rattle.line.specs.declared.Mode.the-variants.{Outside, InStandard, InExtended, Overlong}
-use Rattle.line.specs.declared.Moved.{Moved}
+use Rattle.line.specs.declared.LentStep.{LentStep}
 use Rattle.line.specs.declared.Stepped.{Stepped}
-use Rattle.line.proofs.Follows.{reader-follows}
+use Rattle.line.proofs.ReaderLaws.{call-seen}
+use Rattle.line.proofs.Follows.{rowing-suits}
 use Rattle.line.proofs.LineReader.new.Reads as new-reads
 use Rattle.line.proofs.LineReader.step.Reads as step-reads
 use Rattle.line.proofs.LineReader.finish.Reads as finish-reads
@@ -34,31 +34,30 @@ use Rattle.line.proofs.finish_in.Reads as finish-in-reads
 
 -- ---- the enum and the array that is left make the whole outcome
 
-truncated-whole : (m : Mode) (bytes : List ℕ) → outcomeOf (summaryOf (truncatedIn m)) bytes ≡ truncatedIn m
+truncated-whole : (m : BoundedMode Kind) (bytes : List ℕ) → outcomeOf (summaryOf (truncatedIn rowing rowingBounds m)) bytes ≡ truncatedIn rowing rowingBounds m
 unfolding judgeAnswer frameRead
-truncated-whole Outside bytes = refl
-truncated-whole InStandard bytes = refl
-truncated-whole InExtended bytes = refl
-truncated-whole Overlong bytes = refl
+truncated-whole outside bytes = refl
+truncated-whole (inside kind) bytes = refl
+truncated-whole overlong bytes = refl
 
-terminated-whole : (m : Mode) (bytes : List ℕ) (len : ℕ) → outcomeOf (summaryOf (terminatedIn m bytes len)) (leftBy (terminatedIn m bytes len) bytes) ≡ terminatedIn m bytes len
-terminated-whole Outside bytes len = refl
-terminated-whole InStandard bytes len = ap judged (left-whole (judge Standard (take len bytes)) bytes)
-terminated-whole InExtended bytes len = ap judged (left-whole (judge Extended (take len bytes)) bytes)
-terminated-whole Overlong bytes len = ap judged (left-whole (refused 2) bytes)
+terminated-whole : (m : BoundedMode Kind) (bytes : List ℕ) (len : ℕ)
+    → outcomeOf (summaryOf (terminatedIn rowing rowingBounds m bytes len)) (leftIn rowing rowingBounds m bytes len) ≡ terminatedIn rowing rowingBounds m bytes len
+unfolding judgeAnswer frameRead
+terminated-whole outside bytes len = refl
+terminated-whole (inside kind) bytes len = ap judged (left-whole (judge kind (take len bytes)) bytes)
+terminated-whole overlong bytes len = refl
 
-abbrev pub Whole : Turn → Type 0
-Whole t = outcomeOf (summaryOf (t .outcome)) (t .next .bytes) ≡ t .outcome
+abbrev pub Whole : ReaderTurn → Type 0
+Whole t = outcomeOf (summaryOf (t .answer)) (t .next .bytes) ≡ t .answer
 
-pub byte-whole : (r : LineReader) (b : ℕ) (t₀ t₁ t₂ : Bool) → Whole (pick t₀ (restartOf r InExtended) (pick t₁ (restartOf r InStandard) (pick t₂ (stopOf r) (growOf r b))))
-byte-whole r b true t₁ t₂ = truncated-whole (r .mode) (r .bytes)
-byte-whole r b false true t₂ = truncated-whole (r .mode) (r .bytes)
-byte-whole r b false false true = terminated-whole (r .mode) (r .bytes) (r .len)
-byte-whole r b false false false = refl
+pub byte-whole : (r : LineReader) (b : ℕ) (ρ : Role) → Whole (roleStep ρ r b)
+byte-whole r b starts = truncated-whole (modeSeen (r .state .mode)) (r .bytes)
+byte-whole r b stops = terminated-whole (modeSeen (r .state .mode)) (r .bytes) (r .state .len)
+byte-whole r b plain = refl
 
 call-whole : (r : LineReader) (c : Call) → Whole (turnOf r c)
-call-whole r (byte b) = byte-whole r b (eqb b 0xF0) (eqb b 0xF1) (eqb b 0xF2)
-call-whole r finish = truncated-whole (r .mode) (r .bytes)
+call-whole r (byte b) = byte-whole r b (roleOf b)
+call-whole r finish = truncated-whole (modeSeen (r .state .mode)) (r .bytes)
 
 -- the array beside an answer serves as well as the one that is left
 beside-whole : (h : Summary) (bytes : List ℕ) → outcomeOf h (contentsBeside h bytes) ≡ outcomeOf h bytes
@@ -72,7 +71,7 @@ beside-whole (tells (refused n)) bytes = refl
 abbrev pub outcomeIn : Stepped → Outcome
 outcomeIn s = outcomeOf (toldMeans (s .answer .told)) (s .answer .contents)
 
-steps-outcome : (s : Stepped) (r : LineReader) (c : Call) → Steps s (turnOf r c) → outcomeIn s ≡ outcomeAt r c
+steps-outcome : (s : Stepped) (r : LineReader) (c : Call) → StepIs s (turnOf r c) → outcomeIn s ≡ outcomeAt r c
 steps-outcome s r c k =
     ap (λ (h : Summary). outcomeOf h (s .answer .contents)) (k .told-is)
     ∙ ap (outcomeOf (summaryOf (outcomeAt r c))) (k .contents-is)
@@ -80,78 +79,60 @@ steps-outcome s r c k =
     ∙ call-whole r c
 
 -- The outcome that an answer over a lent array and that array hold.
-pub moves-outcome : (bytes : List ℕ) (m : Moved) (r : LineReader) (c : Call) → Moves bytes m (turnOf r c) → outcomeOf (toldMeans (m .told)) bytes ≡ outcomeAt r c
-moves-outcome bytes m r c k =
+abbrev pub lentOutcome : LentStep → List ℕ → Outcome
+lentOutcome s bytes = outcomeOf (toldMeans (s .told)) bytes
+
+pub lent-outcome : (bytes : List ℕ) (s : LentStep) (r : LineReader) (c : Call) → LentStepIs bytes s (turnOf r c) → lentOutcome s bytes ≡ outcomeAt r c
+lent-outcome bytes s r c k =
     ap (λ (h : Summary). outcomeOf h bytes) (k .told-is)
     ∙ ap (λ (u : LineReader). outcomeOf (summaryOf (outcomeAt r c)) (u .bytes)) (k .next-is)
     ∙ call-whole r c
 
--- ---- runs by value
+-- ---- one call
 
--- Calls in a row, each on the reader as the last one left it, with the outcomes that they gave.
-pub data Ran : LineReader → List Call → List Outcome → Type 0 where
-  stopped : {r : LineReader} → Ran r [] []
-  stepped : {r : LineReader} {b : ℕ} {s : Stepped} {calls : List Call} {rest : List Outcome} → step-reads.Learnt tt (r, (b, tt)) s (r, (b, tt))
-      → Ran (s .next) calls rest → Ran r (byte b ∷ calls) (outcomeIn s ∷ rest)
-  finished : {r : LineReader} {s : Stepped} {calls : List Call} {rest : List Outcome} → finish-reads.Learnt tt (r, tt) s (r, tt)
-      → Ran (s .next) calls rest → Ran r (finish ∷ calls) (outcomeIn s ∷ rest)
+-- A call on a reader by value, its outcome and the reader that it left, known by what the function's contract tells a caller.
+pub data Called : LineReader → Call → Outcome → LineReader → Type 0 where
+  stepped : {r : LineReader} {b : ℕ} (s : Stepped) → step-reads.Learnt tt (r, (b, tt)) s (r, (b, tt)) → Called r (byte b) (outcomeIn s) (s .next)
+  finished : {r : LineReader} (s : Stepped) → finish-reads.Learnt tt (r, tt) s (r, tt) → Called r finish (outcomeIn s) (s .next)
 
-one-more : (r : LineReader) (c : Call) (s : Stepped) (calls : List Call) (rest : List Outcome) → Steps s (turnOf r c)
-    → rest ≡ run outcomeAt nextAfter (s .next) calls → outcomeIn s ∷ rest ≡ run outcomeAt nextAfter r (c ∷ calls)
-one-more r c s calls rest k e =
-    ap (λ (l : List Outcome). outcomeIn s ∷ l) (e ∙ ap (λ (u : LineReader). run outcomeAt nextAfter u calls) (k .next-is))
-    ∙ ap (λ (o : Outcome). o ∷ run outcomeAt nextAfter (nextAfter r c) calls) (steps-outcome s r c k)
+-- The same where a reader is a lent array and a state.
+pub data CalledLent : LineReader → Call → Outcome → LineReader → Type 0 where
+  stepped-lent : (κs : Lfts 1) (ρ ρ′ : RefT (List ℕ)) {state : State} {b : ℕ} (s : LentStep)
+      → step-in-reads.Learnt κs (ρ, (state, (b, tt))) s (ρ′, (state, (b, tt)))
+      → CalledLent (lentReader (ρ .now) state) (byte b) (lentOutcome s (ρ′ .now)) (lentReader (ρ′ .now) (s .state))
+  finished-lent : {bytes : List ℕ} {state : State} (s : LentStep) → finish-in-reads.Learnt tt (state, tt) s (state, tt)
+      → CalledLent (lentReader bytes state) finish (lentOutcome s bytes) (lentReader bytes (s .state))
 
-ran : {r : LineReader} {calls : List Call} {outcomes : List Outcome} → Ran r calls outcomes → outcomes ≡ run outcomeAt nextAfter r calls
-ran stopped = refl
-ran (stepped {r = r} {b = b} {s = s} {calls = calls} {rest = rest} k t) = one-more r (byte b) s calls rest k (ran t)
-ran (finished {r = r} {s = s} {calls = calls} {rest = rest} k t) = one-more r finish s calls rest k (ran t)
+-- Each is the turn that the definitions say.
+abbrev TurnsTo : LineReader → Call → Outcome → LineReader → Type 0
+TurnsTo r c o u = (o ≡ outcomeAt r c) × (u ≡ nextAfter r c)
 
--- Demand 3 of `new`, `step` and `finish`.
-pub calls-follow : (r : LineReader) (calls : List Call) (outcomes : List Outcome) → new-reads.Learnt tt tt r tt → Ran r calls outcomes → outcomes ≡ Reference rowing calls
-calls-follow r calls outcomes e t = ran t ∙ ap (λ (u : LineReader). run outcomeAt nextAfter u calls) e ∙ reader-follows .same calls
+called-turns : (r u : LineReader) (c : Call) (o : Outcome) → Called r c o u → TurnsTo r c o u
+called-turns r u c o (stepped s k) = (steps-outcome s r c k, k .next-is)
+called-turns r u c o (finished s k) = (steps-outcome s r c k, k .next-is)
 
--- ---- runs over a lent array
+lent-turns : (r u : LineReader) (c : Call) (o : Outcome) → CalledLent r c o u → TurnsTo r c o u
+lent-turns r u c o (stepped-lent κs ρ ρ′ s k) = (lent-outcome (ρ′ .now) s r c k, k .next-is)
+lent-turns r u c o (finished-lent {bytes = bytes} s k) = (lent-outcome bytes s r c (k bytes), (k bytes) .next-is)
 
--- The same where a state is the array's bytes, the length and the mode. Each call is lent the array as the last one left it.
-pub data RanIn : List ℕ → ℕ → Mode → List Call → List Outcome → Type 0 where
-  stopped-in : {bytes : List ℕ} {len : ℕ} {mode : Mode} → RanIn bytes len mode [] []
-  stepped-in : (κs : Lfts 1) (ρ ρ′ : RefT (List ℕ)) {len : ℕ} {mode : Mode} {b : ℕ} {m : Moved} {calls : List Call} {rest : List Outcome}
-      → step-in-reads.Learnt κs (ρ, (len, (mode, (b, tt)))) m (ρ′, (len, (mode, (b, tt)))) → RanIn (ρ′ .now) (m .len) (m .mode) calls rest
-      → RanIn (ρ .now) len mode (byte b ∷ calls) (outcomeOf (toldMeans (m .told)) (ρ′ .now) ∷ rest)
-  finished-in : {bytes : List ℕ} {len : ℕ} {mode : Mode} {m : Moved} {calls : List Call} {rest : List Outcome} → finish-in-reads.Learnt tt (mode, tt) m (mode, tt)
-      → RanIn bytes (m .len) (m .mode) calls rest → RanIn bytes len mode (finish ∷ calls) (outcomeOf (toldMeans (m .told)) bytes ∷ rest)
+turns-seen : (r u : LineReader) (c : Call) (o : Outcome) → TurnsTo r c o u
+    → (o ≡ boundedTurn rowing rowingBounds (seen r) c .answer) × (seen u ≡ boundedTurn rowing rowingBounds (seen r) c .next)
+turns-seen r u c o t = (t .0 ∙ call-seen r c .0, ap seen (t .1) ∙ call-seen r c .1)
 
-one-in : (bytes left : List ℕ) (len : ℕ) (mode : Mode) (c : Call) (m : Moved) (calls : List Call) (rest : List Outcome) → Moves left m (turnOf (reader bytes len mode) c)
-    → rest ≡ run outcomeAt nextAfter (reader left (m .len) (m .mode)) calls → outcomeOf (toldMeans (m .told)) left ∷ rest ≡ run outcomeAt nextAfter (reader bytes len mode) (c ∷ calls)
-one-in bytes left len mode c m calls rest k e =
-    ap (λ (l : List Outcome). outcomeOf (toldMeans (m .told)) left ∷ l) (e ∙ ap (λ (u : LineReader). run outcomeAt nextAfter u calls) (k .next-is))
-    ∙ ap (λ (o : Outcome). o ∷ run outcomeAt nextAfter (nextAfter (reader bytes len mode) c) calls) (moves-outcome left m (reader bytes len mode) c k)
+-- ---- demand 3
 
-ran-in : {bytes : List ℕ} {len : ℕ} {mode : Mode} {calls : List Call} {outcomes : List Outcome} → RanIn bytes len mode calls outcomes
-    → outcomes ≡ run outcomeAt nextAfter (reader bytes len mode) calls
-ran-in stopped-in = refl
-ran-in (stepped-in κs ρ ρ′ {len = len} {mode = mode} {b = b} {m = m} {calls = calls} {rest = rest} k t) = one-in (ρ .now) (ρ′ .now) len mode (byte b) m calls rest k (ran-in t)
-ran-in (finished-in {bytes = bytes} {len = len} {mode = mode} {m = m} {calls = calls} {rest = rest} k t) =
-    one-in bytes bytes len mode finish m calls rest (k bytes len) (ran-in t)
+-- A reader that `new` returned.
+abbrev pub Made : LineReader → Type 0
+Made r = new-reads.Learnt tt tt r tt
 
--- Demand 3 of `step_in` and `finish_in`, from the array, length and mode of a new reader.
-pub lent-calls-follow : (calls : List Call) (outcomes : List Outcome) → RanIn (newReader .bytes) (newReader .len) (newReader .mode) calls outcomes
-    → outcomes ≡ Reference rowing calls
-lent-calls-follow calls outcomes t = ran-in t ∙ reader-follows .same calls
+-- Demand 3 of `new`, `step` and `finish`, whole.
+pub demand-3 : Demand3 rowing (Answered Called Made)
+demand-3 =
+    bounded-demand-3 rowing rowingBounds rowing-suits Called Made seen (λ r u c o k. turns-seen r u c o (called-turns r u c o k))
+    (λ r e. (ap (λ (x : LineReader). length (x .bytes)) e, ap (λ (x : LineReader). modeSeen (x .state .mode)) e))
 
--- ---- D, W and L
-
--- Demand 3's second part of the functions: runs of D, W and L, of D alone, and of W and L, each on a new reader.
-pub calls-restart : (r : LineReader) (D : List ℕ) (w : ℕ) (W : List ℕ) (L : List Call) (all alone later : List Outcome) → new-reads.Learnt tt tt r tt
-    → roleOf w ≡ starts → Ran r (feed D ++ (feed (w ∷ W) ++ L)) all → Ran r (feed D) alone → Ran r (feed (w ∷ W) ++ L) later
-    → (first : Outcome) × (all ≡ alone ++ first ∷ drop 1 later) × (LeftOpen rowing D → first ≡ judged (refused 6)) × ((LeftOpen rowing D → ⊥) → first ≡ nothing)
-calls-restart r D w W L all alone later n s a b c =
-    let k = reference-restarts rowing D w W L s in
-    let whole : Reference rowing (feed D ++ (feed (w ∷ W) ++ L)) ≡ Reference rowing (feed D) ++ k .first ∷ drop 1 (Reference rowing (feed (w ∷ W) ++ L)) = k .whole in (
-      k .first,
-      calls-follow r _ all n a ∙ whole
-          ∙ sym (ap (λ (l : List Outcome). l ++ k .first ∷ drop 1 later) (calls-follow r _ alone n b) ∙ ap (λ (l : List Outcome). Reference rowing (feed D) ++ k .first ∷ drop 1 l) (calls-follow r _ later n c)),
-      k .truncated,
-      k .nothing,
-    )
+-- Demand 3 of `step_in` and `finish_in`, whole, from the array and the state of a new reader.
+pub lent-demand-3 : Demand3 rowing (Answered CalledLent (λ r. r ≡ newReader))
+lent-demand-3 =
+    bounded-demand-3 rowing rowingBounds rowing-suits CalledLent (λ r. r ≡ newReader) seen (λ r u c o k. turns-seen r u c o (lent-turns r u c o k))
+    (λ r e. (ap (λ (x : LineReader). length (x .bytes)) e, ap (λ (x : LineReader). modeSeen (x .state .mode)) e))

@@ -10,9 +10,9 @@ use Rattle.framing.specs.Reference.{Reference}
 use Rattle.lists.specs.Machine.{run}
 use Rattle.framing.specs.Demand3.{feed}
 use Rattle.line.specs.Outcome.{Outcome}
-use Rattle.line.specs.Reader.{Turn, reader, stepOf}
-use Rattle.line.specs.Rowing.{rowing, outcomeAt, nextAfter}
-use Rattle.line.specs.Feed.{isAnswer, Feeding, feeding, plus, feedOf}
+use Rattle.line.specs.Reader.{ReaderTurn, reader, stepOf, outcomeAt, nextAfter}
+use Rattle.line.specs.Rowing.{rowing}
+use Rattle.line.specs.Feed.{isAnswer, ChunkTurn, chunkTurn, laterBy, feedOf}
 use Rattle.line.specs.Chunks.{withAnswer, answersIn, afterBytes, Chunks, done, chunk}
 use Rattle.line.specs.declared.LineReader.{LineReader}
 use Rattle.line.specs.declared.Mode.the-variants.{Outside}
@@ -23,15 +23,15 @@ abbrev singly : LineReader → List ℕ → List Outcome
 singly r s = answersIn (run outcomeAt nextAfter r (feed s))
 
 -- what a call gives on the stream s, followed by the bytes that it did not take fed singly, is what s fed singly gives
-record Goes (r : LineReader) (s : List ℕ) (f : Feeding) : Type 0 where
-  pub answers : singly r s ≡ withAnswer (f .outcome) (singly (f .next) (drop (f .taken) s))
+record Goes (r : LineReader) (s : List ℕ) (f : ChunkTurn) : Type 0 where
+  pub answers : singly r s ≡ withAnswer (f .answer) (singly (f .next) (drop (f .taken) s))
   pub left : afterBytes r s ≡ afterBytes (f .next) (drop (f .taken) s)
 
 -- a byte before a stream, by whether it is answered
-by-first : (b : ℕ) (s : List ℕ) (t : Turn) (f : Feeding) (q : Bool) → isAnswer (t .outcome) ≡ q → Goes (t .next) s f
-    → (withAnswer (t .outcome) (singly (t .next) s)
-    ≡ withAnswer (pick q (feeding (t .outcome) (t .next) 1) (plus 1 f) .outcome) (singly (pick q (feeding (t .outcome) (t .next) 1) (plus 1 f) .next) (drop (pick q (feeding (t .outcome) (t .next) 1) (plus 1 f) .taken) (b ∷ s))))
-    × (afterBytes (t .next) s ≡ afterBytes (pick q (feeding (t .outcome) (t .next) 1) (plus 1 f) .next) (drop (pick q (feeding (t .outcome) (t .next) 1) (plus 1 f) .taken) (b ∷ s)))
+by-first : (b : ℕ) (s : List ℕ) (t : ReaderTurn) (f : ChunkTurn) (q : Bool) → isAnswer (t .answer) ≡ q → Goes (t .next) s f
+    → (withAnswer (t .answer) (singly (t .next) s)
+    ≡ withAnswer (pick q (chunkTurn (t .answer) (t .next) 1) (laterBy 1 f) .answer) (singly (pick q (chunkTurn (t .answer) (t .next) 1) (laterBy 1 f) .next) (drop (pick q (chunkTurn (t .answer) (t .next) 1) (laterBy 1 f) .taken) (b ∷ s))))
+    × (afterBytes (t .next) s ≡ afterBytes (pick q (chunkTurn (t .answer) (t .next) 1) (laterBy 1 f) .next) (drop (pick q (chunkTurn (t .answer) (t .next) 1) (laterBy 1 f) .taken) (b ∷ s)))
 by-first b s t f true e g = (refl, refl)
 by-first b s t f false e g = let m : 1 + f .taken ≡ suc (f .taken) = omega arith in (simp e (rw m (g .answers)), rw m (g .left))
 
@@ -39,7 +39,7 @@ goes : (r : LineReader) (given later : List ℕ) → Goes r (given ++ later) (fe
 unfolding feedOf
 goes r [] later = record { answers = refl; left = refl }
 goes r (b ∷ given) later =
-    let k = by-first b (given ++ later) (stepOf r b) (feedOf (stepOf r b .next) given) (isAnswer (stepOf r b .outcome)) refl (goes (stepOf r b .next) given later) in
+    let k = by-first b (given ++ later) (stepOf r b) (feedOf (stepOf r b .next) given) (isAnswer (stepOf r b .answer)) refl (goes (stepOf r b .next) given later) in
     record { answers = k .0; left = k .1 }
 
 -- Any chunks of a stream, each starting right after the last byte taken: the answers and the reader left are those of the bytes fed singly.
@@ -48,7 +48,7 @@ pub chunks-singly : {r last : LineReader} {stream : List ℕ} {answers : List Ou
 chunks-singly done = (refl, refl)
 chunks-singly (chunk {r = r} given later t) =
     let k = goes r given later in
-    (ap (withAnswer (feedOf r given .outcome)) (chunks-singly t .0) ∙ sym (k .answers), chunks-singly t .1 ∙ sym (k .left))
+    (ap (withAnswer (feedOf r given .answer)) (chunks-singly t .0) ∙ sym (k .answers), chunks-singly t .1 ∙ sym (k .left))
 
 -- From a reader that is outside of a candidate, as a new one is, the answers are those of the reference decoder.
 pub chunks-follow : (bytes : List ℕ) (len : ℕ) → length bytes ≡ 118 → {last : LineReader} {stream : List ℕ} {answers : List Outcome}

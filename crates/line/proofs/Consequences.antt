@@ -11,7 +11,9 @@ use Rattle.answer.specs.Answer.{refused}
 use Rattle.frame.specs.Conditions.{Judged, truncated, long, badEscape, short, badSum, sound}
 use Rattle.frame.proofs.Table.{verdict-by-table}
 use Rattle.line.specs.Outcome.{Outcome, nothing, judged}
-use Rattle.line.specs.Rowing.{roleOf, rowing, readerAnswers}
+use Rattle.frame.specs.Flags.{roleOf}
+use Rattle.line.specs.Rowing.{rowing}
+use Rattle.line.specs.Reader.{readerAnswers}
 use Rattle.line.proofs.Follows.{reader-follows}
 
 pub as-new-after-stop : (calls rest : List Call) → readerAnswers (calls ++ byte 0xF2 ∷ rest) ≡ readerAnswers (calls ++ byte 0xF2 ∷ []) ++ readerAnswers rest

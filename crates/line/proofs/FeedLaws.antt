@@ -9,70 +9,71 @@ use lib.Seq.{drop-cons}
 use Prim.Native.Nat.{ℕ, _+_, _≤_, _<_}
 use Rattle.lists.specs.Choice.{pick}
 use Rattle.line.specs.Outcome.{nothing, toldMeans, summaryOf}
-use Rattle.line.specs.Reader.{Turn, reader, stepOf, Moves}
-use Rattle.line.specs.Feed.{says, isAnswer, Feeding, feeding, plus, feedOf, Feeds}
+use Rattle.line.specs.Reader.{lentReader, ReaderTurn, stepOf, LentStepIs}
+use Rattle.line.specs.Feed.{says, isAnswer, ChunkTurn, chunkTurn, laterBy, feedOf, ChunkStepIs}
 use Rattle.line.specs.declared.LineReader.{LineReader}
-use Rattle.line.specs.declared.Mode.{Mode}
-use Rattle.line.specs.declared.Moved.{Moved}
-use Rattle.line.specs.declared.Fed.{Fed}
+use Rattle.line.specs.declared.State.{State}
+use Rattle.line.specs.declared.LentStep.{LentStep}
+use Rattle.line.specs.declared.ChunkStep.{ChunkStep}
 use Rattle.line.specs.declared.Told.the-variants.{Nothing}
 
 -- ---- counting
 
-pub plus-zero : (f : Feeding) → f ≡ plus 0 f
-plus-zero f = let e : f .taken ≡ 0 + f .taken = omega arith in ap (feeding (f .outcome) (f .next)) e
+pub plus-zero : (f : ChunkTurn) → f ≡ laterBy 0 f
+plus-zero f = let e : f .taken ≡ 0 + f .taken = omega arith in ap (chunkTurn (f .answer) (f .next)) e
 
-pub plus-plus : (i j k : ℕ) (f : Feeding) → i + j ≡ k → plus i (plus j f) ≡ plus k f
-plus-plus i j k f e = let q : i + (j + f .taken) ≡ k + f .taken = omega arith in ap (feeding (f .outcome) (f .next)) q
+pub plus-plus : (i j k : ℕ) (f : ChunkTurn) → i + j ≡ k → laterBy i (laterBy j f) ≡ laterBy k f
+plus-plus i j k f e = let q : i + (j + f .taken) ≡ k + f .taken = omega arith in ap (chunkTurn (f .answer) (f .next)) q
 
 -- ---- one byte
 
 -- what a byte's turn and the bytes after it give
-abbrev pub fromTurn : Turn → List ℕ → Feeding
-fromTurn t bs = pick (isAnswer (t .outcome)) (feeding (t .outcome) (t .next) 1) (plus 1 (feedOf (t .next) bs))
+abbrev pub fromTurn : ReaderTurn → List ℕ → ChunkTurn
+fromTurn t bs = pick (isAnswer (t .answer)) (chunkTurn (t .answer) (t .next) 1) (laterBy 1 (feedOf (t .next) bs))
 
 module _ (r : LineReader) (s : List ℕ) (i : ℕ) (below : i < length s) where
   first : feedOf r (drop i s) ≡ fromTurn (stepOf r (getD s i 0)) (drop (i + 1) s)
   unfolding feedOf
   first = ap (feedOf r) (drop-cons s i 0 below) ∙ ap (λ (n : ℕ). feedOf r (getD s i 0 ∷ drop n s)) (sym (add-one i))
 
-  abbrev at : Bool → Feeding
-  at t = pick t (feeding (stepOf r (getD s i 0) .outcome) (stepOf r (getD s i 0) .next) 1) (plus 1 (feedOf (stepOf r (getD s i 0) .next) (drop (i + 1) s)))
+  abbrev at : Bool → ChunkTurn
+  at t = pick t (chunkTurn (stepOf r (getD s i 0) .answer) (stepOf r (getD s i 0) .next) 1) (laterBy 1 (feedOf (stepOf r (getD s i 0) .next) (drop (i + 1) s)))
 
-  pub not-answered : isAnswer (stepOf r (getD s i 0) .outcome) ≡ false
-      → plus i (feedOf r (drop i s)) ≡ plus (i + 1) (feedOf (stepOf r (getD s i 0) .next) (drop (i + 1) s))
-  not-answered e = ap (plus i) (first ∙ ap at e) ∙ plus-plus i 1 (i + 1) (feedOf (stepOf r (getD s i 0) .next) (drop (i + 1) s)) refl
+  pub not-answered : isAnswer (stepOf r (getD s i 0) .answer) ≡ false
+      → laterBy i (feedOf r (drop i s)) ≡ laterBy (i + 1) (feedOf (stepOf r (getD s i 0) .next) (drop (i + 1) s))
+  not-answered e = ap (laterBy i) (first ∙ ap at e) ∙ plus-plus i 1 (i + 1) (feedOf (stepOf r (getD s i 0) .next) (drop (i + 1) s)) refl
 
-  answered : isAnswer (stepOf r (getD s i 0) .outcome) ≡ true
-      → plus i (feedOf r (drop i s)) ≡ feeding (stepOf r (getD s i 0) .outcome) (stepOf r (getD s i 0) .next) (i + 1)
-  answered e = ap (plus i) (first ∙ ap at e)
+  answered : isAnswer (stepOf r (getD s i 0) .answer) ≡ true
+      → laterBy i (feedOf r (drop i s)) ≡ chunkTurn (stepOf r (getD s i 0) .answer) (stepOf r (getD s i 0) .next) (i + 1)
+  answered e = ap (laterBy i) (first ∙ ap at e)
 
 -- a turn of a loop over the bytes s, where f is what all of them give
-module _ (f : Feeding) (r : LineReader) (s : List ℕ) (i : ℕ) (below : i < length s) (so-far : f ≡ plus i (feedOf r (drop i s))) (bytes : List ℕ) (m : Moved)
-    (moves : Moves bytes m (stepOf r (getD s i 0))) where
-  pub goes-on : says (toldMeans (m .told)) ≡ false → f ≡ plus (i + 1) (feedOf (reader bytes (m .len) (m .mode)) (drop (i + 1) s))
+module _ (f : ChunkTurn) (r : LineReader) (s : List ℕ) (i : ℕ) (below : i < length s) (so-far : f ≡ laterBy i (feedOf r (drop i s))) (bytes : List ℕ) (m : LentStep)
+    (moves : LentStepIs bytes m (stepOf r (getD s i 0))) where
+  pub goes-on : says (toldMeans (m .told)) ≡ false → f ≡ laterBy (i + 1) (feedOf (lentReader bytes (m .state)) (drop (i + 1) s))
   goes-on e =
       so-far ∙ not-answered r s i below (ap says (sym (moves .told-is)) ∙ e)
-      ∙ ap (λ (u : LineReader). plus (i + 1) (feedOf u (drop (i + 1) s))) (sym (moves .next-is))
+      ∙ ap (λ (u : LineReader). laterBy (i + 1) (feedOf u (drop (i + 1) s))) (sym (moves .next-is))
 
-  pub answers : says (toldMeans (m .told)) ≡ true → Feeds bytes (record { told = m .told; len = m .len; mode = m .mode; taken = i + 1 }) f
+  pub answers : says (toldMeans (m .told)) ≡ true → ChunkStepIs bytes (record { told = m .told; state = m .state; taken = i + 1 }) f
   answers e =
-      let q : f ≡ feeding (stepOf r (getD s i 0) .outcome) (stepOf r (getD s i 0) .next) (i + 1) = so-far ∙ answered r s i below (ap says (sym (moves .told-is)) ∙ e) in
+      let q : f ≡ chunkTurn (stepOf r (getD s i 0) .answer) (stepOf r (getD s i 0) .next) (i + 1) = so-far ∙ answered r s i below (ap says (sym (moves .told-is)) ∙ e) in
       record {
-        told-is = moves .told-is ∙ ap (λ (g : Feeding). summaryOf (g .outcome)) (sym q);
-        next-is = moves .next-is ∙ ap (λ (g : Feeding). g .next) (sym q);
-        taken-is = ap (λ (g : Feeding). g .taken) (sym q);
+        told-is = moves .told-is ∙ ap (λ (g : ChunkTurn). summaryOf (g .answer)) (sym q);
+        next-is = moves .next-is ∙ ap (λ (g : ChunkTurn). g .next) (sym q);
+        taken-is = ap (λ (g : ChunkTurn). g .taken) (sym q);
       }
 
 -- no byte is left
-pub ends : (f : Feeding) (bytes : List ℕ) (len : ℕ) (mode : Mode) (s : List ℕ) (i : ℕ) → length s ≤ i → f ≡ plus i (feedOf (reader bytes len mode) (drop i s))
-    → (r : Fed) → r ≡ record { told = Nothing; len = len; mode = mode; taken = i } → Feeds bytes r f
+pub ends : (f : ChunkTurn) (bytes : List ℕ) (state : State) (s : List ℕ) (i : ℕ) → length s ≤ i → f ≡ laterBy i (feedOf (lentReader bytes state) (drop i s))
+    → (r : ChunkStep) → r ≡ record { told = Nothing; state = state; taken = i } → ChunkStepIs bytes r f
 unfolding feedOf
-ends f bytes len mode s i h so-far r is =
+ends f bytes state s i h so-far r is =
     let z : i + 0 ≡ i = omega arith in
-    let q : f ≡ feeding nothing (reader bytes len mode) i = so-far ∙ ap (λ (l : List ℕ). plus i (feedOf (reader bytes len mode) l)) (drop-of-length-le s {i = i} h) ∙ ap (feeding nothing (reader bytes len mode)) z in
+    let none = ap (λ (l : List ℕ). laterBy i (feedOf (lentReader bytes state) l)) (drop-of-length-le s {i = i} h) in
+    let q : f ≡ chunkTurn nothing (lentReader bytes state) i = so-far ∙ none ∙ ap (chunkTurn nothing (lentReader bytes state)) z in
     record {
-      told-is = ap (λ (g : Fed). toldMeans (g .told)) is ∙ ap (λ (g : Feeding). summaryOf (g .outcome)) (sym q);
-      next-is = ap (λ (g : Fed). reader bytes (g .len) (g .mode)) is ∙ ap (λ (g : Feeding). g .next) (sym q);
-      taken-is = ap (λ (g : Fed). g .taken) is ∙ ap (λ (g : Feeding). g .taken) (sym q);
+      told-is = ap (λ (g : ChunkStep). toldMeans (g .told)) is ∙ ap (λ (g : ChunkTurn). summaryOf (g .answer)) (sym q);
+      next-is = ap (λ (g : ChunkStep). lentReader bytes (g .state)) is ∙ ap (λ (g : ChunkTurn). g .next) (sym q);
+      taken-is = ap (λ (g : ChunkStep). g .taken) is ∙ ap (λ (g : ChunkTurn). g .taken) (sym q);
     }

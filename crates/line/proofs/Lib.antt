@@ -1,8 +1,9 @@
+pub mod ReaderLaws
 pub mod Follows
 pub mod Calls
 pub mod Consequences
 pub mod FeedLaws
+pub mod FeedBounds
 pub mod RunLaws
 pub mod ChunkLaws
 pub mod ChunkCalls
-pub mod FeedBounds

@@ -1,6 +1,6 @@
 -- Laws of a run of bytes that are no flags, over the loops that skip or hold them.
 use mathlib.Core.Path.{_≡_, refl, sym, ap, _∙_, subst}
-use mathlib.Core.Bool.{Bool, true, false, true≢false, false≢true}
+use mathlib.Core.Bool.{Bool, true, false}
 use mathlib.Core.List.{List}
 use native.Mathlib.Nat.{add-zero}
 use native.Mathlib.Omega.{arith}
@@ -8,20 +8,23 @@ use lib.ListN.{length, take, drop, getD, set, length-drop}
 use lib.Seq.{getD-take, getD-drop, length-take-le, take-all}
 use lib.Dec.{leb}
 use Prim.Native.Nat.{ℕ, zero, suc, _+_, _-_, _≤_, _<_}
-use borrow.Author.Tests.{lt-ltb, ne-eqb, leb-true, leb-false}
+use borrow.Author.Tests.{lt-ltb, leb-true, leb-false}
 use Rattle.lists.specs.Choice.{pick, noneOf, countBefore}
 use Rattle.lists.proofs.Cases.{by-bool}
 use Rattle.lists.proofs.Tests.{none-at}
 use Rattle.lists.proofs.Before.{before-fits, before-clear}
-use Rattle.frame.specs.Stuffing.{isFlag}
+use Rattle.framing.specs.Reference.{Role, plain}
+use Rattle.frame.specs.Flags.{isFlag}
+use Rattle.frame.proofs.FlagLaws.{no-flag}
 use Rattle.line.specs.Outcome.{nothing}
-use Rattle.line.specs.Reader.{Turn, turn, reader, withByte, grownIn, stepOf}
-use Rattle.line.specs.Feed.{isAnswer, plus, feedOf}
-use Rattle.line.specs.Runs.{isHeld, Reaches}
+use Rattle.lists.specs.Machine.{turn}
+use Rattle.line.specs.Reader.{ReaderTurn, reader, roleStep, stepOf}
+use Rattle.line.specs.Feed.{isAnswer, laterBy, feedOf}
+use Rattle.line.specs.Private.{isHeld, Reaches}
 use Rattle.line.specs.declared.LineReader.{LineReader}
 use Rattle.line.specs.declared.Mode.{Mode}
-use Rattle.line.specs.declared.Mode.the-variants.{Outside, InStandard, InExtended, Overlong}
 use Rattle.line.proofs.FeedLaws.{not-answered}
+use Rattle.line.proofs.ReaderLaws.{held-byte, unheld-byte}
 
 pub stays : (s : List ℕ) (from : ℕ) (r : LineReader) → from ≤ length s → Reaches s from r from r
 stays s from r h = record { onward = omega arith; inside = h; same = refl }
@@ -29,39 +32,23 @@ stays s from r h = record { onward = omega arith; inside = h; same = refl }
 pub goes-on : {s : List ℕ} {from mid at : ℕ} {r now next : LineReader} → Reaches s from r mid now → Reaches s mid now at next → Reaches s from r at next
 goes-on p q = record { onward = omega (arith, p .onward, q .onward); inside = q .inside; same = p .same ∙ q .same }
 
-plain-step : (r : LineReader) (b : ℕ) → isFlag b ≡ false → stepOf r b ≡ turn nothing (grownIn (r .mode) r b)
-plain-step r b e =
-    simp (ne-eqb b 0xF0 (λ q. true≢false (sym (ap isFlag q) ∙ e)), ne-eqb b 0xF1 (λ q. true≢false (sym (ap isFlag q) ∙ e)), ne-eqb b 0xF2 (λ q. true≢false (sym (ap isFlag q) ∙ e)))
-
 -- one byte more of a run
 plain-more : (s : List ℕ) (from : ℕ) (r : LineReader) (i : ℕ) (now next : LineReader) → Reaches s from r i now → i < length s → isFlag (getD s i 0) ≡ false
-    → grownIn (now .mode) now (getD s i 0) ≡ next → Reaches s from r (i + 1) next
+    → roleStep plain now (getD s i 0) .next ≡ next → Reaches s from r (i + 1) next
 plain-more s from r i now next so-far below e grown =
-    let q : stepOf now (getD s i 0) ≡ turn nothing next = plain-step now (getD s i 0) e ∙ ap (turn nothing) grown in
+    let q : stepOf now (getD s i 0) ≡ turn nothing next = ap (λ (ρ : Role). roleStep ρ now (getD s i 0)) (no-flag (getD s i 0) e) ∙ ap (turn nothing) grown in
     record {
       onward = omega (arith, so-far .onward);
       inside = omega arith;
-      same = so-far .same ∙ not-answered now s i below (ap (λ (t : Turn). isAnswer (t .outcome)) q) ∙ ap (λ (t : Turn). plus (i + 1) (feedOf (t .next) (drop (i + 1) s))) q;
+      same = so-far .same ∙ not-answered now s i below (ap (λ (t : ReaderTurn). isAnswer (t .answer)) q) ∙ ap (λ (t : ReaderTurn). laterBy (i + 1) (feedOf (t .next) (drop (i + 1) s))) q;
     }
-
-unheld : (m : Mode) (r : LineReader) (b : ℕ) → isHeld m ≡ false → grownIn m r b ≡ r
-unheld Outside r b h = refl
-unheld InStandard r b h = absurd (true≢false h)
-unheld InExtended r b h = absurd (true≢false h)
-unheld Overlong r b h = refl
-
-held : (m : Mode) (r : LineReader) (b : ℕ) → isHeld m ≡ true → grownIn m r b ≡ withByte r b
-held Outside r b h = absurd (false≢true h)
-held InStandard r b h = refl
-held InExtended r b h = refl
-held Overlong r b h = absurd (false≢true h)
 
 pub keep-more : (s : List ℕ) (from : ℕ) (bytes₀ : List ℕ) (len : ℕ) (i : ℕ) (bytes : List ℕ) (n : ℕ)
     → ((m : Mode) → isHeld m ≡ true → Reaches s from (reader bytes₀ len m) i (reader bytes n m)) → i < length s → isFlag (getD s i 0) ≡ false → n < 118
     → (m : Mode) → isHeld m ≡ true → Reaches s from (reader bytes₀ len m) (i + 1) (reader (set bytes n (getD s i 0)) (n + 1) m)
 keep-more s from bytes₀ len i bytes n so-far below e l m h =
     plain-more s from (reader bytes₀ len m) i (reader bytes n m) (reader (set bytes n (getD s i 0)) (n + 1) m) (so-far m h) below e
-    (held m (reader bytes n m) (getD s i 0) h ∙ simp (lt-ltb n 118 l))
+    (held-byte m bytes n (getD s i 0) h ∙ simp (lt-ltb n 118 l))
 
 -- the same, counted from where the run began
 pub held-none : (s : List ℕ) (from : ℕ) (bytes : List ℕ) (len : ℕ) (m : Mode) → from ≤ length s → Reaches s from (reader bytes len m) (from + 0) (reader bytes (len + 0) m)
@@ -88,13 +75,13 @@ in-block s from n k h none l =
     ∙ none-at isFlag (take n (drop from s)) none k (omega (arith, length-take-le n (drop from s) (omega (arith, length-drop from s))))
 
 -- the bytes of such a block are passed over by a reader that does not hold them
-skip-block : (s : List ℕ) (from n : ℕ) → from + n ≤ length s → noneOf isFlag (take n (drop from s)) ≡ true → (r : LineReader) → isHeld (r .mode) ≡ false → Reaches s from r (from + n) r
+skip-block : (s : List ℕ) (from n : ℕ) → from + n ≤ length s → noneOf isFlag (take n (drop from s)) ≡ true → (r : LineReader) → isHeld (r .state .mode) ≡ false → Reaches s from r (from + n) r
 skip-block s from n h none r held′ = go n (omega arith)
   where
     go : (k : ℕ) → k ≤ n → Reaches s from r (from + k) r
     go zero l = subst (λ (m : ℕ). Reaches s from r m r) (sym (add-zero from)) (stays s from r (omega arith))
     go (suc k) l =
-        let more = plain-more s from r (from + k) r r (go k (omega arith)) (omega arith) (in-block s from n k h none (omega arith)) (unheld (r .mode) r (getD s (from + k) 0) held′) in
+        let more = plain-more s from r (from + k) r r (go k (omega arith)) (omega arith) (in-block s from n k h none (omega arith)) (unheld-byte (r .state .mode) (r .bytes) (r .state .len) (getD s (from + k) 0) held′) in
         let e : from + k + 1 ≡ from + suc k = omega arith in
         subst (λ (m : ℕ). Reaches s from r m r) e more
 
@@ -106,7 +93,7 @@ module _ (s : List ℕ) (from n : ℕ) (h : from ≤ length s) (e : n ≡ countB
   pub skip-fits : from + n ≤ length s
   skip-fits = omega (arith, count-is, before-fits isFlag (drop from s), length-drop from s)
 
-  pub skip-all : (r : LineReader) → isHeld (r .mode) ≡ false → Reaches s from r (from + n) r
+  pub skip-all : (r : LineReader) → isHeld (r .state .mode) ≡ false → Reaches s from r (from + n) r
   skip-all = skip-block s from n skip-fits (ap (λ (k : ℕ). noneOf isFlag (take k (drop from s))) count-is ∙ before-clear isFlag (drop from s))
 
 -- how far the loop that holds bytes goes

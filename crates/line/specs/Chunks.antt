@@ -3,6 +3,7 @@ use mathlib.Core.List.{List, [], _∷_, _++_}
 use lib.ListN.{drop}
 use Prim.Native.Nat.{ℕ}
 use Rattle.lists.specs.Choice.{pick}
+use Rattle.lists.specs.Machine.{leftAfter}
 use Rattle.line.specs.Outcome.{Outcome}
 use Rattle.line.specs.Reader.{stepOf}
 use Rattle.line.specs.Feed.{isAnswer, feedOf}
@@ -19,8 +20,7 @@ answersIn (o ∷ os) = withAnswer o (answersIn os)
 
 -- The reader after bytes fed singly.
 abbrev pub afterBytes : LineReader → List ℕ → LineReader
-afterBytes r [] = r
-afterBytes r (b ∷ bs) = afterBytes (stepOf r b .next) bs
+afterBytes r bytes = leftAfter (λ s b. stepOf s b .next) r bytes
 
 -- Calls on a reader that take a stream to its end, their answers, and the reader that the last one leaves. A call may be given any part
 -- of what is left of the stream, so also bytes that it does not take, all, or none.
@@ -28,4 +28,4 @@ pub data Chunks : LineReader → List ℕ → List Outcome → LineReader → Ty
   done : {r : LineReader} → Chunks r [] [] r
   chunk : {r last : LineReader} {rest : List Outcome} (given later : List ℕ)
       → Chunks (feedOf r given .next) (drop (feedOf r given .taken) (given ++ later)) rest last
-      → Chunks r (given ++ later) (withAnswer (feedOf r given .outcome) rest) last
+      → Chunks r (given ++ later) (withAnswer (feedOf r given .answer) rest) last

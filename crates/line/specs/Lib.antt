@@ -1,7 +1,6 @@
 pub mod Outcome
-pub mod Reader
 pub mod Rowing
+pub mod Reader
 pub mod Feed
-pub mod Runs
 pub mod Chunks
-pub mod Within
+pub mod Private

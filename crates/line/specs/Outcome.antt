@@ -1,11 +1,11 @@
 -- What a call on a line reader is answered with: document 01, "The line".
 use mathlib.Core.List.{List}
+use Prim.Native.Nat.{ℕ, _≤_}
 use lib.ListN.{replicate}
-use Prim.Native.Nat.{ℕ}
+use Rattle.answer.specs.Answer.{Answer, result, refused}
 use Rattle.answer.specs.Refusals.{numberOf}
 use Rattle.frame.specs.Verdict.{Verdict}
-use Rattle.frame.specs.Answers.{standardOutline, extendedOutline, judgeAnswer, frameRead, FrameOutline}
-use Rattle.answer.specs.Answer.{Answer, result, refused}
+use Rattle.frame.specs.Answers.{FrameOutline, standardOutline, extendedOutline, judgeAnswer, frameRead}
 use Rattle.line.specs.declared.Told.{Told}
 use Rattle.line.specs.declared.Told.the-variants.{Nothing, Refused, Standard, Extended}
 
@@ -34,8 +34,12 @@ abbrev pub outcomeOf : Summary → List ℕ → Outcome
 outcomeOf silent bytes = nothing
 outcomeOf (tells a) bytes = judged (frameRead a bytes)
 
+-- The most bytes that may stand between the flags of a frame.
+abbrev pub room : ℕ
+room = 118
+
 abbrev pub zeros : List ℕ
-zeros = replicate 118 0
+zeros = replicate room 0
 
 -- The array beside a summary, where `bytes` is the array that the reader is left with: a frame's contents are its first bytes;
 -- no contents stand beside anything else.
@@ -44,3 +48,10 @@ contentsBeside silent bytes = zeros
 contentsBeside (tells (result (standardOutline len))) bytes = bytes
 contentsBeside (tells (result (extendedOutline to from len))) bytes = bytes
 contentsBeside (tells (refused n)) bytes = zeros
+
+-- A frame's contents are at most so many bytes.
+abbrev pub ContentsFit : ℕ → Summary → Type 0
+ContentsFit most silent = Unit {0}
+ContentsFit most (tells (result (standardOutline len))) = len ≤ most
+ContentsFit most (tells (result (extendedOutline to from len))) = len ≤ most
+ContentsFit most (tells (refused n)) = Unit {0}

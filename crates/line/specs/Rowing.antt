@@ -1,35 +1,24 @@
--- The rowing protocol, at which the reference decoder is taken, and the answers of a new reader to a list of calls.
+-- The rowing protocol, at which the reference decoder and the bounded reader are taken.
 use mathlib.Core.List.{List}
-use lib.Dec.{eqb}
 use Prim.Native.Nat.{ℕ}
-use Rattle.lists.specs.Choice.{pick}
-use Rattle.framing.specs.Reference.{Call, byte, finish, Role, starts, stops, plain, Protocol}
-use Rattle.lists.specs.Machine.{run}
 use Rattle.answer.specs.Answer.{refused}
-use Rattle.frame.specs.Verdict.{verdict}
-use Rattle.line.specs.Outcome.{Outcome, nothing, judged}
-use Rattle.line.specs.Reader.{Turn, newReader, stepOf, finishOf}
-use Rattle.line.specs.declared.LineReader.{LineReader}
-
--- F0 and F1 start a candidate, F2 stops one.
-abbrev pub roleOf : ℕ → Role
-roleOf b = pick (eqb b 0xF0) starts (pick (eqb b 0xF1) starts (pick (eqb b 0xF2) stops plain))
+use Rattle.framing.specs.Reference.{Protocol}
+use Rattle.framing.specs.Bounded.{Bounds}
+use Rattle.frame.specs.Flags.{roleOf, kindOf}
+use Rattle.frame.specs.Verdict.{judge, verdict}
+use Rattle.frame.specs.Answers.{leftIn}
+use Rattle.frame.specs.declared.Kind.{Kind}
+use Rattle.line.specs.Outcome.{Outcome, nothing, judged, room}
 
 -- A terminated candidate is judged as the slice that it is, in frame reading's order without 1.
 abbrev pub rowing : Protocol Outcome
 rowing = record { role = roleOf; nothing = nothing; truncated = judged (refused 6); judge = λ s. judged (verdict s) }
 
--- A call on the reader, as the contracts of `step` and `finish` say.
-abbrev pub turnOf : LineReader → Call → Turn
-turnOf r (byte b) = stepOf r b
-turnOf r finish = finishOf r
+-- The array after an answer: an accepted frame's contents stand first.
+abbrev pub leftBy : Outcome → List ℕ → List ℕ
+leftBy nothing bytes = bytes
+leftBy (judged v) bytes = leftIn v bytes
 
-abbrev pub outcomeAt : LineReader → Call → Outcome
-outcomeAt r c = turnOf r c .outcome
-
-abbrev pub nextAfter : LineReader → Call → LineReader
-nextAfter r c = turnOf r c .next
-
--- The answers of a new reader, each call on the reader as the last one left it.
-abbrev pub readerAnswers : List Call → List Outcome
-readerAnswers calls = run outcomeAt nextAfter newReader calls
+-- A candidate of 118 bytes between its flags is held, and judged in place; one with more is refused with 2 when it is terminated.
+abbrev pub rowingBounds : Bounds Kind Outcome
+rowingBounds = record { room = room; kind = kindOf; judge = λ kind body. judged (judge kind body); left = leftBy; long = judged (refused 2) }

@@ -5,20 +5,20 @@ mod runs;
 use answer::Refusal;
 use frame::Kind;
 use frame::Read;
+use frame::flags;
 ghost use mathlib.Core.Path.{_≡_};
 ghost use mathlib.Core.List.{List};
 ghost use Prim.Native.Nat.{ℕ};
+ghost use Rattle.lists.specs.Machine.{turn};
+ghost use Rattle.framing.specs.Reference.{stops, plain};
+ghost use Rattle.framing.specs.Bounded.{truncatedIn, terminatedIn, leftIn};
 ghost use Rattle.frame.specs.Answers.{readMeans};
 ghost use Rattle.line.specs.Outcome.{toldMeans, tells, summaryOf, nothing, contentsBeside};
-ghost use Rattle.line.specs.Reader.{reader, turn, newReader, truncatedIn, restartOf, terminatedIn, leftBy, stopOf, withByte, grownIn, stepOf, finishOf, Moves, Steps, Turn};
+ghost use Rattle.line.specs.Rowing.{rowing, rowingBounds};
+ghost use Rattle.line.specs.Reader.{lentReader, reader, newReader, modeSeen, roleStep, stepOf, finishOf, LentStepIs, StepIs, ReaderTurn};
 ghost use Rattle.line.specs.declared.Told.the-variants.{Nothing};
-ghost use Rattle.line.specs.Feed.{says, feedOf, Feeds};
-
-const EXTENDED_START: u8 = 0xF0;
-
-const STANDARD_START: u8 = 0xF1;
-
-const STOP: u8 = 0xF2;
+ghost use Rattle.line.specs.Feed.{says, feedOf, ChunkStepIs};
+ghost use Rattle.line.specs.Private.{withByte};
 
 // The most bytes that may stand between the flags of a frame.
 const ROOM: usize = 118;
@@ -42,37 +42,42 @@ pub enum Mode {
     Overlong,
 }
 
-// A length of 118 or more counts as a full array, so every value of the struct is a reader.
-pub struct LineReader {
-    pub bytes: [u8; 118],
+// A line reader without its array: how many bytes of it are held, and the mode. A length of 118 or more counts as a full array, so
+// every value is a state.
+pub struct State {
     pub len: usize,
     pub mode: Mode,
 }
 
+// Every value of the struct is a reader.
+pub struct LineReader {
+    pub bytes: [u8; 118],
+    pub state: State,
+}
+
 // The answer to a call. The array is 118 zeros where no frame is told.
-pub struct Answer {
+pub struct StepAnswer {
     pub told: Told,
     pub contents: [u8; 118],
 }
 
 // The answer to a call, and the reader afterwards.
 pub struct Stepped {
-    pub answer: Answer,
+    pub answer: StepAnswer,
     pub next: LineReader,
 }
 
-// The same over a lent array, which holds the reader's bytes and, where a frame is told, its contents first.
-pub struct Moved {
+// The answer to a call over a lent array, and the state afterwards. The array holds the reader's bytes and, where a frame is told, its
+// contents first.
+pub struct LentStep {
     pub told: Told,
-    pub len: usize,
-    pub mode: Mode,
+    pub state: State,
 }
 
-// The answer to several bytes fed at once, and how many of them were taken.
-pub struct Fed {
+// The answer to several bytes fed at once over a lent array, the state afterwards, and how many of the bytes were taken.
+pub struct ChunkStep {
     pub told: Told,
-    pub len: usize,
-    pub mode: Mode,
+    pub state: State,
     pub taken: usize,
 }
 
@@ -82,95 +87,94 @@ impl LineReader {
     {
         LineReader {
             bytes: [0u8; 118],
-            len: 0,
-            mode: Mode::Outside,
+            state: State {
+                len: FRESH,
+                mode: Mode::Outside,
+            },
         }
     }
 
-    // Feeds a byte. It copies the reader, so a loop over many bytes goes through `step_in`.
+    // Feeds a byte. It copies the reader, so a loop over many bytes goes through `feed_in`.
     pub fn step(self, b: u8) -> Stepped
-        ensures { λ r. ⌜ Steps r (stepOf self b) ⌝ }
+        ensures { λ r. ⌜ StepIs r (stepOf self b) ⌝ }
     {
         let mut bytes = self.bytes;
-        let len = self.len;
-        let mode = self.mode;
-        let moved = step_in(&mut bytes, len, mode, b);
-        by_value(moved, bytes)
+        let state = self.state;
+        let step = step_in(&mut bytes, state, b);
+        by_value(step, bytes)
     }
 
     // Ends the input: a candidate that is open is truncated, and the reader is as new.
     pub fn finish(self) -> Stepped
-        ensures { λ r. ⌜ Steps r (finishOf self) ⌝ }
+        ensures { λ r. ⌜ StepIs r (finishOf self) ⌝ }
     {
         let bytes = self.bytes;
-        let mode = self.mode;
-        let moved = finish_in(mode);
-        by_value(moved, bytes)
+        let state = self.state;
+        let step = finish_in(state);
+        by_value(step, bytes)
     }
 }
 
-// Feeds a byte to a reader whose array is lent and whose length and mode go in and come back: the path of every byte.
-pub fn step_in(bytes: &mut [u8; 118], len: usize, mode: Mode, b: u8) -> Moved
-    ensures { λ r. ⌜ Moves (now (bytes .exit)) r (stepOf (reader (now (bytes .entry)) len mode) b) ⌝ }
+// Feeds a byte to a reader whose array is lent and whose state goes in and comes back: the path of every flag.
+pub fn step_in(bytes: &mut [u8; 118], state: State, b: u8) -> LentStep
+    ensures { λ r. ⌜ LentStepIs (now (bytes .exit)) r (stepOf (lentReader (now (bytes .entry)) state) b) ⌝ }
 {
-    if b == EXTENDED_START {
+    let mode = state.mode;
+    if b == flags::EXTENDED_START {
         return restart(mode, Mode::InExtended);
     }
-    if b == STANDARD_START {
+    if b == flags::STANDARD_START {
         return restart(mode, Mode::InStandard);
     }
-    if b == STOP {
-        return stop(bytes, len, mode);
+    if b == flags::STOP {
+        return stop(bytes, state);
     }
-    grow(bytes, len, mode, b)
+    grow(bytes, state, b)
 }
 
 // Ends the input of such a reader. Its array stays as it is.
-pub fn finish_in(mode: Mode) -> Moved
-    ensures { λ r. ⌜ ((bytes : List ℕ) (len : ℕ) → Moves bytes r (finishOf (reader bytes len mode))) ⌝ }
+pub fn finish_in(state: State) -> LentStep
+    ensures { λ r. ⌜ ((bytes : List ℕ) → LentStepIs bytes r (finishOf (lentReader bytes state))) ⌝ }
 {
+    let mode = state.mode;
     restart(mode, Mode::Outside)
 }
 
 // Feeds such a reader bytes up to the first that is answered; with no answer it takes all of them. Runs of bytes that
 // are no flags have loops of their own, and the flags go through `step_in`.
-pub fn feed_in(bytes: &mut [u8; 118], len: usize, mode: Mode, input: &[u8]) -> Fed
-    ensures { λ r. ⌜ Feeds (now (bytes .exit)) r (feedOf (reader (now (bytes .entry)) len mode) (now (input .entry))) ⌝ }
+pub fn feed_in(bytes: &mut [u8; 118], state: State, input: &[u8]) -> ChunkStep
+    ensures { λ r. ⌜ ChunkStepIs (now (bytes .exit)) r (feedOf (lentReader (now (bytes .entry)) state) (now (input .entry))) ⌝ }
 {
-    let mut n = len;
-    let mut m = mode;
+    let mut s = state;
     let mut i: usize = 0;
     while i < input.len() {
-        let run = runs::pass(bytes, n, m, input, i);
-        n = run.len;
+        let run = runs::consume(bytes, s, input, i);
+        s = run.state;
         let j = run.at;
         if input.len() <= j {
-            return unanswered(n, m, j);
+            return unanswered(s, j);
         }
-        let moved = step_in(bytes, n, m, input[j]);
-        n = moved.len;
-        m = moved.mode;
+        let step = step_in(bytes, s, input[j]);
+        s = step.state;
         i = j + 1;
-        let told = moved.told;
+        let told = step.told;
         if is_answer(told) {
-            return Fed {
+            return ChunkStep {
                 told,
-                len: n,
-                mode: m,
+                state: s,
                 taken: i,
             };
         }
     }
-    unanswered(n, m, i)
+    unanswered(s, i)
 }
 
-fn unanswered(len: usize, mode: Mode, taken: usize) -> Fed
-    ensures { λ r. ⌜ r ≡ record { told = Nothing; len = len; mode = mode; taken = taken } ⌝ }
+fn unanswered(state: State, taken: usize) -> ChunkStep
+    ensures { λ r. ⌜ r ≡ record { told = Nothing; state = state; taken = taken } ⌝ }
 {
-    Fed {
+    ChunkStep {
         told: Told::Nothing,
-        len,
-        mode,
+        state,
         taken,
     }
 }
@@ -191,18 +195,20 @@ fn is_answer(told: Told) -> bool
 }
 
 // A start flag, or the end of input: whatever is open is truncated.
-fn restart(mode: Mode, opens: Mode) -> Moved
-    ensures { λ r. ⌜ ((bytes : List ℕ) (len : ℕ) → Moves bytes r (restartOf (reader bytes len mode) opens)) ⌝ }
+fn restart(mode: Mode, opens: Mode) -> LentStep
+    ensures { λ r. ⌜ ((bytes : List ℕ) → LentStepIs bytes r (turn (truncatedIn rowing rowingBounds (modeSeen mode)) (reader bytes 0 opens))) ⌝ }
 {
-    Moved {
+    LentStep {
         told: truncated(mode),
-        len: FRESH,
-        mode: opens,
+        state: State {
+            len: FRESH,
+            mode: opens,
+        },
     }
 }
 
 fn truncated(mode: Mode) -> Told
-    ensures { λ r. ⌜ toldMeans r ≡ summaryOf (truncatedIn mode) ⌝ }
+    ensures { λ r. ⌜ toldMeans r ≡ summaryOf (truncatedIn rowing rowingBounds (modeSeen mode)) ⌝ }
 {
     match mode {
         Mode::Outside => Told::Nothing,
@@ -213,21 +219,24 @@ fn truncated(mode: Mode) -> Told
 }
 
 // The stop flag: what is open is judged.
-fn stop(bytes: &mut [u8; 118], len: usize, mode: Mode) -> Moved
-    ensures { λ r. ⌜ Moves (now (bytes .exit)) r (stopOf (reader (now (bytes .entry)) len mode)) ⌝ }
+fn stop(bytes: &mut [u8; 118], state: State) -> LentStep
+    ensures { λ r. ⌜ ((b : ℕ) → LentStepIs (now (bytes .exit)) r (roleStep stops (lentReader (now (bytes .entry)) state) b)) ⌝ }
 {
-    let told = terminated(bytes, len, mode);
+    let mode = state.mode;
+    let told = terminated(bytes, state.len, mode);
     let after = Mode::Outside;
-    Moved {
+    LentStep {
         told,
-        len: FRESH,
-        mode: after,
+        state: State {
+            len: FRESH,
+            mode: after,
+        },
     }
 }
 
 fn terminated(bytes: &mut [u8; 118], len: usize, mode: Mode) -> Told
-    ensures { λ r. ⌜ toldMeans r ≡ summaryOf (terminatedIn mode (now (bytes .entry)) len) ⌝ }
-    ensures { λ r. ⌜ now (bytes .exit) ≡ leftBy (terminatedIn mode (now (bytes .entry)) len) (now (bytes .entry)) ⌝ }
+    ensures { λ r. ⌜ toldMeans r ≡ summaryOf (terminatedIn rowing rowingBounds (modeSeen mode) (now (bytes .entry)) len) ⌝ }
+    ensures { λ r. ⌜ now (bytes .exit) ≡ leftIn rowing rowingBounds (modeSeen mode) (now (bytes .entry)) len ⌝ }
 {
     match mode {
         Mode::Outside => Told::Nothing,
@@ -248,9 +257,11 @@ fn told_of(read: Read) -> Told
 }
 
 // Any byte that is no flag.
-fn grow(bytes: &mut [u8; 118], len: usize, mode: Mode, b: u8) -> Moved
-    ensures { λ r. ⌜ Moves (now (bytes .exit)) r (turn nothing (grownIn mode (reader (now (bytes .entry)) len mode) b)) ⌝ }
+fn grow(bytes: &mut [u8; 118], state: State, b: u8) -> LentStep
+    ensures { λ r. ⌜ LentStepIs (now (bytes .exit)) r (roleStep plain (lentReader (now (bytes .entry)) state) b) ⌝ }
 {
+    let len = state.len;
+    let mode = state.mode;
     match mode {
         Mode::Outside => unmoved(len, mode),
         Mode::InStandard => with_byte(bytes, len, mode, b),
@@ -259,19 +270,18 @@ fn grow(bytes: &mut [u8; 118], len: usize, mode: Mode, b: u8) -> Moved
     }
 }
 
-fn unmoved(len: usize, mode: Mode) -> Moved
-    ensures { λ r. ⌜ ((bytes : List ℕ) → Moves bytes r (turn nothing (reader bytes len mode))) ⌝ }
+fn unmoved(len: usize, mode: Mode) -> LentStep
+    ensures { λ r. ⌜ ((bytes : List ℕ) → LentStepIs bytes r (turn nothing (reader bytes len mode))) ⌝ }
 {
-    Moved {
+    LentStep {
         told: Told::Nothing,
-        len,
-        mode,
+        state: State { len, mode },
     }
 }
 
 // One byte more in an open candidate.
-fn with_byte(bytes: &mut [u8; 118], len: usize, mode: Mode, b: u8) -> Moved
-    ensures { λ r. ⌜ Moves (now (bytes .exit)) r (turn nothing (withByte (reader (now (bytes .entry)) len mode) b)) ⌝ }
+fn with_byte(bytes: &mut [u8; 118], len: usize, mode: Mode, b: u8) -> LentStep
+    ensures { λ r. ⌜ LentStepIs (now (bytes .exit)) r (turn nothing (withByte (reader (now (bytes .entry)) len mode) b)) ⌝ }
 {
     if len < ROOM {
         bytes[len] = b;
@@ -281,16 +291,15 @@ fn with_byte(bytes: &mut [u8; 118], len: usize, mode: Mode, b: u8) -> Moved
 }
 
 // The answer by value, from the one over a lent array and the array.
-fn by_value(moved: Moved, bytes: [u8; 118]) -> Stepped
-    ensures { λ r. ⌜ ((t : Turn) → Moves bytes moved t → Steps r t) ⌝ }
+fn by_value(step: LentStep, bytes: [u8; 118]) -> Stepped
+    ensures { λ r. ⌜ ((t : ReaderTurn) → LentStepIs bytes step t → StepIs r t) ⌝ }
 {
-    let told = moved.told;
-    let len = moved.len;
-    let mode = moved.mode;
+    let told = step.told;
+    let state = step.state;
     let contents = beside(told, bytes);
     Stepped {
-        answer: Answer { told, contents },
-        next: LineReader { bytes, len, mode },
+        answer: StepAnswer { told, contents },
+        next: LineReader { bytes, state },
     }
 }
 

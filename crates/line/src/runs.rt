@@ -1,35 +1,45 @@
 // Runs of bytes that are no flags.
 use crate::Mode;
+use crate::State;
+use frame::flags;
 ghost use mathlib.Core.Path.{_≡_};
 ghost use mathlib.Core.Bool.{true, false};
 ghost use Prim.Native.Nat.{_+_, _-_, _≤_};
 ghost use lib.ListN.{length, take, drop};
 ghost use Rattle.lists.specs.Choice.{noneOf};
-ghost use Rattle.frame.specs.Stuffing.{isFlag};
-ghost use Rattle.line.specs.Reader.{reader};
-ghost use Rattle.line.specs.Runs.{isHeld, Reaches, Kept};
+ghost use Rattle.frame.specs.Flags.{isFlag};
+ghost use Rattle.line.specs.Reader.{lentReader, reader};
+ghost use Rattle.line.specs.Private.{isHeld, Reaches, Kept};
 ghost use Rattle.line.specs.declared.LineReader.{LineReader};
 ghost use Rattle.line.specs.declared.Mode.{Mode};
 
-// How many bytes are tested for flags together.
-const BLOCK: usize = 32;
-
 // Where a run ends, and how many bytes are held there.
-pub(crate) struct Run {
+struct Run {
+    at: usize,
+    len: usize,
+}
+
+// Where a run ends, and the state of the reader there.
+pub(crate) struct Consumed {
     pub(crate) at: usize,
-    pub(crate) len: usize,
+    pub(crate) state: State,
 }
 
 // Takes the bytes from an index on up to a flag or to the end, those of an open candidate only while there is room for them.
-pub(crate) fn pass(bytes: &mut [u8; 118], len: usize, mode: Mode, input: &[u8], from: usize) -> Run
+pub(crate) fn consume(bytes: &mut [u8; 118], state: State, input: &[u8], from: usize) -> Consumed
     requires { ⌜ from ≤ length (now input) ⌝ }
-    ensures { λ run. ⌜ Reaches (now (input .entry)) from (reader (now (bytes .entry)) len mode) (run .at) (reader (now (bytes .exit)) (run .len) mode) ⌝ }
+    ensures { λ r. ⌜ Reaches (now (input .entry)) from (lentReader (now (bytes .entry)) state) (r .at) (lentReader (now (bytes .exit)) (r .state)) ⌝ }
 {
+    let mode = state.mode;
     if is_held(mode) {
-        return keep(bytes, len, input, from);
+        let run = keep(bytes, state.len, input, from);
+        return Consumed {
+            at: run.at,
+            state: State { len: run.len, mode },
+        };
     }
     let at = skip(input, from);
-    Run { at, len }
+    Consumed { at, state }
 }
 
 fn is_held(mode: Mode) -> bool
@@ -43,21 +53,12 @@ fn is_held(mode: Mode) -> bool
     }
 }
 
-fn is_flag(b: u8) -> bool
-    ensures { λ r. ⌜ r ≡ isFlag b ⌝ }
-{
-    if b < crate::EXTENDED_START {
-        return false;
-    }
-    b <= crate::STOP
-}
-
 // Bytes that are not held.
 fn skip(input: &[u8], from: usize) -> usize
     requires { ⌜ from ≤ length (now input) ⌝ }
-    ensures { λ at. ⌜ ((r : LineReader) → isHeld (r .mode) ≡ false → Reaches (now (input .entry)) from r at r) ⌝ }
+    ensures { λ at. ⌜ ((r : LineReader) → isHeld (r .state .mode) ≡ false → Reaches (now (input .entry)) from r at r) ⌝ }
 {
-    from + lists::count_before(&input[from..], crate::EXTENDED_START, crate::STOP)
+    from + lists::count_before(&input[from..], flags::EXTENDED_START, flags::STOP)
 }
 
 // How many bytes more may be held.
@@ -89,13 +90,17 @@ fn keep_blocks(bytes: &mut [u8; 118], len: usize, input: &[u8], from: usize, end
 {
     let mut n = len;
     let mut i = from;
-    while BLOCK <= end - i {
-        if !lists::none_within(&input[i..i + BLOCK], crate::EXTENDED_START, crate::STOP) {
+    while lists::BLOCK <= end - i {
+        if !lists::none_within(
+            &input[i..i + lists::BLOCK],
+            flags::EXTENDED_START,
+            flags::STOP,
+        ) {
             return Run { at: i, len: n };
         }
         keep_block(bytes, n, input, i);
-        n += BLOCK;
-        i += BLOCK;
+        n += lists::BLOCK;
+        i += lists::BLOCK;
     }
     Run { at: i, len: n }
 }
@@ -108,7 +113,7 @@ fn keep_block(bytes: &mut [u8; 118], len: usize, input: &[u8], from: usize)
     ensures { λ r. ⌜ ((mode : Mode) → isHeld mode ≡ true → Reaches (now (input .entry)) from (reader (now (bytes .entry)) len mode) (from + 32) (reader (now (bytes .exit)) (len + 32) mode)) ⌝ }
 {
     let mut k: usize = 0;
-    while k < BLOCK {
+    while k < lists::BLOCK {
         bytes[len + k] = input[from + k];
         k += 1;
     }
@@ -124,7 +129,7 @@ fn keep_each(bytes: &mut [u8; 118], len: usize, input: &[u8], from: usize, end: 
     let mut i = from;
     while i < end {
         let b = input[i];
-        if is_flag(b) {
+        if flags::is_flag(b) {
             return Run { at: i, len: n };
         }
         bytes[n] = b;

@@ -1,7 +1,9 @@
 -- Laws of a machine run on a list of calls.
 use mathlib.Core.Path.{_≡_, refl, ap, ap₂, _∙_}
+use mathlib.Core.Bool.{Bool, true, false}
 use mathlib.Core.List.{List, [], _∷_, _++_}
-use Rattle.lists.specs.Machine.{run, leftAfter, Ran, ended, call}
+use Rattle.lists.specs.Machine.{run, leftAfter, only, answersOnly, EveryCall, Ran, ended, call}
+use Rattle.lists.proofs.Cases.{by-bool}
 
 -- ---- one machine
 
@@ -32,6 +34,33 @@ module _ {S T C A : Type 0} (answer : S → C → A) (next : S → C → S) (ans
       let rest : run answer next (next s c) calls ≡ run answer′ next′ (next′ t c) calls = simulates (next s c) (next′ t c) (k .1) calls in
       cc (k .0)
 
+-- The same of calls that all have a property; and the states that they leave are related too.
+module _ {S T C A : Type 0} (answer : S → C → A) (next : S → C → S) (answer′ : T → C → A) (next′ : T → C → T)
+    (P : C → Type 0) (R : S → T → Type 0)
+    (step : (s : S) (t : T) (c : C) → P c → R s t → (answer s c ≡ answer′ t c) × R (next s c) (next′ t c)) where
+  pub simulates-every : (s : S) (t : T) → R s t → (calls : List C) → EveryCall P calls
+      → (run answer next s calls ≡ run answer′ next′ t calls) × R (leftAfter next s calls) (leftAfter next′ t calls)
+  simulates-every s t r [] ps = (refl, r)
+  simulates-every s t r (c ∷ calls) ps =
+      let k = step s t c (ps .0) r in
+      let rest = simulates-every (next s c) (next′ t c) (k .1) calls (ps .1) in
+      (ap₂ (λ (x : A) (xs : List A). x ∷ xs) (k .0) (rest .0), rest .1)
+
+-- Where one machine answers the calls that pass a test as another does, and no other call changes what relates them,
+-- its answers to those calls are the other's to them alone.
+module _ {S T C A : Type 0} (p : C → Bool) (answer : S → C → A) (next : S → C → S) (answer′ : T → C → A)
+    (next′ : T → C → T) (R : S → T → Type 0)
+    (own : (s : S) (t : T) (c : C) → p c ≡ true → R s t → (answer s c ≡ answer′ t c) × R (next s c) (next′ t c))
+    (other : (s : S) (t : T) (c : C) → p c ≡ false → R s t → R (next s c) t) where
+  pub only-run : (s : S) (t : T) → R s t → (calls : List C)
+      → answersOnly p calls (run answer next s calls) ≡ run answer′ next′ t (only p calls)
+  only-run s t r [] = refl
+  only-run s t r (c ∷ calls) =
+      by-bool (p c)
+      (λ y. let k = own s t c y r in
+      simp y (ap₂ (λ (x : A) (xs : List A). x ∷ xs) (k .0) (only-run (next s c) (next′ t c) (k .1) calls)))
+      (λ n. simp n (only-run (next s c) t (other s t c n r) calls))
+
 -- ---- calls known by what is known of each
 
 -- Where each call is answered, and leaves what is seen of its state, as a machine says, so is every row of calls.
@@ -46,3 +75,10 @@ module _ {S T C A : Type 0} (called : S → C → A → S → Type 0) (answer : 
         ap₂ (λ (x : A) (xs : List A). x ∷ xs) (e .0) (r .0 ∙ ap (λ (v : T). run answer next v calls) (e .1)),
         r .1 ∙ ap (λ (v : T). leftAfter next v calls) (e .1),
       )
+
+-- What each call shows of itself, every call of a row has.
+module _ {S C A : Type 0} (called : S → C → A → S → Type 0) (P : C → Type 0)
+    (each : (s t : S) (c : C) (a : A) → called s c a t → P c) where
+  pub ran-every : {s u : S} {calls : List C} {answers : List A} → Ran called s calls answers u → EveryCall P calls
+  ran-every ended = tt
+  ran-every (call s t c a k rest) = (each s t c a k, ran-every rest)

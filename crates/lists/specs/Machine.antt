@@ -3,6 +3,14 @@ use mathlib.Core.Bool.{Bool}
 use mathlib.Core.List.{List, [], _∷_}
 use Rattle.lists.specs.Choice.{pick}
 
+-- The answer to a call, and the state afterwards.
+pub record Turn (S A : Type 0) : Type 0 where
+  pub answer : A
+  pub next : S
+
+abbrev pub turn : {S A : Type 0} → A → S → Turn S A
+turn a s = record { answer = a; next = s }
+
 -- The answers to the calls.
 abbrev pub run : {S C A : Type 0} → (S → C → A) → (S → C → S) → S → List C → List A
 run answer next s [] = []
@@ -25,6 +33,11 @@ abbrev pub answersOnly : {C A : Type 0} → (C → Bool) → List C → List A �
 answersOnly p [] answers = []
 answersOnly p (c ∷ calls) [] = []
 answersOnly p (c ∷ calls) (a ∷ answers) = pick (p c) (a ∷ answersOnly p calls answers) (answersOnly p calls answers)
+
+-- Every call has a property.
+abbrev pub EveryCall : {C : Type 0} → (C → Type 0) → List C → Type 0
+EveryCall P [] = Unit {0}
+EveryCall P (c ∷ calls) = P c × EveryCall P calls
 
 -- ---- calls known by nothing but what is known of each
 

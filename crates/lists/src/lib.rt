@@ -7,7 +7,7 @@ ghost use lib.ListN.{length, drop};
 ghost use Rattle.lists.specs.Choice.{pick, within, noneOf, countBefore};
 
 // How many bytes are tested together.
-const BLOCK: usize = 32;
+pub const BLOCK: usize = 32;
 
 // The lesser of two numbers.
 pub fn lesser(a: usize, b: usize) -> usize

@@ -5,9 +5,10 @@ use mathlib.Core.List.{List, [], _∷_, _++_, append-assoc}
 use mathlib.Core.Logic.{_⊎_, inl, inr, ⊎-elim}
 use Prim.Native.Nat.{ℕ, suc, _+_}
 use native.Mathlib.Omega.{arith}
-use Rattle.framing.specs.Reference.{Role, starts, stops, plain}
-use Rattle.framing.specs.Demand3.{FlagFree, LeftOpen}
-use Rattle.line.specs.Rowing.{roleOf, rowing}
+use Rattle.framing.specs.Reference.{Role, starts, stops, plain, FlagFree}
+use Rattle.framing.specs.Demand3.{LeftOpen}
+use Rattle.frame.specs.Flags.{roleOf}
+use Rattle.line.specs.Rowing.{rowing}
 use Rattle.text.specs.Strays.{strayAt, openAfter, strays, Strays, done, inside, stray}
 
 -- ---- the last of a list, and what stands before it
@@ -37,16 +38,16 @@ front-last (x ∷ w ∷ xs) y = ap (λ (l : List ℕ). x ∷ l) (front-last (w �
 
 -- ---- bytes that are no flags
 
-free-last : (x : ℕ) (xs : List ℕ) (b : ℕ) → FlagFree rowing (x ∷ xs) → last x xs ≡ b → roleOf b ≡ plain
+free-last : (x : ℕ) (xs : List ℕ) (b : ℕ) → FlagFree roleOf (x ∷ xs) → last x xs ≡ b → roleOf b ≡ plain
 free-last x [] b n e = ap roleOf (sym e) ∙ n .0
 free-last x (y ∷ ys) b n e = free-last y ys b (n .1) e
 
-free-front : (xs : List ℕ) → FlagFree rowing xs → FlagFree rowing (front xs)
+free-front : (xs : List ℕ) → FlagFree roleOf xs → FlagFree roleOf (front xs)
 free-front [] n = tt
 free-front (x ∷ []) n = tt
 free-front (x ∷ y ∷ ys) n = (n .0, free-front (y ∷ ys) (n .1))
 
-free-more : (xs : List ℕ) (b : ℕ) → FlagFree rowing xs → roleOf b ≡ plain → FlagFree rowing (xs ++ b ∷ [])
+free-more : (xs : List ℕ) (b : ℕ) → FlagFree roleOf xs → roleOf b ≡ plain → FlagFree roleOf (xs ++ b ∷ [])
 free-more [] b n e = (e, tt)
 free-more (x ∷ xs) b n e = (n .0, free-more xs b (n .1) e)
 
@@ -66,7 +67,7 @@ stays bytes b e o = record {
 }
 
 -- the last byte of bytes that leave a candidate open is its start flag, or is no flag and comes after bytes that leave it open
-by-rest : (bytes : List ℕ) (b : ℕ) (before : List ℕ) (flag : ℕ) (rest : List ℕ) → bytes ++ b ∷ [] ≡ before ++ flag ∷ rest → roleOf flag ≡ starts → FlagFree rowing rest
+by-rest : (bytes : List ℕ) (b : ℕ) (before : List ℕ) (flag : ℕ) (rest : List ℕ) → bytes ++ b ∷ [] ≡ before ++ flag ∷ rest → roleOf flag ≡ starts → FlagFree roleOf rest
     → (roleOf b ≡ starts) ⊎ ((roleOf b ≡ plain) × LeftOpen rowing bytes)
 by-rest bytes b before flag [] e st n =
     let same : b ≡ flag = sym (last-append 0 bytes b []) ∙ ap (last 0) e ∙ last-append 0 before flag [] in

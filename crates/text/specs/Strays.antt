@@ -6,7 +6,8 @@ use mathlib.Core.Logic.{_⊎_}
 use Prim.Native.Nat.{ℕ, suc, _+_}
 use Rattle.framing.specs.Reference.{Role, starts, stops, plain}
 use Rattle.framing.specs.Demand3.{LeftOpen}
-use Rattle.line.specs.Rowing.{roleOf, rowing}
+use Rattle.frame.specs.Flags.{roleOf}
+use Rattle.line.specs.Rowing.{rowing}
 
 -- ---- as a count
 

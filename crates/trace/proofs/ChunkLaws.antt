@@ -16,7 +16,7 @@ use Rattle.trace.specs.Private.{Going, Advances, listing, listedOf}
 use Rattle.trace.specs.Machine.{nextOf, textOf, listingAfter, texts, takenOf, Lists}
 use Rattle.trace.specs.declared.Listing.{Listing}
 use Rattle.trace.specs.declared.Listed.{Listed}
-use Rattle.trace.specs.declared.Turn.{Turn}
+use Rattle.trace.specs.declared.Advanced.{Advanced}
 
 pub after-append : (s : Listing) (xs ys : List ℕ) → listingAfter s (xs ++ ys) ≡ listingAfter (listingAfter s xs) ys
 after-append s [] ys = refl
@@ -41,7 +41,7 @@ taken-stop : (t : Bool) (n i : ℕ) → t ≡ true → i + pick t 0 (1 + n) ≡ 
 taken-stop t n i e = rw e (omega arith)
 
 module _ (s₀ : Listing) (chunk out₀ : List ℕ) (s : Listing) (out : List ℕ) (at i : ℕ) (g : Going s₀ chunk out₀ s out at i) where
-  pub going-more : at ≤ length out₀ → 96 ≤ length out₀ - at → (bytes out′ : List ℕ) (r : Turn) → Advances s (drop i chunk) bytes out at out′ r
+  pub going-more : at ≤ length out₀ → 96 ≤ length out₀ - at → (bytes out′ : List ℕ) (r : Advanced) → Advances s (drop i chunk) bytes out at out′ r
       → Going s₀ chunk out₀ (listing bytes (r .tally)) out′ (r .at) (i + r .taken)
   going-more k room bytes out′ r t =
       let n : ℕ = r .taken in

@@ -5,17 +5,21 @@ use mathlib.Core.List.{List, [], _∷_, _++_, append-assoc, append-nil}
 use Prim.Native.Nat.{ℕ, _+_, _^_, _≤_, _<_}
 use native.Mathlib.Nat.{mod-eq-of-lt}
 use native.Mathlib.Omega.{arith}
-use lib.ListN.{length, set}
-use lib.Dec.{eqb, ltb}
+use lib.ListN.{length}
+use lib.Dec.{ltb}
 use Rattle.lists.specs.Choice.{pick}
 use Rattle.framing.specs.Reference.{finish, Role, starts, stops, plain}
 use Rattle.lists.specs.Machine.{run}
 use Rattle.framing.specs.Demand3.{feed}
+use Rattle.framing.specs.Bounded.{BoundedMode, inside, overlong, BoundedReader, grownIn}
 use Rattle.answer.specs.Answer.{result, refused}
 use Rattle.frame.specs.Verdict.{Verdict}
 use Rattle.line.specs.Outcome.{Outcome, nothing, judged}
-use Rattle.line.specs.Reader.{reader, restartOf, stopOf, growOf, withByte, grownIn, stepOf, finishOf}
-use Rattle.line.specs.Rowing.{roleOf, outcomeAt, nextAfter}
+use Rattle.line.specs.Rowing.{rowing, rowingBounds}
+use Rattle.line.specs.Reader.{modeSeen, modeIn, roleStep, stepOf, finishOf, outcomeAt, nextAfter}
+use Rattle.frame.specs.Flags.{roleOf, kindOf}
+use Rattle.frame.specs.declared.Kind.{Kind}
+use Rattle.frame.specs.declared.Kind.the-variants.{Standard, Extended}
 use Rattle.line.specs.declared.LineReader.{LineReader}
 use Rattle.line.specs.declared.Mode.{Mode}
 use Rattle.line.specs.declared.Mode.the-variants.{Outside, InStandard, InExtended, Overlong}
@@ -46,29 +50,28 @@ one-stray plain false = omega arith
 
 -- ---- a candidate is open exactly where the reader is not outside
 
-more-open : (m : Mode) (bytes : List ℕ) (len b : ℕ) → isOpen m ≡ true → isOpen (withByte (reader bytes len m) b .mode) ≡ isOpen m
-more-open m bytes len b e = by-room (ltb len 118)
-  where
-    by-room : (t : Bool) → isOpen ((pick {A = LineReader} t (reader (set bytes len b) (len + 1) m) (reader bytes 0 Overlong)) .mode) ≡ isOpen m
-    by-room true = refl
-    by-room false = sym e
+inside-open : (kind : Kind) → isOpen (modeIn (inside kind)) ≡ true
+inside-open Standard = refl
+inside-open Extended = refl
 
-grown-open : (m : Mode) (bytes : List ℕ) (len b : ℕ) → isOpen (grownIn m (reader bytes len m) b .mode) ≡ isOpen m
+by-room : (t : Bool) (kind : Kind) (full more : BoundedReader Kind) → full .mode ≡ overlong → more .mode ≡ inside kind
+    → isOpen (modeIn (pick t more full .mode)) ≡ true
+by-room true kind full more e f = ap (λ (m : BoundedMode Kind). isOpen (modeIn m)) f ∙ inside-open kind
+by-room false kind full more e f = ap (λ (m : BoundedMode Kind). isOpen (modeIn m)) e
+
+grown-open : (m : Mode) (bytes : List ℕ) (len b : ℕ) → isOpen (modeIn (grownIn rowing rowingBounds (modeSeen m) bytes len b .mode)) ≡ isOpen m
 grown-open Outside bytes len b = refl
-grown-open InStandard bytes len b = more-open InStandard bytes len b refl
-grown-open InExtended bytes len b = more-open InExtended bytes len b refl
+grown-open InStandard bytes len b = by-room (ltb len 118) Standard _ _ refl refl
+grown-open InExtended bytes len b = by-room (ltb len 118) Extended _ _ refl refl
 grown-open Overlong bytes len b = refl
 
-open-at : (r : LineReader) (b : ℕ) (t₀ t₁ t₂ : Bool)
-    → isOpen ((pick t₀ (restartOf r InExtended) (pick t₁ (restartOf r InStandard) (pick t₂ (stopOf r) (growOf r b)))) .next .mode)
-    ≡ openAfter (pick t₀ starts (pick t₁ starts (pick t₂ stops plain))) (isOpen (r .mode))
-open-at r b true t₁ t₂ = refl
-open-at r b false true t₂ = refl
-open-at r b false false true = refl
-open-at r b false false false = grown-open (r .mode) (r .bytes) (r .len) b
+open-at : (r : LineReader) (b : ℕ) (ρ : Role) → isOpen (roleStep ρ r b .next .state .mode) ≡ openAfter ρ (isOpen (r .state .mode))
+open-at r b starts = inside-open (kindOf b)
+open-at r b stops = refl
+open-at r b plain = grown-open (r .state .mode) (r .bytes) (r .state .len) b
 
-pub open-is : (r : LineReader) (b : ℕ) → isOpen (stepOf r b .next .mode) ≡ openAfter (roleOf b) (isOpen (r .mode))
-open-is r b = open-at r b (eqb b 0xF0) (eqb b 0xF1) (eqb b 0xF2)
+pub open-is : (r : LineReader) (b : ℕ) → isOpen (stepOf r b .next .state .mode) ≡ openAfter (roleOf b) (isOpen (r .state .mode))
+open-is r b = open-at r b (roleOf b)
 
 -- ---- the text from a state on
 
@@ -106,10 +109,10 @@ same-last : (a : Outcome) (n n′ x x′ y y′ z z′ : ℕ) → n ≡ n′ →
 same-last a n n′ x x′ y y′ z z′ p q u v = rw (p, q, u, v)
 
 last-is : (s : Listing) → s .frames + s .refused + 1 < 2 ^ 64 → s .stray < 2 ^ 64
-    → lastText s ≡ Rest (s .frames) (s .refused) (s .stray) (isOpen (s .reader .mode)) (outcomesFrom (s .reader) []) []
+    → lastText s ≡ Rest (s .frames) (s .refused) (s .stray) (isOpen (s .reader .state .mode)) (outcomesFrom (s .reader) []) []
 unfolding lastText
 last-is s h g =
-    let a : Outcome = finishOf (s .reader) .outcome in
+    let a : Outcome = finishOf (s .reader) .answer in
     let k = one-answer a in
     same-last a _ (s .frames + s .refused + 1) _ (s .frames + frameOne a) _ (s .refused + refusedOne a) _ (s .stray + 0)
     (number-is (s .frames) (s .refused) h)
@@ -122,51 +125,51 @@ last-is s h g =
 -- a byte
 module _ (s : Listing) (b : ℕ) (h : s .frames + s .refused + 1 < 2 ^ 64) (g : s .stray + 1 < 2 ^ 64) where
   answer : Outcome
-  answer = stepOf (s .reader) b .outcome
+  answer = stepOf (s .reader) b .answer
 
   next-frames : nextOf s b .frames ≡ s .frames + frameOne answer
   unfolding nextOf answer
   next-frames =
-      let a = stepOf (s .reader) b .outcome in
+      let a = stepOf (s .reader) b .answer in
       let k = one-answer a in add64-is (s .frames) (frameOne a) (omega arith)
 
   next-refused : nextOf s b .refused ≡ s .refused + refusedOne answer
   unfolding nextOf answer
   next-refused =
-      let a = stepOf (s .reader) b .outcome in
+      let a = stepOf (s .reader) b .answer in
       let k = one-answer a in add64-is (s .refused) (refusedOne a) (omega arith)
 
-  next-stray : nextOf s b .stray ≡ s .stray + strayAt (roleOf b) (isOpen (s .reader .mode))
+  next-stray : nextOf s b .stray ≡ s .stray + strayAt (roleOf b) (isOpen (s .reader .state .mode))
   unfolding nextOf
-  next-stray = let k = one-stray (roleOf b) (isOpen (s .reader .mode)) in add64-is (s .stray) (strayAt (roleOf b) (isOpen (s .reader .mode))) (omega arith)
+  next-stray = let k = one-stray (roleOf b) (isOpen (s .reader .state .mode)) in add64-is (s .stray) (strayAt (roleOf b) (isOpen (s .reader .state .mode))) (omega arith)
 
-  next-open : isOpen (nextOf s b .reader .mode) ≡ openAfter (roleOf b) (isOpen (s .reader .mode))
+  next-open : isOpen (nextOf s b .reader .state .mode) ≡ openAfter (roleOf b) (isOpen (s .reader .state .mode))
   unfolding nextOf
   next-open = open-is (s .reader) b
 
   text-line : textOf s b ≡ line (s .frames + s .refused + 1) answer
   unfolding textOf answer
-  text-line = ap (λ (k : ℕ). line k (stepOf (s .reader) b .outcome)) (number-is (s .frames) (s .refused) h)
+  text-line = ap (λ (k : ℕ). line k (stepOf (s .reader) b .answer)) (number-is (s .frames) (s .refused) h)
 
   outcomes-next : (bytes : List ℕ) → outcomesFrom (s .reader) (b ∷ bytes) ≡ answer ∷ outcomesFrom (nextOf s b .reader) bytes
   unfolding nextOf answer
   outcomes-next bytes = refl
 
 pub all-text : (s : Listing) (bytes : List ℕ) → s .frames + s .refused + length bytes + 1 < 2 ^ 64 → s .stray + length bytes < 2 ^ 64
-    → texts s bytes ++ lastText (listingAfter s bytes) ≡ Rest (s .frames) (s .refused) (s .stray) (isOpen (s .reader .mode)) (outcomesFrom (s .reader) bytes) bytes
+    → texts s bytes ++ lastText (listingAfter s bytes) ≡ Rest (s .frames) (s .refused) (s .stray) (isOpen (s .reader .state .mode)) (outcomesFrom (s .reader) bytes) bytes
 all-text s [] h g = last-is s (omega arith) (omega arith)
 all-text s (b ∷ bytes) h g =
     let h₁ : s .frames + s .refused + 1 < 2 ^ 64 = omega arith in
     let g₁ : s .stray + 1 < 2 ^ 64 = omega arith in
     let a : Outcome = answer s b h₁ g₁ in
     let n : Listing = nextOf s b in
-    let o : Bool = isOpen (s .reader .mode) in
+    let o : Bool = isOpen (s .reader .state .mode) in
     let F = next-frames s b h₁ g₁ in
     let R = next-refused s b h₁ g₁ in
     let S = next-stray s b h₁ g₁ in
     let k = one-answer a in
     let u = one-stray (roleOf b) o in
-    let ih : texts n bytes ++ lastText (listingAfter n bytes) ≡ Rest (n .frames) (n .refused) (n .stray) (isOpen (n .reader .mode)) (outcomesFrom (n .reader) bytes) bytes =
+    let ih : texts n bytes ++ lastText (listingAfter n bytes) ≡ Rest (n .frames) (n .refused) (n .stray) (isOpen (n .reader .state .mode)) (outcomesFrom (n .reader) bytes) bytes =
     all-text n bytes (omega arith) (omega arith) in
     append-assoc (textOf s b) (texts n bytes) (lastText (listingAfter n bytes))
     ∙ ap (λ (l : List ℕ). textOf s b ++ l) (ih ∙ same-rest _ _ _ _ _ _ _ _ (outcomesFrom (n .reader) bytes) bytes F R S (next-open s b h₁ g₁))

@@ -10,10 +10,10 @@ use lib.Dec.{ltb}
 use borrow.Author.Tests.{le-ltb}
 use Rattle.lists.specs.Choice.{pick}
 use Rattle.line.specs.Outcome.{Outcome, nothing, judged, toldMeans, outcomeOf}
-use Rattle.line.specs.Feed.{isAnswer, Feeding, feeding, plus, feedOf, Feeds}
-use Rattle.line.specs.Reader.{reader, stepOf}
-use Rattle.line.specs.Rowing.{roleOf}
-use Rattle.line.specs.declared.Fed.{Fed}
+use Rattle.line.specs.Feed.{isAnswer, ChunkTurn, chunkTurn, laterBy, feedOf, ChunkStepIs}
+use Rattle.line.specs.Reader.{lentReader, stepOf}
+use Rattle.frame.specs.Flags.{roleOf}
+use Rattle.line.specs.declared.ChunkStep.{ChunkStep}
 use Rattle.line.specs.declared.LineReader.{LineReader}
 use Rattle.line.proofs.ChunkCalls.{feeds-outcome}
 use Rattle.text.specs.Lines.{line}
@@ -78,9 +78,9 @@ abbrev counting : Listing → Outcome → LineReader → ℕ → Listing
 counting s o r n = record { reader = r; frames = add64 (s .frames) (frameOne o); refused = add64 (s .refused) (refusedOne o); stray = add64 (s .stray) n }
 
 -- The first bytes, as many as are fed, take a state to the one that the answer gives, and their text is its line.
-abbrev LeadsTo : Listing → List ℕ → Feeding → Type 0
+abbrev LeadsTo : Listing → List ℕ → ChunkTurn → Type 0
 LeadsTo s bytes f =
-    Leads s bytes (f .taken) (counting s (f .outcome) (f .next) (strays (isOpen (s .reader .mode)) (take (f .taken) bytes))) (line (numberAfter (s .frames) (s .refused)) (f .outcome))
+    Leads s bytes (f .taken) (counting s (f .answer) (f .next) (strays (isOpen (s .reader .state .mode)) (take (f .taken) bytes))) (line (numberAfter (s .frames) (s .refused)) (f .answer))
 
 unanswered : (o : Outcome) → isAnswer o ≡ false → o ≡ nothing
 unanswered nothing e = refl
@@ -91,83 +91,83 @@ counting-none s h = λ i. record { reader = s .reader; frames = add-none (s .fra
 
 -- the state after a byte that is not answered
 abbrev quiet : Listing → ℕ → Listing
-quiet s b = record { reader = stepOf (s .reader) b .next; frames = s .frames; refused = s .refused; stray = add64 (s .stray) (strayAt (roleOf b) (isOpen (s .reader .mode))) }
+quiet s b = record { reader = stepOf (s .reader) b .next; frames = s .frames; refused = s .refused; stray = add64 (s .stray) (strayAt (roleOf b) (isOpen (s .reader .state .mode))) }
 
-quiet-next : (s : Listing) (b : ℕ) → CountsFit s → stepOf (s .reader) b .outcome ≡ nothing → quiet s b ≡ nextOf s b
+quiet-next : (s : Listing) (b : ℕ) → CountsFit s → stepOf (s .reader) b .answer ≡ nothing → quiet s b ≡ nextOf s b
 unfolding nextOf
 quiet-next s b h e =
-    let f : s .frames ≡ add64 (s .frames) (frameOne (stepOf (s .reader) b .outcome)) = add-none (s .frames) (h .0) ∙ ap (λ (o : Outcome). add64 (s .frames) (frameOne o)) (sym e) in
-    let r : s .refused ≡ add64 (s .refused) (refusedOne (stepOf (s .reader) b .outcome)) = add-none (s .refused) (h .1) ∙ ap (λ (o : Outcome). add64 (s .refused) (refusedOne o)) (sym e) in
-    λ i. record { reader = stepOf (s .reader) b .next; frames = f i; refused = r i; stray = add64 (s .stray) (strayAt (roleOf b) (isOpen (s .reader .mode))) }
+    let f : s .frames ≡ add64 (s .frames) (frameOne (stepOf (s .reader) b .answer)) = add-none (s .frames) (h .0) ∙ ap (λ (o : Outcome). add64 (s .frames) (frameOne o)) (sym e) in
+    let r : s .refused ≡ add64 (s .refused) (refusedOne (stepOf (s .reader) b .answer)) = add-none (s .refused) (h .1) ∙ ap (λ (o : Outcome). add64 (s .refused) (refusedOne o)) (sym e) in
+    λ i. record { reader = stepOf (s .reader) b .next; frames = f i; refused = r i; stray = add64 (s .stray) (strayAt (roleOf b) (isOpen (s .reader .state .mode))) }
 
-quiet-text : (s : Listing) (b : ℕ) → stepOf (s .reader) b .outcome ≡ nothing → textOf s b ≡ []
+quiet-text : (s : Listing) (b : ℕ) → stepOf (s .reader) b .answer ≡ nothing → textOf s b ≡ []
 unfolding textOf
 quiet-text s b e = ap (line (numberAfter (s .frames) (s .refused))) e
 
 add64-add64 : (a b c : ℕ) → add64 (add64 a b) c ≡ add64 a (b + c)
 add64-add64 a b c = omega arith
 
-first-leads : (s : Listing) (b : ℕ) (bytes : List ℕ) (f : Feeding) (q : Bool) → CountsFit s → isAnswer (stepOf (s .reader) b .outcome) ≡ q → LeadsTo (quiet s b) bytes f
-    → LeadsTo s (b ∷ bytes) (pick q (feeding (stepOf (s .reader) b .outcome) (stepOf (s .reader) b .next) 1) (plus 1 f))
+first-leads : (s : Listing) (b : ℕ) (bytes : List ℕ) (f : ChunkTurn) (q : Bool) → CountsFit s → isAnswer (stepOf (s .reader) b .answer) ≡ q → LeadsTo (quiet s b) bytes f
+    → LeadsTo s (b ∷ bytes) (pick q (chunkTurn (stepOf (s .reader) b .answer) (stepOf (s .reader) b .next) 1) (laterBy 1 f))
 unfolding nextOf textOf
 first-leads s b bytes f true h e l =
-    subst (λ (n : ℕ). Leads s (b ∷ bytes) 1 (counting s (stepOf (s .reader) b .outcome) (stepOf (s .reader) b .next) n) (line (numberAfter (s .frames) (s .refused)) (stepOf (s .reader) b .outcome)))
-    (sym (add-zero (strayAt (roleOf b) (isOpen (s .reader .mode))))) (lead-one s b bytes)
+    subst (λ (n : ℕ). Leads s (b ∷ bytes) 1 (counting s (stepOf (s .reader) b .answer) (stepOf (s .reader) b .next) n) (line (numberAfter (s .frames) (s .refused)) (stepOf (s .reader) b .answer)))
+    (sym (add-zero (strayAt (roleOf b) (isOpen (s .reader .state .mode))))) (lead-one s b bytes)
 first-leads s b bytes f false h e l =
     let u : Listing = quiet s b in
-    let o : Bool = isOpen (s .reader .mode) in
-    let a : stepOf (s .reader) b .outcome ≡ nothing = unanswered (stepOf (s .reader) b .outcome) e in
+    let o : Bool = isOpen (s .reader .state .mode) in
+    let a : stepOf (s .reader) b .answer ≡ nothing = unanswered (stepOf (s .reader) b .answer) e in
     let m : 1 + f .taken ≡ suc (f .taken) = omega arith in
-    let z : add64 (u .stray) (strays (isOpen (u .reader .mode)) (take (f .taken) bytes)) ≡ add64 (s .stray) (strays o (take (1 + f .taken) (b ∷ bytes))) =
-    add64-add64 (s .stray) (strayAt (roleOf b) o) (strays (isOpen (u .reader .mode)) (take (f .taken) bytes))
+    let z : add64 (u .stray) (strays (isOpen (u .reader .state .mode)) (take (f .taken) bytes)) ≡ add64 (s .stray) (strays o (take (1 + f .taken) (b ∷ bytes))) =
+    add64-add64 (s .stray) (strayAt (roleOf b) o) (strays (isOpen (u .reader .state .mode)) (take (f .taken) bytes))
     ∙ ap (λ (t : Bool). add64 (s .stray) (strayAt (roleOf b) o + strays t (take (f .taken) bytes))) (open-is (s .reader) b)
     ∙ ap (λ (n : ℕ). add64 (s .stray) (strays o (take n (b ∷ bytes)))) (sym m) in
-    let w : List ℕ = line (numberAfter (s .frames) (s .refused)) (f .outcome) in
-    subst (λ (n : ℕ). Leads s (b ∷ bytes) (1 + f .taken) (record { reader = f .next; frames = add64 (s .frames) (frameOne (f .outcome)); refused = add64 (s .refused) (refusedOne (f .outcome)); stray = n }) w) z
+    let w : List ℕ = line (numberAfter (s .frames) (s .refused)) (f .answer) in
+    subst (λ (n : ℕ). Leads s (b ∷ bytes) (1 + f .taken) (record { reader = f .next; frames = add64 (s .frames) (frameOne (f .answer)); refused = add64 (s .refused) (refusedOne (f .answer)); stray = n }) w) z
     (lead-on s b bytes (f .taken) _ w (quiet-text s b a)
-    (subst (λ (x : Listing). Leads x bytes (f .taken) (counting u (f .outcome) (f .next) (strays (isOpen (u .reader .mode)) (take (f .taken) bytes))) w) (quiet-next s b h a) l))
+    (subst (λ (x : Listing). Leads x bytes (f .taken) (counting u (f .answer) (f .next) (strays (isOpen (u .reader .state .mode)) (take (f .taken) bytes))) w) (quiet-next s b h a) l))
 
 feed-leads : (s : Listing) (bytes : List ℕ) → CountsFit s → LeadsTo s bytes (feedOf (s .reader) bytes)
 unfolding feedOf
 feed-leads s [] h = subst (λ (x : Listing). Leads s [] 0 x []) (counting-none s h) (lead-none s [])
 feed-leads s (b ∷ bytes) h =
-    first-leads s b bytes (feedOf (stepOf (s .reader) b .next) bytes) (isAnswer (stepOf (s .reader) b .outcome)) h refl
+    first-leads s b bytes (feedOf (stepOf (s .reader) b .next) bytes) (isAnswer (stepOf (s .reader) b .answer)) h refl
     (feed-leads (quiet s b) bytes (h .0, h .1, omega arith))
 
 feed-some : (r : LineReader) (bytes : List ℕ) → 0 < length bytes → 0 < feedOf r bytes .taken
 unfolding feedOf
 feed-some r [] h = absurd (omega arith)
-feed-some r (b ∷ bytes) h = by-answer (isAnswer (stepOf r b .outcome)) (feedOf (stepOf r b .next) bytes)
+feed-some r (b ∷ bytes) h = by-answer (isAnswer (stepOf r b .answer)) (feedOf (stepOf r b .next) bytes)
   where
-    by-answer : (q : Bool) (f : Feeding) → 0 < pick q (feeding (stepOf r b .outcome) (stepOf r b .next) 1) (plus 1 f) .taken
+    by-answer : (q : Bool) (f : ChunkTurn) → 0 < pick q (chunkTurn (stepOf r b .answer) (stepOf r b .next) 1) (laterBy 1 f) .taken
     by-answer true f = omega arith
     by-answer false f = omega arith
 
 -- ---- a call on them
 
-module _ (bytes₀ : List ℕ) (t : Tally) (rest bytes : List ℕ) (f : Fed) (g : Feeds bytes f (feedOf (reader bytes₀ (t .len) (t .mode)) rest)) (h : CountsFit (listing bytes₀ t)) where
+module _ (bytes₀ : List ℕ) (t : Tally) (rest bytes : List ℕ) (f : ChunkStep) (g : ChunkStepIs bytes f (feedOf (lentReader bytes₀ (t .state)) rest)) (h : CountsFit (listing bytes₀ t)) where
   pub fed-fits : f .taken ≤ length rest
   fed-fits = omega (arith, g .taken-is, feed-leads (listing bytes₀ t) rest h .fits)
 
   pub advances : (n x y z fc rc sc : ℕ) → n ≡ numberAfter (t .frames) (t .refused) → x ≡ add64 (t .frames) fc → fc ≡ frameCount (toldMeans (f .told))
-      → y ≡ add64 (t .refused) rc → rc ≡ refusedCount (toldMeans (f .told)) → z ≡ add64 (t .stray) sc → sc ≡ strayCount (isOpen (t .mode)) (take (f .taken) rest)
+      → y ≡ add64 (t .refused) rc → rc ≡ refusedCount (toldMeans (f .told)) → z ≡ add64 (t .stray) sc → sc ≡ strayCount (isOpen (t .state .mode)) (take (f .taken) rest)
       → {out out′ : List ℕ} {at end : ℕ} → Wrote out at (line n (outcomeOf (toldMeans (f .told)) bytes)) out′ end → end ≤ at + lineRoom
-      → Advances (listing bytes₀ t) rest bytes out at out′ (record { taken = f .taken; at = end; tally = record { len = f .len; mode = f .mode; frames = x; refused = y; stray = z } })
+      → Advances (listing bytes₀ t) rest bytes out at out′ (record { taken = f .taken; at = end; tally = record { state = f .state; frames = x; refused = y; stray = z } })
   advances n x y z fc rc sc en ex efc ey erc ez esc p k =
       let s : Listing = listing bytes₀ t in
-      let d : Feeding = feedOf (s .reader) rest in
-      let o : Outcome = d .outcome in
+      let d : ChunkTurn = feedOf (s .reader) rest in
+      let o : Outcome = d .answer in
       let l : LeadsTo s rest d = feed-leads s rest h in
       let fr : add64 (t .frames) (frameOne o) ≡ x = sym (ex ∙ ap (add64 (t .frames)) (efc ∙ ap frameCount (g .told-is) ∙ frame-count o)) in
       let re : add64 (t .refused) (refusedOne o) ≡ y = sym (ey ∙ ap (add64 (t .refused)) (erc ∙ ap refusedCount (g .told-is) ∙ refused-count o)) in
-      let st : add64 (t .stray) (strays (isOpen (t .mode)) (take (d .taken) rest)) ≡ z =
-      sym (ez ∙ ap (add64 (t .stray)) (esc ∙ ap (λ (i : ℕ). strayCount (isOpen (t .mode)) (take i rest)) (g .taken-is) ∙ sym (stray-count-is (s .reader) rest))) in
-      let next : counting s o (d .next) (strays (isOpen (t .mode)) (take (d .taken) rest)) ≡ listing bytes (record { len = f .len; mode = f .mode; frames = x; refused = y; stray = z }) =
+      let st : add64 (t .stray) (strays (isOpen (t .state .mode)) (take (d .taken) rest)) ≡ z =
+      sym (ez ∙ ap (add64 (t .stray)) (esc ∙ ap (λ (i : ℕ). strayCount (isOpen (t .state .mode)) (take i rest)) (g .taken-is) ∙ sym (stray-count-is (s .reader) rest))) in
+      let next : counting s o (d .next) (strays (isOpen (t .state .mode)) (take (d .taken) rest)) ≡ listing bytes (record { state = f .state; frames = x; refused = y; stray = z }) =
       (λ i. record { reader = sym (g .next-is) i; frames = fr i; refused = re i; stray = st i }) in
       let w : List ℕ = line (numberAfter (t .frames) (t .refused)) o in
       record {
         text = w;
-        leads = subst (λ (i : ℕ). Leads s rest i (listing bytes (record { len = f .len; mode = f .mode; frames = x; refused = y; stray = z })) w) (sym (g .taken-is))
+        leads = subst (λ (i : ℕ). Leads s rest i (listing bytes (record { state = f .state; frames = x; refused = y; stray = z })) w) (sym (g .taken-is))
             (subst (λ (u : Listing). Leads s rest (d .taken) u w) next l);
         some = λ e. omega (arith, g .taken-is, feed-some (s .reader) rest e);
         wrote = wrote-as (ap (λ (i : ℕ). line i (outcomeOf (toldMeans (f .told)) bytes)) en ∙ ap (line (numberAfter (t .frames) (t .refused))) (feeds-outcome bytes f (s .reader) rest g)) p;

@@ -10,7 +10,7 @@ use Rattle.frame.specs.Answers.{standardOutline, extendedOutline}
 use Rattle.answer.specs.Answer.{result, refused}
 use Rattle.line.specs.Outcome.{Summary, silent, tells}
 use Rattle.line.specs.Reader.{newReader, stepOf, finishOf}
-use Rattle.line.specs.Rowing.{roleOf}
+use Rattle.frame.specs.Flags.{roleOf}
 use Rattle.line.specs.declared.Mode.{Mode}
 use Rattle.line.specs.declared.Mode.the-variants.{Outside, InStandard, InExtended, Overlong}
 use Rattle.text.specs.Lines.{line, totals}
@@ -59,14 +59,14 @@ numberAfter frames refusals = add64 (add64 frames refusals) 1
 unfoldable pub nextOf : Listing → ℕ → Listing
 nextOf s b = record {
   reader = stepOf (s .reader) b .next;
-  frames = add64 (s .frames) (frameOne (stepOf (s .reader) b .outcome));
-  refused = add64 (s .refused) (refusedOne (stepOf (s .reader) b .outcome));
-  stray = add64 (s .stray) (strayAt (roleOf b) (isOpen (s .reader .mode)));
+  frames = add64 (s .frames) (frameOne (stepOf (s .reader) b .answer));
+  refused = add64 (s .refused) (refusedOne (stepOf (s .reader) b .answer));
+  stray = add64 (s .stray) (strayAt (roleOf b) (isOpen (s .reader .state .mode)));
 }
 
 -- The line of its answer.
 unfoldable pub textOf : Listing → ℕ → List ℕ
-textOf s b = line (numberAfter (s .frames) (s .refused)) (stepOf (s .reader) b .outcome)
+textOf s b = line (numberAfter (s .frames) (s .refused)) (stepOf (s .reader) b .answer)
 
 -- ---- bytes one after the other
 
@@ -101,8 +101,8 @@ lastRoom = 2 * lineRoom
 -- The text after the last byte.
 unfoldable pub lastText : Listing → List ℕ
 lastText s =
-    line (numberAfter (s .frames) (s .refused)) (finishOf (s .reader) .outcome)
-    ++ totals (add64 (s .frames) (frameOne (finishOf (s .reader) .outcome))) (add64 (s .refused) (refusedOne (finishOf (s .reader) .outcome))) (s .stray)
+    line (numberAfter (s .frames) (s .refused)) (finishOf (s .reader) .answer)
+    ++ totals (add64 (s .frames) (frameOne (finishOf (s .reader) .answer))) (add64 (s .refused) (refusedOne (finishOf (s .reader) .answer))) (s .stray)
 
 -- The finish: all of that text, or nothing where the output is too short.
 pub record Ends (s : Listing) (out out′ : List ℕ) (wrote : ℕ) : Type 0 where

@@ -6,15 +6,17 @@ use Prim.Native.Nat.{ℕ, _+_, _-_, _<_, _≤_}
 use lib.ListN.{length, take, drop}
 use Rattle.lists.specs.Choice.{within, countBefore}
 use Rattle.text.specs.Writing.{Wrote, lineRoom}
+use Rattle.line.specs.Reader.{lentReader}
 use Rattle.trace.specs.Machine.{listingAfter, texts, takenOf}
 use Rattle.trace.specs.declared.Listing.{Listing}
-use Rattle.trace.specs.declared.Turn.{Turn}
+use Rattle.trace.specs.declared.Advanced.{Advanced}
 use Rattle.trace.specs.declared.Listed.{Listed}
 use Rattle.trace.specs.declared.Tally.{Tally}
+use Rattle.frame.specs.Flags.{isStart}
 
 -- A state whose array stands apart.
 abbrev pub listing : List ℕ → Tally → Listing
-listing bytes t = record { reader = record { bytes = bytes; len = t .len; mode = t .mode }; frames = t .frames; refused = t .refused; stray = t .stray }
+listing bytes t = record { reader = lentReader bytes (t .state); frames = t .frames; refused = t .refused; stray = t .stray }
 
 abbrev pub listedOf : (taken wrote : ℕ) → Listing → Listed
 listedOf taken wrote s = record { taken = taken; wrote = wrote; next = s }
@@ -33,7 +35,7 @@ pub record Leads (s : Listing) (bytes : List ℕ) (n : ℕ) (s′ : Listing) (w 
   pub taken : (room : ℕ) → lineRoom ≤ room → takenOf s bytes room ≡ n + takenOf s′ (drop n bytes) (room - length w)
 
 -- Bytes up to an answer, at least one, and their text at an index.
-pub record Advances (s : Listing) (rest bytes out : List ℕ) (at : ℕ) (out′ : List ℕ) (r : Turn) : Type 0 where
+pub record Advances (s : Listing) (rest bytes out : List ℕ) (at : ℕ) (out′ : List ℕ) (r : Advanced) : Type 0 where
   pub text : List ℕ
   pub leads : Leads s rest (r .taken) (listing bytes (r .tally)) text
   pub some : 0 < length rest → 0 < r .taken
@@ -41,10 +43,6 @@ pub record Advances (s : Listing) (rest bytes out : List ℕ) (at : ℕ) (out′
   pub within : r .at ≤ at + lineRoom
 
 -- ---- stray bytes
-
--- Whether a byte starts a candidate.
-abbrev pub isStart : ℕ → Bool
-isStart b = within 0xF0 0xF1 b
 
 -- The stray bytes among those up to an answer: a candidate that is open ends only there, so they stand before the first start flag.
 abbrev pub strayCount : (is-open : Bool) → List ℕ → ℕ

@@ -1,7 +1,9 @@
 // The listing of a trace: a line for each answer of the line reader, then the totals (document 01, "Listing").
 // The state is a value. A call takes a chunk of the trace and a lent output, and writes whole lines into it.
+use frame::flags;
 use line::LineReader;
 use line::Mode;
+use line::State;
 use line::Told;
 ghost use mathlib.Core.Path.{_≡_};
 ghost use Prim.Native.Nat.{_+_, _≤_};
@@ -9,10 +11,6 @@ ghost use lib.ListN.{length};
 ghost use Rattle.line.specs.Outcome.{toldMeans};
 ghost use Rattle.trace.specs.Private.{strayCount, Advances, listing, listedOf};
 ghost use Rattle.trace.specs.Machine.{frameCount, refusedCount, isOpen, newListing, numberAfter, Lists, Ends};
-
-const EXTENDED_START: u8 = 0xF0;
-
-const STANDARD_START: u8 = 0xF1;
 
 // The room that the line of the finish and the totals fit in.
 const LAST_ROOM: usize = 192;
@@ -34,15 +32,14 @@ pub struct Listed {
 
 // A state without its array.
 struct Tally {
-    len: usize,
-    mode: Mode,
+    state: State,
     frames: u64,
     refused: u64,
     stray: u64,
 }
 
 // How many bytes were taken, the index after the line that they gave, and the state without its array.
-struct Turn {
+struct Advanced {
     taken: usize,
     at: usize,
     tally: Tally,
@@ -64,11 +61,10 @@ pub fn list(s: Listing, chunk: &[u8], out: &mut [u8]) -> Listed
     ensures { λ r. ⌜ Lists s (now (chunk .entry)) (now (out .entry)) (now (out .exit)) r ⌝ }
 {
     let reader = s.reader;
-    let mode = reader.mode;
+    let state = reader.state;
     let mut bytes = reader.bytes;
     let mut tally = Tally {
-        len: reader.len,
-        mode,
+        state,
         frames: s.frames,
         refused: s.refused,
         stray: s.stray,
@@ -99,9 +95,9 @@ pub fn finish(s: Listing, out: &mut [u8]) -> usize
     let refused = s.refused;
     let reader = s.reader;
     let bytes = reader.bytes;
-    let mode = reader.mode;
-    let moved = line::finish_in(mode);
-    let told = moved.told;
+    let state = reader.state;
+    let step = line::finish_in(state);
+    let told = step.told;
     let at = text::put_answer(told, &bytes, number(frames, refused), out, 0);
     let all_frames = std::num::wrapping_add_u64(frames, frame_count(told));
     let all_refused = std::num::wrapping_add_u64(refused, refused_count(told));
@@ -111,16 +107,12 @@ pub fn finish(s: Listing, out: &mut [u8]) -> usize
 fn packed(taken: usize, wrote: usize, bytes: [u8; 118], t: Tally) -> Listed
     ensures { λ r. ⌜ r ≡ listedOf taken wrote (listing bytes t) ⌝ }
 {
-    let mode = t.mode;
+    let state = t.state;
     Listed {
         taken,
         wrote,
         next: Listing {
-            reader: LineReader {
-                bytes,
-                len: t.len,
-                mode,
-            },
+            reader: LineReader { bytes, state },
             frames: t.frames,
             refused: t.refused,
             stray: t.stray,
@@ -129,25 +121,25 @@ fn packed(taken: usize, wrote: usize, bytes: [u8; 118], t: Tally) -> Listed
 }
 
 // Takes bytes up to the first that is answered, at least one, and writes its line at an index where there is room for any.
-fn advance(bytes: &mut [u8; 118], t: Tally, rest: &[u8], out: &mut [u8], at: usize) -> Turn
+fn advance(bytes: &mut [u8; 118], t: Tally, rest: &[u8], out: &mut [u8], at: usize) -> Advanced
     requires { ⌜ at + 96 ≤ length (now out) ⌝ }
     ensures { λ r. ⌜ Advances (listing (now (bytes .entry)) t) (now (rest .entry)) (now (bytes .exit)) (now (out .entry)) at (now (out .exit)) r ⌝ }
 {
-    let before = t.mode;
+    let before = t.state;
+    let mode = before.mode;
     let frames = t.frames;
     let refused = t.refused;
-    let fed = line::feed_in(bytes, t.len, before, rest);
+    let fed = line::feed_in(bytes, before, rest);
     let taken = fed.taken;
     let told = fed.told;
-    let mode = fed.mode;
-    let stray = stray_count(before, &rest[..taken]);
+    let state = fed.state;
+    let stray = stray_count(mode, &rest[..taken]);
     let end = text::put_answer(told, bytes, number(frames, refused), out, at);
-    Turn {
+    Advanced {
         taken,
         at: end,
         tally: Tally {
-            len: fed.len,
-            mode,
+            state,
             frames: std::num::wrapping_add_u64(frames, frame_count(told)),
             refused: std::num::wrapping_add_u64(refused, refused_count(told)),
             stray: std::num::wrapping_add_u64(t.stray, stray),
@@ -212,5 +204,5 @@ fn stray_count(mode: Mode, bytes: &[u8]) -> u64
     if is_open(mode) {
         return 0;
     }
-    lists::count_before(bytes, EXTENDED_START, STANDARD_START) as u64
+    lists::count_before(bytes, flags::EXTENDED_START, flags::STANDARD_START) as u64
 }

@@ -4,7 +4,7 @@ use crate::wire;
 use crate::words;
 use lease::LeaseAnswer;
 
-pub fn run_calls(calls: &[u8]) {
+pub(crate) fn run_calls(calls: &[u8]) {
     let mut table = [0u8; 2048];
     let mut i = 0;
     while i < calls.len() {

@@ -1,6 +1,6 @@
 // Runs the worked examples on standard input, at most 65,536 bytes, and prints a line for each. The head of `stdin` describes both.
 // What it prints is tested and not proved: it is compared with what a plain Rust program prints. The answers are those of the crates below.
-mod inside;
+mod contents;
 mod leases;
 mod print;
 mod wire;
@@ -50,10 +50,10 @@ fn run(operation: &[u8], arguments: &[u8]) {
         return leases::run_calls(arguments);
     }
     if check::same(operation, b"workout-distance") {
-        return inside::write_distance(arguments);
+        return contents::write_distance(arguments);
     }
     if check::same(operation, b"workout-time") {
-        return inside::write_time(arguments);
+        return contents::write_time(arguments);
     }
     let mut room = io::buffer();
     let n = words::bytes(arguments, &mut room);
@@ -65,7 +65,7 @@ fn run_on_bytes(operation: &[u8], bytes: &[u8]) {
         return wire::read(bytes);
     }
     if check::same(operation, b"contents") {
-        return inside::print_contents(bytes);
+        return contents::print_contents(bytes);
     }
     if check::same(operation, b"write-standard") {
         return wire::write_standard(bytes);

@@ -4,12 +4,12 @@ use libc::STDOUT_FILENO;
 
 const HEX_DIGITS: [u8; 16] = *b"0123456789ABCDEF";
 
-pub fn text(s: &[u8]) {
+pub(crate) fn text(s: &[u8]) {
     io::write_all(STDOUT_FILENO, s);
 }
 
 // Two digits for each byte.
-pub fn hex(s: &[u8]) {
+pub(crate) fn hex(s: &[u8]) {
     let mut i = 0;
     while i < s.len() {
         hex_byte(s[i]);
@@ -17,25 +17,25 @@ pub fn hex(s: &[u8]) {
     }
 }
 
-pub fn hex_byte(b: u8) {
+pub(crate) fn hex_byte(b: u8) {
     let digits = [hex_digit(b / 16), hex_digit(b % 16)];
     text(&digits);
 }
 
 // A key and a decimal number.
-pub fn number(key: &[u8], n: u64) {
+pub(crate) fn number(key: &[u8], n: u64) {
     text(key);
     io::print_decimal(STDOUT_FILENO, n);
 }
 
 // A key and bytes.
-pub fn bytes(key: &[u8], s: &[u8]) {
+pub(crate) fn bytes(key: &[u8], s: &[u8]) {
     text(key);
     hex(s);
 }
 
 // A key and a refusal's number.
-pub fn refusal(key: &[u8], why: Refusal) {
+pub(crate) fn refusal(key: &[u8], why: Refusal) {
     number(key, why.number() as u64);
 }
 

@@ -1,15 +1,15 @@
 // Frames read, written, and told by the line reader.
-use crate::inside;
+use crate::contents;
 use crate::print;
 use answer::Refusal;
 use answer::Written;
 use command::entries;
 use frame::Read;
-use line::Mode;
+use line::LineReader;
 use line::Told;
 
 // A frame that is read is written again from what was read.
-pub fn read(wire: &[u8]) {
+pub(crate) fn read(wire: &[u8]) {
     let mut room = io::buffer();
     let found = frame::read_frame(wire, &mut room);
     match found {
@@ -17,13 +17,13 @@ pub fn read(wire: &[u8]) {
             let contents = entries::part(&room, 0, len);
             print_standard_frame(contents);
             print_standard(contents);
-            inside::print_contents(contents);
+            contents::print_contents(contents);
         }
         Read::Extended { to, from, len } => {
             let contents = entries::part(&room, 0, len);
             print_extended_frame(to, from, contents);
             print_extended(to, from, contents);
-            inside::print_contents(contents);
+            contents::print_contents(contents);
         }
         Read::Refused(why) => print_refused(why),
     }
@@ -50,7 +50,7 @@ fn print_refused(why: Refusal) {
 // ---- writing
 
 // The bytes that a writer left first in `room`, or its refusal.
-pub fn print_written(written: Written, room: &[u8]) {
+pub(crate) fn print_written(written: Written, room: &[u8]) {
     match written {
         Written::Length(n) => print::hex(entries::part(room, 0, n)),
         Written::Refused(why) => print::refusal(b"refused:", why),
@@ -58,7 +58,7 @@ pub fn print_written(written: Written, room: &[u8]) {
 }
 
 // The standard frame that has these contents.
-pub fn print_standard(contents: &[u8]) {
+pub(crate) fn print_standard(contents: &[u8]) {
     let mut room = io::buffer();
     let written = frame::write_standard(contents, &mut room);
     print::text(b" written=");
@@ -72,14 +72,14 @@ fn print_extended(to: u8, from: u8, contents: &[u8]) {
     print_written(written, &room);
 }
 
-pub fn write_standard(contents: &[u8]) {
+pub(crate) fn write_standard(contents: &[u8]) {
     let mut room = io::buffer();
     let written = frame::write_standard(contents, &mut room);
     print_writing(written, &room);
 }
 
 // The first two bytes are the addresses.
-pub fn write_extended(bytes: &[u8]) {
+pub(crate) fn write_extended(bytes: &[u8]) {
     if bytes.len() < 2 {
         return print::text(b" no addresses");
     }
@@ -101,21 +101,20 @@ fn print_writing(written: Written, room: &[u8]) {
 // ---- the line
 
 // Every answer of a new line reader that is fed the bytes and then finished.
-pub fn feed(bytes: &[u8]) {
+pub(crate) fn feed(bytes: &[u8]) {
     let mut held = [0u8; 118];
-    let mut len = 0;
-    let mut mode = Mode::Outside;
+    let reader = LineReader::new();
+    let mut state = reader.state;
     let mut i = 0;
     while i < bytes.len() {
-        let moved = line::step_in(&mut held, len, mode, bytes[i]);
-        let told = moved.told;
+        let step = line::step_in(&mut held, state, bytes[i]);
+        let told = step.told;
         print_told(i, told, &held);
-        len = moved.len;
-        mode = moved.mode;
+        state = step.state;
         i += 1;
     }
-    let moved = line::finish_in(mode);
-    let told = moved.told;
+    let step = line::finish_in(state);
+    let told = step.told;
     print_told(i, told, &held);
 }
 

@@ -3,7 +3,7 @@ ghost use Prim.Native.Nat.{_≤_};
 ghost use lib.ListN.{length};
 
 // What stands before the first `mark`, or all.
-pub fn upto(s: &[u8], mark: u8) -> &[u8]
+pub(crate) fn upto(s: &[u8], mark: u8) -> &[u8]
     ensures { λ r. ⌜ length (now r) ≤ length (now (s .entry)) ⌝ }
 {
     let end = index_of(s, mark);
@@ -11,7 +11,7 @@ pub fn upto(s: &[u8], mark: u8) -> &[u8]
 }
 
 // What stands after the first `mark`, or nothing.
-pub fn past(s: &[u8], mark: u8) -> &[u8] {
+pub(crate) fn past(s: &[u8], mark: u8) -> &[u8] {
     let end = index_of(s, mark);
     if s.len() <= end {
         return &s[..0];
@@ -19,16 +19,16 @@ pub fn past(s: &[u8], mark: u8) -> &[u8] {
     &s[end + 1..]
 }
 
-pub fn first(s: &[u8]) -> &[u8] {
+pub(crate) fn first(s: &[u8]) -> &[u8] {
     upto(s, b' ')
 }
 
-pub fn rest(s: &[u8]) -> &[u8] {
+pub(crate) fn rest(s: &[u8]) -> &[u8] {
     past(s, b' ')
 }
 
 // Puts bytes, two digits each and one character between two of them, first in `out`, and answers how many there are.
-pub fn bytes(s: &[u8], out: &mut [u8]) -> usize {
+pub(crate) fn bytes(s: &[u8], out: &mut [u8]) -> usize {
     let mut n = 0;
     let mut i = 0;
     while i < s.len() {
@@ -42,7 +42,7 @@ pub fn bytes(s: &[u8], out: &mut [u8]) -> usize {
 }
 
 // Puts as much of a slice first in `out` as fits, and answers how much that is.
-pub fn copy(s: &[u8], out: &mut [u8]) -> usize {
+pub(crate) fn copy(s: &[u8], out: &mut [u8]) -> usize {
     let mut n = 0;
     let mut i = 0;
     while i < s.len() {
@@ -53,7 +53,7 @@ pub fn copy(s: &[u8], out: &mut [u8]) -> usize {
 }
 
 // The byte whose two digits stand from an index on.
-pub fn pair_at(s: &[u8], i: usize) -> u8 {
+pub(crate) fn pair_at(s: &[u8], i: usize) -> u8 {
     if s.len() <= i {
         return 0;
     }
@@ -64,7 +64,7 @@ pub fn pair_at(s: &[u8], i: usize) -> u8 {
 }
 
 // The decimal number that the digits of a word are.
-pub fn number(s: &[u8]) -> u64 {
+pub(crate) fn number(s: &[u8]) -> u64 {
     let mut n: u64 = 0;
     let mut i = 0;
     while i < s.len() {
@@ -75,7 +75,7 @@ pub fn number(s: &[u8]) -> u64 {
 }
 
 // The same, where it fits 32 bits.
-pub fn number32(s: &[u8]) -> u32 {
+pub(crate) fn number32(s: &[u8]) -> u32 {
     let n = number(s);
     if n <= 0xFFFFFFFF {
         return n as u32;
@@ -84,7 +84,7 @@ pub fn number32(s: &[u8]) -> u32 {
 }
 
 // The same, where it fits 16 bits.
-pub fn number16(s: &[u8]) -> u16 {
+pub(crate) fn number16(s: &[u8]) -> u16 {
     let n = number(s);
     if n <= 0xFFFF {
         return n as u16;

@@ -1,25 +1,28 @@
 use native.Mathlib.Omega.{arith}
 use borrow.Author.Needs.{needs}
-use Rattle.exports.proofs.LineAnswerLaws.{finish-len, finish-within, finished-as}
+use Rattle.exports.proofs.LineAnswerLaws.{finish-len, finish-fits, finished-as}
 use Rattle.exports.proofs.csafe_finish.Statement.{statement}
 use Rattle.exports.proofs.csafe_finish.Tie as tie
 
-mode-in-requires : tie.Need-mode-in-requires
-mode-in-requires c κs = search needs
+state-in-requires : tie.Need-state-in-requires
+state-in-requires c κs = search needs
 
 finish-in-requires : tie.Need-finish-in-requires
 finish-in-requires c κs = search needs
 
-state-of-requires : tie.Need-state-of-requires
-state-of-requires c κs = omega (arith, finish-len (c .before .mode-in .result) _ (c .finish-in .ensures))
+pack-state-requires : tie.Need-pack-state-requires
+pack-state-requires c κs = omega (arith, finish-len (c .before .before .state-in .result) _ (c .before .finish-in .ensures))
 
 of-told-requires : tie.Need-of-told-requires
-of-told-requires c κs = finish-within (c .before .before .mode-in .result) _ (c .before .finish-in .ensures)
+of-told-requires c κs = finish-fits (c .before .before .before .state-in .result) _ (c .before .before .finish-in .ensures)
 
 returns : tie.Need-returns
-returns c = finished-as (c .before .before .before .mode-in .result) _ (c .before .before .finish-in .ensures) _ (c .before .before .before .before .before .args .state .now) _ (c .before .before .before .mode-in .ensures) (c .before .state-of .ensures) (c .of-told .ensures)
+returns c =
+    let f = c .before .before .before in
+    finished-as (f .before .state-in .result) _ (f .finish-in .ensures) _ (f .before .before .before .args .state .now) _ (f .before .state-in .ensures)
+    (c .before .pack-state .ensures) (c .of-told .ensures)
 
 pub csafe-finish-spec : {M : Type 1} → statement M
 csafe-finish-spec =
     tie.close
-    (tie.spec mode-in-requires finish-in-requires state-of-requires of-told-requires returns)
+    (tie.spec state-in-requires finish-in-requires pack-state-requires of-told-requires returns)

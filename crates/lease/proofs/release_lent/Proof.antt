@@ -9,8 +9,12 @@ use Rattle.lease.proofs.release_lent.Tie as tie
 returns : tie.Need-returns
 returns c =
     let s = c .before .before in
-    let q = lent-size (release (s .args .address) (s .args .token)) (s .args .table .now) (c .if1 .taken) in
-    record { answered = q .0; left = q .1; real = record { bytes = λ i. c .before .slice-known .given i .fits; fits = omega arith } }
+    let q = lent-size (s .args .table .now) (release (s .args .address) (s .args .token)) (c .if1 .taken) in
+    record {
+      answered = q .0;
+      left = q .1;
+      real = record { bytes = λ i. c .before .slice-known .given i .fits; fits = omega arith };
+    }
 
 token-in-requires : tie.Need-token-in-requires
 token-in-requires c κs = search needs
@@ -19,16 +23,25 @@ judge-release-requires : tie.Need-judge-release-requires
 judge-release-requires c κs = search needs
 
 settle-lent-requires : tie.Need-settle-lent-requires
-settle-lent-requires c κs = (c .before .before .before .before .if1 .left, settles (release (c .before .before .before .before .before .before .args .address) (c .before .before .before .before .before .before .args .token)) _ _ (c .before .judge-release .ensures))
+settle-lent-requires c κs =
+    let i = c .before .before .before .before in
+    let a = i .before .before .args in
+    (i .if1 .left, settles _ (release (a .address) (a .token)) _ (c .before .judge-release .ensures))
 
 same-length : tie.Need-same-length
 same-length c = search needs
 
 returns-2 : tie.Need-returns-2
 returns-2 c =
-    let s = c .before .before .before .before .before .before .before .before .before in
-    let real : Real (s .args .token) (s .args .table .now) = record { bytes = λ i. c .before .before .before .before .before .before .before .before .slice-known .given i .fits; fits = omega (arith, s) } in
-    lent-call (release (s .args .address) (s .args .token)) (s .args .table .now) (c .before .before .before .before .before .before .before .if1 .left) real _ _ _ _ (c .before .before .before .before .before .token-in .ensures) (c .before .before .before .before .judge-release .ensures) (c .before .before .settle-lent .ensures)
+    let t = c .before .before .before .before .before in
+    let i = t .before .before in
+    let s = i .before .before in
+    let real : Real (s .args .table .now) (s .args .token) =
+    record { bytes = λ j. i .before .slice-known .given j .fits; fits = omega (arith, s) } in
+    lent-call (s .args .table .now) (release (s .args .address) (s .args .token)) (i .if1 .left) real _ _ _ _
+    (t .token-in .ensures)
+    (c .before .before .before .before .judge-release .ensures)
+    (c .before .before .settle-lent .ensures)
 
 pub release-lent-spec : {M : Type 1} → statement M
 release-lent-spec =

@@ -1,5 +1,4 @@
 use mathlib.Core.Path.{refl, subst}
-use Prim.Native.Nat.{_-_}
 use native.Mathlib.Omega.{arith}
 use Rattle.lease.specs.Answers.{leaseMeans}
 use Rattle.lease.specs.declared.LeaseAnswer.{LeaseAnswer}
@@ -15,7 +14,10 @@ mul-table : tie.Need-mul-table
 mul-table c = search needs
 
 element-write-table : tie.Need-element-write-table
-element-write-table c = let s = c .before .before in omega (arith, subst (λ (o : LeaseAnswer). Settles (s .args .address) (leaseMeans o)) (c .enum-told .given .1) (s .pre))
+element-write-table c =
+    let s = c .before .before in
+    let told = c .enum-told .given .1 in
+    omega (arith, subst (λ (o : LeaseAnswer). Settles (s .args .address) (leaseMeans o)) told (s .pre))
 
 enum-known-outcome : tie.Need-enum-known-outcome
 enum-known-outcome c = search needs

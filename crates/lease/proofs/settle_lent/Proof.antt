@@ -1,5 +1,4 @@
 use mathlib.Core.Path.{refl, subst}
-use Prim.Native.Nat.{_-_}
 use native.Mathlib.Omega.{arith}
 use Rattle.lease.specs.Answers.{leaseMeans}
 use Rattle.lease.specs.declared.LeaseAnswer.{LeaseAnswer}
@@ -15,7 +14,10 @@ mul-put-token : tie.Need-mul-put-token
 mul-put-token c = search needs
 
 put-token-requires : tie.Need-put-token-requires
-put-token-requires c κs = let s = c .before .before .before .before in omega (arith, s .pre .0, subst (λ (o : LeaseAnswer). Settles (s .args .address) (leaseMeans o)) (c .before .enum-told .given .1) (s .pre .1))
+put-token-requires c κs =
+    let s = c .before .before .before .before in
+    let told = c .before .enum-told .given .1 in
+    omega (arith, s .pre .0, subst (λ (o : LeaseAnswer). Settles (s .args .address) (leaseMeans o)) told (s .pre .1))
 
 enum-known-outcome : tie.Need-enum-known-outcome
 enum-known-outcome c = search needs

@@ -14,8 +14,13 @@ use mathlib.Core.List.{List}
 returns : tie.Need-returns
 returns c =
     let s = c .before .before .before in
-    let q = lent-size (stop (s .args .address) (s .args .token) (length (s .args .out .now))) (s .args .table .now) (c .if1 .taken) .0 in
-    record { answered = ap writtenLength q; written = ap (λ (x : Answer (List ℕ)). outAfter x (s .args .out .now)) q; real = record { bytes = λ i. c .before .before .shared-slice-known .given i .fits; fits = omega arith } }
+    let a = s .args in
+    let q = lent-size (a .table .now) (stop (a .address) (a .token) (length (a .out .now))) (c .if1 .taken) .0 in
+    record {
+      answered = ap writtenLength q;
+      written = ap (λ (x : Answer (List ℕ)). outAfter x (a .out .now)) q;
+      real = record { bytes = λ i. c .before .before .shared-slice-known .given i .fits; fits = omega arith };
+    }
 
 token-in-requires : tie.Need-token-in-requires
 token-in-requires c κs = search needs
@@ -28,11 +33,19 @@ same-length c = search needs
 
 returns-2 : tie.Need-returns-2
 returns-2 c =
-    let s = c .before .before .before .before .before .before .before .before in
+    let t = c .before .before .before .before in
+    let i = t .before in
+    let s = i .before .before .before in
     let a = s .args in
     let call = stop (a .address) (a .token) (length (a .out .now)) in
-    let k = stop-by _ _ (a .out .now) _ _ (ap (answerOf call) (c .before .before .before .before .token-in .ensures) ∙ sym (lent-answer call (a .table .now) (c .before .before .before .before .before .if1 .left))) (c .before .before .write-stop .ensures) in
-    record { answered = k .0; written = k .1; real = record { bytes = λ i. c .before .before .before .before .before .before .before .shared-slice-known .given i .fits; fits = omega (arith, s) } }
+    let held = ap (λ (h : ℕ). answerOf h call) (t .token-in .ensures)
+    ∙ sym (lent-answer (a .table .now) call (i .if1 .left)) in
+    let k = stop-by _ _ (a .out .now) _ _ held (c .before .before .write-stop .ensures) in
+    record {
+      answered = k .0;
+      written = k .1;
+      real = record { bytes = λ j. i .before .before .shared-slice-known .given j .fits; fits = omega (arith, s) };
+    }
 
 pub stop-lent-spec : {M : Type 1} → statement M
 stop-lent-spec =

@@ -12,8 +12,8 @@ returns : tie.Need-returns
 returns c =
     λ t m. record {
       told-is = m .told-is;
-      contents-is = c .beside .ensures ∙ ap (λ (h : Summary). contentsBeside h (c .before .args .bytes)) (m .told-is)
-          ∙ ap (λ (r : LineReader). contentsBeside (summaryOf (t .outcome)) (r .bytes)) (m .next-is);
+      contents-is = c .beside .ensures ∙ ap (λ (h : Summary). contentsBeside h (c .before .before .args .bytes)) (m .told-is)
+          ∙ ap (λ (r : LineReader). contentsBeside (summaryOf (t .answer)) (r .bytes)) (m .next-is);
       next-is = m .next-is;
     }
 

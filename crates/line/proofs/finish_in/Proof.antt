@@ -6,7 +6,7 @@ restart-requires : tie.Need-restart-requires
 restart-requires c κs = search needs
 
 returns : tie.Need-returns
-returns c = λ bytes len. c .restart .ensures bytes len
+returns c = λ bytes. c .restart .ensures bytes
 
 pub finish-in-spec : {M : Type 1} → statement M
 finish-in-spec = tie.close (tie.spec restart-requires returns)

@@ -1,3 +1,6 @@
+use mathlib.Core.Path.{refl}
+use Rattle.line.specs.declared.Mode.the-variants.{InStandard, InExtended}
+use Rattle.line.proofs.ReaderLaws.{held-step}
 use borrow.Author.Needs.{needs}
 use Rattle.line.proofs.grow.Statement.{statement}
 use Rattle.line.proofs.grow.Tie as tie
@@ -30,10 +33,10 @@ returns : tie.Need-returns
 returns c = rw (c .before .enum-told .given .1) (rw (c .before .enum-told .given .1) at (c .unmoved .ensures (c .before .before .before .args .bytes .now)))
 
 returns-2 : tie.Need-returns-2
-returns-2 c = rw (c .before .before .enum-told2 .given .1) (rw (c .before .before .enum-told2 .given .1) at (c .with-byte .ensures))
+returns-2 c = let a = c .before .before .before .before .args in held-step (a .bytes .now) (a .state) (a .b) _ _ InStandard refl (c .before .before .enum-told2 .given .1) (c .with-byte .ensures)
 
 returns-3 : tie.Need-returns-3
-returns-3 c = rw (c .before .before .enum-told3 .given .1) (rw (c .before .before .enum-told3 .given .1) at (c .with-byte2 .ensures))
+returns-3 c = let a = c .before .before .before .before .args in held-step (a .bytes .now) (a .state) (a .b) _ _ InExtended refl (c .before .before .enum-told3 .given .1) (c .with-byte2 .ensures)
 
 returns-4 : tie.Need-returns-4
 returns-4 c = rw (c .before .enum-told4 .given .1) (rw (c .before .enum-told4 .given .1) at (c .unmoved2 .ensures (c .before .before .before .args .bytes .now)))

@@ -7,19 +7,19 @@ restart-requires : tie.Need-restart-requires
 restart-requires c κs = search needs
 
 returns : tie.Need-returns
-returns c = simp (eq-eqb _ _ (c .before .if1 .taken)) (c .restart .ensures _ (c .before .before .args .len))
+returns c = simp (eq-eqb _ _ (c .before .if1 .taken)) (c .restart .ensures _)
 
 restart-requires-2 : tie.Need-restart-requires-2
 restart-requires-2 c κs = search needs
 
 returns-2 : tie.Need-returns-2
-returns-2 c = simp (ne-eqb _ _ (c .before .before .if1 .left), eq-eqb _ _ (c .before .if2 .taken)) (c .restart2 .ensures _ (c .before .before .before .args .len))
+returns-2 c = simp (ne-eqb _ _ (c .before .before .if1 .left), eq-eqb _ _ (c .before .if2 .taken)) (c .restart2 .ensures _)
 
 stop-requires : tie.Need-stop-requires
 stop-requires c κs = search needs
 
 returns-3 : tie.Need-returns-3
-returns-3 c = simp (ne-eqb _ _ (c .before .before .before .before .if1 .left), ne-eqb _ _ (c .before .before .before .if2 .left), eq-eqb _ _ (c .before .before .if3 .taken)) (c .stop .ensures)
+returns-3 c = simp (ne-eqb _ _ (c .before .before .before .before .if1 .left), ne-eqb _ _ (c .before .before .before .if2 .left), eq-eqb _ _ (c .before .before .if3 .taken)) (c .stop .ensures (c .before .before .before .before .before .args .b))
 
 grow-requires : tie.Need-grow-requires
 grow-requires c κs = search needs

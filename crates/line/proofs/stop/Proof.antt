@@ -11,7 +11,7 @@ terminated-requires : tie.Need-terminated-requires
 terminated-requires c κs = search needs
 
 returns : tie.Need-returns
-returns c = record { told-is = c .terminated .ensures .0; next-is = ap (λ (l : List ℕ). reader l 0 Outside) (c .terminated .ensures .1) }
+returns c = λ b. record { told-is = c .terminated .ensures .0; next-is = ap (λ (l : List ℕ). reader l 0 Outside) (c .terminated .ensures .1) }
 
 pub stop-spec : {M : Type 1} → statement M
 stop-spec = tie.close (tie.spec terminated-requires returns)

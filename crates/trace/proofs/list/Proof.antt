@@ -30,7 +30,7 @@ same-length c = c .before .before .before .loop .inv .1
 
 returns : tie.Need-returns Inv-loop μ-loop
 returns c =
-    let a = c .before .before .before .before .before .before .before .before .args in
+    let a = c .before .before .before .before .before .before .before .before .before .args in
     let l = c .before .before .before .loop in
     going-stop (a .s) (a .chunk .now) (a .out .now) (listing (l .bytes) (l .tally)) (l .out) (l .at) (l .i) (l .inv .3) (c .before .before .loop-test .taken) (l .inv .2) (omega (arith, c .before .if1 .taken, l .inv .1)) (c .packed .result) (c .packed .ensures)
 
@@ -48,15 +48,15 @@ advance-requires c κs = let l = c .before .before .before .before .before .loop
 
 -- the bytes that are taken are the next of the chunk
 advanced : (c : tie.After-advance Inv-loop μ-loop)
-    → Advances (listing (c .before .before .before .before .before .before .loop .bytes) (c .before .before .before .before .before .before .loop .tally)) (drop (c .before .before .before .before .before .before .loop .i) (c .before .before .before .before .before .before .before .before .before .before .before .args .chunk .now)) (c .advance .last .0) (c .before .before .before .before .before .before .loop .out) (c .before .before .before .before .before .before .loop .at) (c .advance .last .1 .1 .1 .0) (c .advance .result)
+    → Advances (listing (c .before .before .before .before .before .before .loop .bytes) (c .before .before .before .before .before .before .loop .tally)) (drop (c .before .before .before .before .before .before .loop .i) (c .before .before .before .before .before .before .before .before .before .before .before .before .args .chunk .now)) (c .advance .last .0) (c .before .before .before .before .before .before .loop .out) (c .before .before .before .before .before .before .loop .at) (c .advance .last .1 .1 .1 .0) (c .advance .result)
 advanced c =
     let l = c .before .before .before .before .before .before .loop in
     let t = c .advance in
     subst (λ (rest : List ℕ). Advances (listing (l .bytes) (l .tally)) rest (t .last .0) (l .out) (l .at) (t .last .1 .1 .1 .0) (t .result)) (part-rest _ (l .i)) (t .ensures)
 
 fits : (c : tie.After-advance Inv-loop μ-loop)
-    → c .before .before .before .before .before .before .loop .i + c .advance .result .taken ≤ length (c .before .before .before .before .before .before .before .before .before .before .before .args .chunk .now)
-fits c = let l = c .before .before .before .before .before .before .loop in omega (arith, l .inv .0, advanced c .leads .fits, length-drop (l .i) (c .before .before .before .before .before .before .before .before .before .before .before .args .chunk .now))
+    → c .before .before .before .before .before .before .loop .i + c .advance .result .taken ≤ length (c .before .before .before .before .before .before .before .before .before .before .before .before .args .chunk .now)
+fits c = let l = c .before .before .before .before .before .before .loop in omega (arith, l .inv .0, advanced c .leads .fits, length-drop (l .i) (c .before .before .before .before .before .before .before .before .before .before .before .before .args .chunk .now))
 
 add-i : tie.Need-add-i Inv-loop μ-loop
 add-i c = record { fits = omega (arith, fits (c .before .before .before .before)) }
@@ -65,7 +65,7 @@ loop-less : tie.Need-loop-less Inv-loop μ-loop
 loop-less c =
     let t = c .before .before .before .before in
     let l = t .before .before .before .before .before .before .loop in
-    let chunk = t .before .before .before .before .before .before .before .before .before .before .before .args .chunk .now in
+    let chunk = t .before .before .before .before .before .before .before .before .before .before .before .before .args .chunk .now in
     let below = t .before .before .before .before .before .loop-test .taken in
     omega (arith, below, fits t, advanced t .some (omega (arith, below, length-drop (l .i) chunk)))
 
@@ -73,7 +73,7 @@ loop-again : tie.Need-loop-again Inv-loop μ-loop
 loop-again c =
     let t = c .before .before .before .before in
     let l = t .before .before .before .before .before .before .loop in
-    let a = t .before .before .before .before .before .before .before .before .before .before .before .args in
+    let a = t .before .before .before .before .before .before .before .before .before .before .before .before .args in
     let room = t .before .before .before .before .if1 .left in (
       fits t,
       t .advance .kept .1 .1 .1 .0 ∙ l .inv .1,
@@ -89,7 +89,7 @@ same-length-2 c = c .before .before .loop .inv .1
 
 returns-2 : tie.Need-returns-2 Inv-loop μ-loop
 returns-2 c =
-    let a = c .before .before .before .before .before .before .before .args in
+    let a = c .before .before .before .before .before .before .before .before .args in
     let l = c .before .before .loop in
     going-end (a .s) (a .chunk .now) (a .out .now) (listing (l .bytes) (l .tally)) (l .out) (l .at) (l .i) (l .inv .3) (omega (arith, c .before .loop-test .left, l .inv .0)) (l .inv .2) (c .packed2 .result) (c .packed2 .ensures)
 

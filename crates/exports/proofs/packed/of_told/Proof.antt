@@ -2,8 +2,7 @@ use mathlib.Core.Path.{subst}
 use native.Mathlib.Omega.{arith}
 use borrow.Author.Needs.{needs}
 use Rattle.line.specs.declared.Told.{Told}
-use Rattle.line.specs.Outcome.{toldMeans}
-use Rattle.line.specs.Within.{ContentsFit}
+use Rattle.line.specs.Outcome.{toldMeans, ContentsFit}
 use Rattle.exports.proofs.packed.of_told.Statement.{statement}
 use Rattle.exports.proofs.packed.of_told.Tie as tie
 

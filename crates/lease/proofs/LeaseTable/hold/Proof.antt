@@ -11,10 +11,16 @@ judge-hold-requires : tie.Need-judge-hold-requires
 judge-hold-requires c κs = search needs
 
 settle-requires : tie.Need-settle-requires
-settle-requires c κs = settles (hold (c .before .before .before .before .before .args .address) (c .before .before .before .before .before .args .token)) _ _ (c .judge-hold .ensures)
+settle-requires c κs =
+    let a = c .before .before .before .before .before .args in
+    settles _ (hold (a .address) (a .token)) _ (c .judge-hold .ensures)
 
 returns : tie.Need-returns
-returns c = let a = c .before .before .before .before .before .before .args in table-call (hold (a .address) (a .token)) (a .t1 .tokens) _ _ _ _ (c .before .before .token-at .ensures) (c .before .judge-hold .ensures) (c .settle .ensures)
+returns c =
+    let a = c .before .before .before .before .before .before .args in
+    table-call (a .t1 .tokens) (hold (a .address) (a .token)) _ _ _ _ (c .before .before .token-at .ensures)
+    (c .before .judge-hold .ensures)
+    (c .settle .ensures)
 
 pub hold-spec : {M : Type 1} → statement M
 hold-spec = tie.close (tie.spec token-at-requires judge-hold-requires settle-requires returns)

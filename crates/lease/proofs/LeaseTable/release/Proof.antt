@@ -11,10 +11,16 @@ judge-release-requires : tie.Need-judge-release-requires
 judge-release-requires c κs = search needs
 
 settle-requires : tie.Need-settle-requires
-settle-requires c κs = settles (release (c .before .before .before .before .before .args .address) (c .before .before .before .before .before .args .token)) _ _ (c .judge-release .ensures)
+settle-requires c κs =
+    let a = c .before .before .before .before .before .args in
+    settles _ (release (a .address) (a .token)) _ (c .judge-release .ensures)
 
 returns : tie.Need-returns
-returns c = let a = c .before .before .before .before .before .before .args in table-call (release (a .address) (a .token)) (a .t1 .tokens) _ _ _ _ (c .before .before .token-at .ensures) (c .before .judge-release .ensures) (c .settle .ensures)
+returns c =
+    let a = c .before .before .before .before .before .before .args in
+    table-call (a .t1 .tokens) (release (a .address) (a .token)) _ _ _ _ (c .before .before .token-at .ensures)
+    (c .before .judge-release .ensures)
+    (c .settle .ensures)
 
 pub release-spec : {M : Type 1} → statement M
 release-spec =

@@ -1,3 +1,4 @@
+use Prim.Native.Nat.{ℕ}
 use mathlib.Core.Path.{ap}
 use Rattle.lease.specs.Lease.{stop, answerOf}
 use lib.ListN.{length}
@@ -18,7 +19,10 @@ same-length c = search needs
 returns : tie.Need-returns
 returns c =
     let a = c .before .before .before .before .before .before .before .before .before .args in
-    let s = stop-by _ _ (a .out .now) _ _ (ap (answerOf (stop (a .address) (a .token) (length (a .out .now)))) (c .before .before .before .before .token-at .ensures)) (c .before .before .write-stop .ensures) in
+    let call = stop (a .address) (a .token) (length (a .out .now)) in
+    let held = c .before .before .before .before .token-at .ensures in
+    let s = stop-by _ _ (a .out .now) _ _ (ap (λ (h : ℕ). answerOf h call) held)
+    (c .before .before .write-stop .ensures) in
     record { answered = s .0; written = s .1 }
 
 pub stop-spec : {M : Type 1} → statement M

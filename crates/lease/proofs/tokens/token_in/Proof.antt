@@ -15,7 +15,9 @@ number-at-requires : tie.Need-number-at-requires
 number-at-requires c κs = search needs
 
 returns-2 : tie.Need-returns-2
-returns-2 c = c .number-at .ensures ∙ sym (token-lent (c .before .before .before .args .bytes .now) (c .before .before .before .args .address) (omega arith))
+returns-2 c =
+    let a = c .before .before .before .args in
+    c .number-at .ensures ∙ sym (token-lent (a .bytes .now) (a .address) (omega arith))
 
 pub token-in-spec : {M : Type 1} → statement M
 token-in-spec = tie.close (tie.spec returns mul-number-at number-at-requires returns-2)

@@ -9,7 +9,7 @@ by-value-requires : tie.Need-by-value-requires
 by-value-requires c κs = search needs
 
 returns : tie.Need-returns
-returns c = c .by-value .ensures _ (c .before .finish-in .ensures _ (c .before .before .before .args .self .len))
+returns c = c .by-value .ensures _ (c .before .finish-in .ensures _)
 
 pub finish-spec : {M : Type 1} → statement M
 finish-spec = tie.close (tie.spec finish-in-requires by-value-requires returns)

@@ -4,7 +4,7 @@ use native.Mathlib.Omega.{arith}
 use Prim.Native.Nat.{_+_, _-_, _≤_}
 use borrow.Author.Tests.{not-false}
 use Rattle.line.specs.Reader.{reader}
-use Rattle.line.specs.Runs.{isHeld, Reaches}
+use Rattle.line.specs.Private.{isHeld, Reaches}
 use Rattle.line.specs.declared.Mode.{Mode}
 use Rattle.line.proofs.RunLaws.{stays, goes-on, clear-block}
 use borrow.Author.Needs.{needs}

@@ -3,7 +3,7 @@ use mathlib.Core.Bool.{true}
 use native.Mathlib.Omega.{arith}
 use Prim.Native.Nat.{_+_, _-_, _≤_}
 use Rattle.line.specs.Reader.{reader}
-use Rattle.line.specs.Runs.{isHeld, Reaches}
+use Rattle.line.specs.Private.{isHeld, Reaches}
 use Rattle.line.specs.declared.Mode.{Mode}
 use Rattle.line.proofs.RunLaws.{stays, keep-more}
 use borrow.Author.Needs.{needs}

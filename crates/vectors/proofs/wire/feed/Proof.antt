@@ -5,10 +5,13 @@ use Rattle.vectors.proofs.wire.feed.Statement.{statement}
 use Rattle.vectors.proofs.wire.feed.Tie as tie
 
 abbrev Inv-loop : tie.InvT-loop
-Inv-loop bytes held₀ len₀ mode₀ i₀ held len mode i = i ≤ length bytes
+Inv-loop bytes held₀ state₀ i₀ held state i = i ≤ length bytes
 
 abbrev μ-loop : tie.MeasureT-loop
-μ-loop bytes held₀ len₀ mode₀ i₀ held len mode i = length bytes - i
+μ-loop bytes held₀ state₀ i₀ held state i = length bytes - i
+
+new-requires : tie.Need-new-requires Inv-loop μ-loop
+new-requires c κs = search needs
 
 loop-holds : tie.Need-loop-holds Inv-loop μ-loop
 loop-holds c = search needs
@@ -46,6 +49,7 @@ feed-spec =
     (tie.spec
     Inv-loop
     μ-loop
+    new-requires
     loop-holds
     shared-slice-read-step-in
     step-in-requires

@@ -15,7 +15,7 @@ use workout::Seconds;
 use workout::Workout;
 use workout::WorkoutRead;
 
-pub fn print_contents(contents: &[u8]) {
+pub(crate) fn print_contents(contents: &[u8]) {
     print::text(b" commands=[");
     print_list(contents);
     print::text(b"] reply=");
@@ -202,7 +202,7 @@ fn print_goal(workout: Workout) {
     }
 }
 
-pub fn write_distance(arguments: &[u8]) {
+pub(crate) fn write_distance(arguments: &[u8]) {
     let goal = Metres(words::number32(words::first(arguments)));
     let rest = words::rest(arguments);
     let split = Metres(words::number32(words::first(rest)));
@@ -211,7 +211,7 @@ pub fn write_distance(arguments: &[u8]) {
     write_workout(Workout { goal, watts })
 }
 
-pub fn write_time(arguments: &[u8]) {
+pub(crate) fn write_time(arguments: &[u8]) {
     let goal = Seconds(words::number32(words::first(arguments)));
     let rest = words::rest(arguments);
     let split = Hundredths(words::number32(words::first(rest)));

@@ -1,15 +1,23 @@
--- Runs of bytes that are no flags.
+-- Contracts of private functions, which no caller reads: an open candidate with one byte more, and runs of bytes that are no flags.
 use mathlib.Core.Path.{_≡_}
 use mathlib.Core.Bool.{Bool, true, false}
 use mathlib.Core.List.{List}
-use lib.ListN.{length, drop}
+use lib.Dec.{ltb}
+use lib.ListN.{length, drop, set}
+use Rattle.lists.specs.Choice.{pick}
+use Rattle.line.specs.Outcome.{room}
 use Prim.Native.Nat.{ℕ, _+_, _≤_}
-use Rattle.line.specs.Feed.{plus, feedOf}
+use Rattle.line.specs.Feed.{laterBy, feedOf}
 use Rattle.line.specs.Reader.{reader}
 use Rattle.line.specs.declared.LineReader.{LineReader}
 use Rattle.line.specs.declared.runs.Run.{Run}
 use Rattle.line.specs.declared.Mode.{Mode}
 use Rattle.line.specs.declared.Mode.the-variants.{Outside, InStandard, InExtended, Overlong}
+
+-- A candidate of which bytes are held has one byte more, or is over-long where there is no room for it.
+abbrev pub withByte : LineReader → ℕ → LineReader
+withByte r b =
+    pick (ltb (r .state .len) room) (reader (set (r .bytes) (r .state .len) b) (r .state .len + 1) (r .state .mode)) (reader (r .bytes) 0 Overlong)
 
 -- Whether a reader holds the bytes of a run. It does in a candidate that may still be a frame.
 abbrev pub isHeld : Mode → Bool
@@ -22,7 +30,7 @@ isHeld Overlong = false
 pub record Reaches (s : List ℕ) (from : ℕ) (r : LineReader) (at : ℕ) (next : LineReader) : Type 0 where
   pub onward : from ≤ at
   pub inside : at ≤ length s
-  pub same : plus from (feedOf r (drop from s)) ≡ plus at (feedOf next (drop at s))
+  pub same : laterBy from (feedOf r (drop from s)) ≡ laterBy at (feedOf next (drop at s))
 
 -- Bytes from an index on, held one after the other up to the index where a run is said to end, which is at most `end`.
 pub record Kept (s : List ℕ) (from end : ℕ) (bytes : List ℕ) (len : ℕ) (bytes′ : List ℕ) (run : Run) : Type 0 where

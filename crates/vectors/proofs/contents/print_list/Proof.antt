@@ -1,8 +1,8 @@
 use Prim.Native.Nat.{_≤_, _-_}
 use lib.ListN.{length}
 use borrow.Author.Needs.{needs}
-use Rattle.vectors.proofs.inside.print_list.Statement.{statement}
-use Rattle.vectors.proofs.inside.print_list.Tie as tie
+use Rattle.vectors.proofs.contents.print_list.Statement.{statement}
+use Rattle.vectors.proofs.contents.print_list.Tie as tie
 
 abbrev Inv-loop : tie.InvT-loop
 Inv-loop contents n₀ n = n ≤ length contents

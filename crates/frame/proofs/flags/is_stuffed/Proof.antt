@@ -1,6 +1,6 @@
 use borrow.Author.Tests.{le-leb, lt-leb}
-use Rattle.frame.proofs.stuffing.is_stuffed.Statement.{statement}
-use Rattle.frame.proofs.stuffing.is_stuffed.Tie as tie
+use Rattle.frame.proofs.flags.is_stuffed.Statement.{statement}
+use Rattle.frame.proofs.flags.is_stuffed.Tie as tie
 
 returns : tie.Need-returns
 returns c = simp (le-leb _ _ (c .if1 .taken))

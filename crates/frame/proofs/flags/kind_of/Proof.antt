@@ -1,6 +1,6 @@
 use borrow.Author.Tests.{eq-eqb, ne-eqb}
-use Rattle.frame.proofs.kind_of.Statement.{statement}
-use Rattle.frame.proofs.kind_of.Tie as tie
+use Rattle.frame.proofs.flags.kind_of.Statement.{statement}
+use Rattle.frame.proofs.flags.kind_of.Tie as tie
 
 returns : tie.Need-returns
 returns c = simp (eq-eqb _ _ (c .if1 .taken))

@@ -1,6 +1,6 @@
 use borrow.Author.Tests.{lt-leb, le-leb}
-use Rattle.line.proofs.runs.is_flag.Statement.{statement}
-use Rattle.line.proofs.runs.is_flag.Tie as tie
+use Rattle.frame.proofs.flags.is_flag.Statement.{statement}
+use Rattle.frame.proofs.flags.is_flag.Tie as tie
 
 returns : tie.Need-returns
 returns c = simp (lt-leb 0xF0 _ (c .if1 .taken))

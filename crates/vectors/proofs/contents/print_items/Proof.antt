@@ -1,7 +1,7 @@
 use Prim.Native.Nat.{_≤_, _-_}
 use borrow.Author.Needs.{needs}
-use Rattle.vectors.proofs.inside.print_items.Statement.{statement}
-use Rattle.vectors.proofs.inside.print_items.Tie as tie
+use Rattle.vectors.proofs.contents.print_items.Statement.{statement}
+use Rattle.vectors.proofs.contents.print_items.Tie as tie
 
 abbrev Inv-loop : tie.InvT-loop
 Inv-loop contents items n₀ t5 n = n ≤ items

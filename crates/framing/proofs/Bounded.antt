@@ -1,0 +1,151 @@
+-- A bounded reader answers every list of calls as the reference decoder does, and so does everything that is known to be one.
+-- A reader stands for the decoder's candidate: outside for none, inside for its flag and the bytes held, over-long for any that has more
+-- bytes than there is room for.
+use mathlib.Core.Path.{_≡_, refl, sym, ap, _∙_, subst}
+use mathlib.Core.Bool.{Bool, true, false}
+use mathlib.Core.List.{List, [], _∷_, _++_}
+use native.Mathlib.Numerals.{add-one}
+use native.Mathlib.Omega.{arith}
+use Prim.Native.Nat.{ℕ, _+_, _≤_, _<_}
+use lib.Dec.{ltb}
+use lib.ListN.{length, take, set, length-append, length-set}
+use lib.Seq.{take-suc-set, length-take-le}
+use borrow.Author.Tests.{ltb-true, ltb-false}
+use Rattle.lists.specs.Choice.{pick}
+use Rattle.lists.specs.Machine.{Turn, run, Ran, Answered}
+use Rattle.lists.proofs.Machines.{ran-run}
+use Rattle.framing.specs.Reference.{Call, byte, finish, Role, starts, stops, plain, FlagFree, Candidate, none, opened, Protocol, byteAnswer, byteAfter, endAnswer, answerTo, candidateAfter, Reference}
+use Rattle.framing.specs.Demand3.{Follows, Demand3}
+use Rattle.framing.specs.Bounded.{BoundedMode, outside, inside, overlong, BoundedReader, bounded, Bounds, Suits, truncatedIn, terminatedIn, leftIn, grownIn, byteTurn, boundedTurn}
+use Rattle.framing.proofs.Restart.{follows, demand3-of}
+
+-- bytes that are no flags, and one more
+more-free : (role : ℕ → Role) (body : List ℕ) (b : ℕ) → FlagFree role body → role b ≡ plain → FlagFree role (body ++ b ∷ [])
+more-free role [] b f e = (e, tt)
+more-free role (x ∷ body) b f e = (f .0, more-free role body b (f .1) e)
+
+module _ {K A : Type 0} (P : Protocol A) (B : Bounds K A) (suits : Suits P B) where
+  -- the decoder's candidate is of a kind, with these bytes after its start flag
+  record Holds (kind : K) (body : List ℕ) (k : Candidate) : Type 0 where
+    pub flag : ℕ
+    pub starting : P .role flag ≡ starts
+    pub opens : B .kind flag ≡ kind
+    pub holds : k ≡ opened (flag ∷ body)
+    pub flag-free : FlagFree (P .role) body
+
+  abbrev StandsAt : BoundedMode K → List ℕ → ℕ → Candidate → Type 0
+  StandsAt outside bytes len k = k ≡ none
+  StandsAt (inside kind) bytes len k = (len ≤ B .room) × Holds kind (take len bytes) k
+  StandsAt overlong bytes len k = (kind : K) × (body : List ℕ) × (B .room < length body) × Holds kind body k
+
+  abbrev StandsFor : BoundedReader K → Candidate → Type 0
+  StandsFor r k = (length (r .bytes) ≡ B .room) × StandsAt (r .mode) (r .bytes) (r .len) k
+
+  -- ---- a start flag, and the end of input
+
+  truncated-at : (m : BoundedMode K) (bytes : List ℕ) (len : ℕ) (k : Candidate) (b : ℕ) → StandsAt m bytes len k
+      → (truncatedIn P B m ≡ byteAnswer P starts k b) × (truncatedIn P B m ≡ endAnswer P k)
+  truncated-at outside bytes len k b s = rw s (refl, refl)
+  truncated-at (inside kind) bytes len k b s = rw (s .1 .holds) (refl, refl)
+  truncated-at overlong bytes len k b s = rw (s .3 .holds) (refl, refl)
+
+  -- ---- the stop flag
+
+  terminated-at : (m : BoundedMode K) (bytes : List ℕ) (len : ℕ) (k : Candidate) (b : ℕ) → P .role b ≡ stops → length bytes ≡ B .room
+      → StandsAt m bytes len k → terminatedIn P B m bytes len ≡ byteAnswer P stops k b
+  terminated-at outside bytes len k b e n s = rw s
+  terminated-at (inside kind) bytes len k b e n s =
+      let h = s .1 in
+      let u : length (take len bytes) ≡ len = length-take-le len bytes (omega (arith, s .0)) in
+      let judged = suits .held (h .flag) (take len bytes) b (h .starting) (h .flag-free) e (omega (arith, s .0)) in
+      rw (h .holds) (sym (judged ∙ ap (λ (x : K). B .judge x (take len bytes)) (h .opens)))
+  terminated-at overlong bytes len k b e n s =
+      let h = s .3 in
+      rw (h .holds) (sym (suits .too-long (h .flag) (s .1) b (h .starting) (h .flag-free) e (s .2)))
+
+  kept-at : (m : BoundedMode K) (bytes : List ℕ) (len : ℕ) → length bytes ≡ B .room → length (leftIn P B m bytes len) ≡ B .room
+  kept-at outside bytes len e = e
+  kept-at (inside kind) bytes len e = suits .kept kind len bytes e
+  kept-at overlong bytes len e = e
+
+  -- ---- any other byte
+
+  grows : (kind : K) (body : List ℕ) (k : Candidate) (b : ℕ) → P .role b ≡ plain → Holds kind body k
+      → Holds kind (body ++ b ∷ []) (byteAfter P plain k b)
+  grows kind body k b e h = record {
+    flag = h .flag;
+    starting = h .starting;
+    opens = h .opens;
+    holds = rw (h .holds);
+    flag-free = more-free (P .role) body b (h .flag-free) e;
+  }
+
+  grown-at : (m : BoundedMode K) (bytes : List ℕ) (len : ℕ) (k : Candidate) (b : ℕ) → length bytes ≡ B .room → P .role b ≡ plain
+      → StandsAt m bytes len k → StandsFor (grownIn P B m bytes len b) (byteAfter P plain k b)
+  grown-at outside bytes len k b e q s = (e, rw s)
+  grown-at (inside kind) bytes len k b e q s = by-room (ltb len (B .room)) refl
+    where
+      by-room : (t : Bool) → ltb len (B .room) ≡ t
+          → StandsFor (pick t (bounded (set bytes len b) (len + 1) (inside kind)) (bounded bytes 0 overlong)) (byteAfter P plain k b)
+      by-room true y =
+          let l : len < B .room = ltb-true len (B .room) y in
+          let f : take len bytes ++ b ∷ [] ≡ take (len + 1) (set bytes len b) = rw (add-one, take-suc-set bytes len b (omega arith)) in
+          let g = grows kind (take len bytes) k b q (s .1) in
+          (simp length-set e, (omega arith, subst (λ (x : List ℕ). Holds kind x (byteAfter P plain k b)) f g))
+      by-room false y =
+          let l : B .room ≤ len = ltb-false len (B .room) y in
+          let u : length (take len bytes) ≡ len = length-take-le len bytes (omega (arith, s .0)) in
+          (e, (kind, take len bytes ++ b ∷ [], omega (arith, length-append (take len bytes) (b ∷ [])), grows kind (take len bytes) k b q (s .1)))
+  grown-at overlong bytes len k b e q s =
+      (e, (s .0, s .1 ++ b ∷ [], omega (arith, length-append (s .1) (b ∷ []), s .2), grows (s .0) (s .1) k b q (s .3)))
+
+  -- ---- a call
+
+  -- a call that is answered as the decoder answers at a role, and goes where the decoder goes
+  abbrev Agrees : Turn (BoundedReader K) A → Role → Candidate → ℕ → Type 0
+  Agrees t ρ k b = (t .answer ≡ byteAnswer P ρ k b) × StandsFor (t .next) (byteAfter P ρ k b)
+
+  byte-at : (r : BoundedReader K) (k : Candidate) (b : ℕ) → StandsFor r k → (ρ : Role) → P .role b ≡ ρ → Agrees (byteTurn P B ρ r b) ρ k b
+  byte-at r k b s starts e =
+      let begins : Holds (B .kind b) [] (opened (b ∷ [])) = record { flag = b; starting = e; opens = refl; holds = refl; flag-free = tt } in
+      (truncated-at (r .mode) (r .bytes) (r .len) k b (s .1) .0, (s .0, (omega arith, begins)))
+  byte-at r k b s stops e =
+      (terminated-at (r .mode) (r .bytes) (r .len) k b e (s .0) (s .1), (kept-at (r .mode) (r .bytes) (r .len) (s .0), refl))
+  byte-at r k b s plain e = (refl, grown-at (r .mode) (r .bytes) (r .len) k b (s .0) e (s .1))
+
+  call-at : (r : BoundedReader K) (k : Candidate) (c : Call) → StandsFor r k
+      → (boundedTurn P B r c .answer ≡ answerTo P k c) × StandsFor (boundedTurn P B r c .next) (candidateAfter P k c)
+  call-at r k (byte b) s = byte-at r k b s (P .role b) refl
+  call-at r k finish s = (truncated-at (r .mode) (r .bytes) (r .len) k 0 (s .1) .1, (s .0, refl))
+
+  -- ---- what can be seen as a bounded reader
+
+  -- Demand 3 of any machine that can be seen as a bounded reader, from a state that is outside of a candidate: what the array and the
+  -- length are doesn't matter.
+  pub bounded-follows : {S : Type 0} (turnOf : S → Call → Turn S A) (seen : S → BoundedReader K)
+      → ((s : S) (c : Call) → (turnOf s c .answer ≡ boundedTurn P B (seen s) c .answer) × (seen (turnOf s c .next) ≡ boundedTurn P B (seen s) c .next))
+      → (s : S) → length (seen s .bytes) ≡ B .room → seen s .mode ≡ outside → Follows P (run (λ s c. turnOf s c .answer) (λ s c. turnOf s c .next) s)
+  bounded-follows turnOf seen same s e o =
+      follows P (λ s c. turnOf s c .answer) (λ s c. turnOf s c .next) (λ s k. StandsFor (seen s) k)
+      (λ s k c r. let q = call-at (seen s) k c r in
+      (same s c .0 ∙ q .0, subst (λ (x : BoundedReader K). StandsFor x (candidateAfter P k c)) (sym (same s c .1)) (q .1)))
+      s (e, subst (λ (m : BoundedMode K). StandsAt m (seen s .bytes) (seen s .len) none) (sym o) refl)
+
+  -- Demand 3 of functions whose contracts say that each call on a state is one on the bounded reader that the state is seen as, from what
+  -- is known of a new state.
+  module _ {S : Type 0} (called : S → Call → A → S → Type 0) (new : S → Type 0) (seen : S → BoundedReader K)
+      (each : (s t : S) (c : Call) (a : A) → called s c a t → (a ≡ boundedTurn P B (seen s) c .answer) × (seen t ≡ boundedTurn P B (seen s) c .next))
+      (new-outside : (s : S) → new s → (length (seen s .bytes) ≡ B .room) × (seen s .mode ≡ outside)) where
+    abbrev from : BoundedReader K → List Call → List A
+    from r calls = run (λ s c. boundedTurn P B s c .answer) (λ s c. boundedTurn P B s c .next) r calls
+
+    from-new : (s : S) → new s → (calls : List Call) → from (seen s) calls ≡ Reference P calls
+    from-new s n calls =
+        let o = new-outside s n in
+        bounded-follows (boundedTurn P B) (λ r. r) (λ r c. (refl, refl)) (seen s) (o .0) (o .1) .same calls
+
+    pub bounded-demand-3 : Demand3 P (Answered called new)
+    bounded-demand-3 =
+        demand3-of P (Answered called new)
+        (λ calls answers k. ran-run called (λ s c. boundedTurn P B s c .answer) (λ s c. boundedTurn P B s c .next) seen each (k .ran) .0
+        ∙ from-new (k .start) (k .made) calls)
