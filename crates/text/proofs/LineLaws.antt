@@ -5,11 +5,11 @@ use Prim.Native.Nat.{ℕ, _+_}
 use native.Mathlib.Nat.{zero-add, add-zero}
 use Rattle.answer.specs.Answer.{result, refused}
 use Rattle.line.specs.Outcome.{Outcome, nothing, judged}
-use Rattle.text.specs.Lines.{line}
+use Rattle.text.specs.Lines.{callLine}
 use Rattle.text.specs.Text.{verdictsIn, frames, refusals, lines, frameOne, refusedOne}
 
 pub lines-more : (n : ℕ) (o : Outcome) (os : List Outcome)
-    → line (n + 1) o ++ lines (n + (frameOne o + refusedOne o)) (verdictsIn os) ≡ lines n (verdictsIn (o ∷ os))
+    → callLine (n + 1) o ++ lines (n + (frameOne o + refusedOne o)) (verdictsIn os) ≡ lines n (verdictsIn (o ∷ os))
 lines-more n nothing os = ap (λ (k : ℕ). lines k (verdictsIn os)) (add-zero n)
 lines-more n (judged (result f)) os = refl
 lines-more n (judged (refused number)) os = refl

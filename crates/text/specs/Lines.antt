@@ -54,13 +54,13 @@ body (result (standard contents)) = standardBody contents
 body (result (extended to from contents)) = extendedBody to from contents
 
 -- The line of the n-th answer.
-abbrev pub answerLine : (n : ℕ) → Verdict → List ℕ
-answerLine n v = head n ++ body v
+abbrev pub line : (n : ℕ) → Verdict → List ℕ
+line n v = head n ++ body v
 
 -- The line of a call, where the next answer is the n-th: none where the call is answered with nothing.
-abbrev pub line : (n : ℕ) → Outcome → List ℕ
-line n nothing = []
-line n (judged v) = answerLine n v
+abbrev pub callLine : (n : ℕ) → Outcome → List ℕ
+callLine n nothing = []
+callLine n (judged v) = line n v
 
 -- ---- the last line
 

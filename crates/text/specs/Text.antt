@@ -8,7 +8,7 @@ use Rattle.answer.specs.Answer.{result, refused}
 use Rattle.frame.specs.Verdict.{Verdict}
 use Rattle.line.specs.Outcome.{Outcome, nothing, judged}
 use Rattle.line.specs.Rowing.{rowing}
-use Rattle.text.specs.Lines.{answerLine, totals}
+use Rattle.text.specs.Lines.{line, totals}
 use Rattle.text.specs.Strays.{strays}
 
 -- ---- answers
@@ -39,7 +39,7 @@ refusals (refused number ∷ vs) = 1 + refusals vs
 -- The lines of answers that come after n others: the first has the number n + 1, and each the next number.
 abbrev pub lines : (n : ℕ) → List Verdict → List ℕ
 lines n [] = []
-lines n (v ∷ vs) = answerLine (n + 1) v ++ lines (n + 1) vs
+lines n (v ∷ vs) = line (n + 1) v ++ lines (n + 1) vs
 
 -- The whole text.
 abbrev pub text : List ℕ → List ℕ

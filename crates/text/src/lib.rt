@@ -10,7 +10,7 @@ ghost use lib.ListN.{length};
 ghost use Rattle.answer.specs.Refusals.{numberOf};
 ghost use Rattle.command.specs.Stop.{stopsWorkout};
 ghost use Rattle.line.specs.Outcome.{toldMeans, outcomeOf};
-ghost use Rattle.text.specs.Lines.{field, hexField, stopText, head, line, totals};
+ghost use Rattle.text.specs.Lines.{field, hexField, stopText, head, callLine, totals};
 ghost use Rattle.text.specs.Lines.{refusedBody, standardBody, extendedBody};
 ghost use Rattle.text.specs.Writing.{Wrote, lineRoom, headRoom, bodyRoom, Puts};
 
@@ -20,7 +20,7 @@ pub const LINE_ROOM: usize = 96;
 // Writes the line of an answer, the n-th, at an index, and answers the index after it. The contents are the first bytes
 // of a slice, as many as the answer says. Without the room it writes nothing.
 pub fn put_answer(told: Told, contents: &[u8], n: u64, out: &mut [u8], at: usize) -> usize
-    ensures { λ r. ⌜ Puts (now (out .entry)) at (line n (outcomeOf (toldMeans told) (now (contents .entry)))) (now (out .exit)) r ⌝ }
+    ensures { λ r. ⌜ Puts (now (out .entry)) at (callLine n (outcomeOf (toldMeans told) (now (contents .entry)))) (now (out .exit)) r ⌝ }
 {
     if out.len() < LINE_ROOM {
         return at;
@@ -46,7 +46,7 @@ pub fn put_totals(frames: u64, refusals: u64, strays: u64, out: &mut [u8], at: u
 
 fn put_told(told: Told, contents: &[u8], n: u64, out: &mut [u8], at: usize) -> usize
     requires { ⌜ at + lineRoom ≤ length (now out) ⌝ }
-    ensures { λ r. ⌜ Wrote (now (out .entry)) at (line n (outcomeOf (toldMeans told) (now (contents .entry)))) (now (out .exit)) r ⌝ }
+    ensures { λ r. ⌜ Wrote (now (out .entry)) at (callLine n (outcomeOf (toldMeans told) (now (contents .entry)))) (now (out .exit)) r ⌝ }
     ensures { λ r. ⌜ r ≤ at + lineRoom ⌝ }
 {
     match told {

@@ -23,7 +23,7 @@ use Rattle.frame.specs.declared.Kind.the-variants.{Standard, Extended}
 use Rattle.line.specs.declared.LineReader.{LineReader}
 use Rattle.line.specs.declared.Mode.{Mode}
 use Rattle.line.specs.declared.Mode.the-variants.{Outside, InStandard, InExtended, Overlong}
-use Rattle.text.specs.Lines.{line, totals}
+use Rattle.text.specs.Lines.{callLine, totals}
 use Rattle.text.specs.Strays.{strayAt, openAfter, strays}
 use Rattle.text.specs.Text.{frameOne, refusedOne, verdictsIn, frames, refusals, lines}
 use Rattle.text.proofs.LineLaws.{lines-more, frames-more, refusals-more}
@@ -92,20 +92,20 @@ same-text : (l : List ℕ) (n n′ x x′ y y′ z z′ : ℕ) (vs : List Verdic
 same-text l n n′ x x′ y y′ z z′ vs p q u v = rw (p, q, u, v)
 
 rest-step : (f r st : ℕ) (o : Bool) (b : ℕ) (a : Outcome) (os : List Outcome) (bytes : List ℕ)
-    → line (f + r + 1) a ++ Rest (f + frameOne a) (r + refusedOne a) (st + strayAt (roleOf b) o) (openAfter (roleOf b) o) os bytes ≡ Rest f r st o (a ∷ os) (b ∷ bytes)
+    → callLine (f + r + 1) a ++ Rest (f + frameOne a) (r + refusedOne a) (st + strayAt (roleOf b) o) (openAfter (roleOf b) o) os bytes ≡ Rest f r st o (a ∷ os) (b ∷ bytes)
 rest-step f r st o b a os bytes =
     let vs : List Verdict = verdictsIn os in
     let all : List Verdict = verdictsIn (a ∷ os) in
     let F = frames-more a os in
     let R = refusals-more a os in
     let z : ℕ = st + (strayAt (roleOf b) o + strays (openAfter (roleOf b) o) bytes) in
-    same-text (line (f + r + 1) a) _ (f + r + (frameOne a + refusedOne a)) _ (f + frames all) _ (r + refusals all) _ z vs
+    same-text (callLine (f + r + 1) a) _ (f + r + (frameOne a + refusedOne a)) _ (f + frames all) _ (r + refusals all) _ z vs
     (omega arith) (omega arith) (omega arith) (omega arith)
-    ∙ sym (append-assoc (line (f + r + 1) a) (lines (f + r + (frameOne a + refusedOne a)) vs) (totals (f + frames all) (r + refusals all) z))
+    ∙ sym (append-assoc (callLine (f + r + 1) a) (lines (f + r + (frameOne a + refusedOne a)) vs) (totals (f + frames all) (r + refusals all) z))
     ∙ ap (λ (l : List ℕ). l ++ totals (f + frames all) (r + refusals all) z) (lines-more (f + r) a os)
 
 -- the finish
-same-last : (a : Outcome) (n n′ x x′ y y′ z z′ : ℕ) → n ≡ n′ → x ≡ x′ → y ≡ y′ → z ≡ z′ → line n a ++ totals x y z ≡ line n′ a ++ totals x′ y′ z′
+same-last : (a : Outcome) (n n′ x x′ y y′ z z′ : ℕ) → n ≡ n′ → x ≡ x′ → y ≡ y′ → z ≡ z′ → callLine n a ++ totals x y z ≡ callLine n′ a ++ totals x′ y′ z′
 same-last a n n′ x x′ y y′ z z′ p q u v = rw (p, q, u, v)
 
 last-is : (s : Listing) → s .frames + s .refused + 1 < 2 ^ 64 → s .stray < 2 ^ 64
@@ -120,7 +120,7 @@ last-is s h g =
     (add64-is (s .refused) (refusedOne a) (omega arith))
     (omega arith)
     ∙ ap (λ (l : List ℕ). l ++ totals (s .frames + frameOne a) (s .refused + refusedOne a) (s .stray + 0))
-    (sym (append-nil (line (s .frames + s .refused + 1) a)) ∙ lines-more (s .frames + s .refused) a [])
+    (sym (append-nil (callLine (s .frames + s .refused + 1) a)) ∙ lines-more (s .frames + s .refused) a [])
 
 -- a byte
 module _ (s : Listing) (b : ℕ) (h : s .frames + s .refused + 1 < 2 ^ 64) (g : s .stray + 1 < 2 ^ 64) where
@@ -147,9 +147,9 @@ module _ (s : Listing) (b : ℕ) (h : s .frames + s .refused + 1 < 2 ^ 64) (g : 
   unfolding nextOf
   next-open = open-is (s .reader) b
 
-  text-line : textOf s b ≡ line (s .frames + s .refused + 1) answer
+  text-line : textOf s b ≡ callLine (s .frames + s .refused + 1) answer
   unfolding textOf answer
-  text-line = ap (λ (k : ℕ). line k (stepOf (s .reader) b .answer)) (number-is (s .frames) (s .refused) h)
+  text-line = ap (λ (k : ℕ). callLine k (stepOf (s .reader) b .answer)) (number-is (s .frames) (s .refused) h)
 
   outcomes-next : (bytes : List ℕ) → outcomesFrom (s .reader) (b ∷ bytes) ≡ answer ∷ outcomesFrom (nextOf s b .reader) bytes
   unfolding nextOf answer

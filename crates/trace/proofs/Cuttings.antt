@@ -85,4 +85,4 @@ some t n e = rw e (omega arith)
 pub takes-some : TakesSome
 takes-some s [] out out′ r h room l = absurd (omega arith)
 takes-some s (b ∷ bytes) out out′ r h room l =
-    rw (l .taken-is) (some (ltb (length out) lineRoom) (takenOf (nextOf s b) bytes (length out - length (textOf s b))) (le-ltb (length out) 96 room))
+    rw (l .taken-is) (some (ltb (length out) lineRoom) (takenOf (nextOf s b) bytes (length out - length (textOf s b))) (le-ltb (length out) lineRoom room))

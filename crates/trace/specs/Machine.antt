@@ -13,7 +13,7 @@ use Rattle.line.specs.Reader.{newReader, stepOf, finishOf}
 use Rattle.frame.specs.Flags.{roleOf}
 use Rattle.line.specs.declared.Mode.{Mode}
 use Rattle.line.specs.declared.Mode.the-variants.{Outside, InStandard, InExtended, Overlong}
-use Rattle.text.specs.Lines.{line, totals}
+use Rattle.text.specs.Lines.{callLine, totals}
 use Rattle.text.specs.Strays.{strayAt}
 use Rattle.text.specs.Text.{frameOne, refusedOne}
 use Rattle.text.specs.Writing.{lineRoom}
@@ -66,7 +66,7 @@ nextOf s b = record {
 
 -- The line of its answer.
 unfoldable pub textOf : Listing → ℕ → List ℕ
-textOf s b = line (numberAfter (s .frames) (s .refused)) (stepOf (s .reader) b .answer)
+textOf s b = callLine (numberAfter (s .frames) (s .refused)) (stepOf (s .reader) b .answer)
 
 -- ---- bytes one after the other
 
@@ -101,7 +101,7 @@ lastRoom = 2 * lineRoom
 -- The text after the last byte.
 unfoldable pub lastText : Listing → List ℕ
 lastText s =
-    line (numberAfter (s .frames) (s .refused)) (finishOf (s .reader) .answer)
+    callLine (numberAfter (s .frames) (s .refused)) (finishOf (s .reader) .answer)
     ++ totals (add64 (s .frames) (frameOne (finishOf (s .reader) .answer))) (add64 (s .refused) (refusedOne (finishOf (s .reader) .answer))) (s .stray)
 
 -- The finish: all of that text, or nothing where the output is too short.
