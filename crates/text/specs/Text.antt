@@ -43,7 +43,8 @@ lines n (v ∷ vs) = line (n + 1) v ++ lines (n + 1) vs
 
 -- The whole text.
 abbrev pub text : List ℕ → List ℕ
-text trace = lines 0 (answersTo trace) ++ totals (frames (answersTo trace)) (refusals (answersTo trace)) (strays false trace)
+text trace =
+    lines 0 (answersTo trace) ++ totals (frames (answersTo trace)) (refusals (answersTo trace)) (strays false trace)
 
 -- ---- one call
 

@@ -21,7 +21,8 @@ headRoom = 22
 abbrev pub bodyRoom : ℕ
 bodyRoom = lineRoom - headRoom
 
--- What a public function that writes a line does: it writes where there is room for any line, and else leaves the output as it is.
+-- What a public function that writes a line does: it writes where there is room for any line, and else leaves the
+-- output as it is.
 pub record Puts (out : List ℕ) (at : ℕ) (w out′ : List ℕ) (end : ℕ) : Type 0 where
   pub written : at + lineRoom ≤ length out → Wrote out at w out′ end × (end ≤ at + lineRoom)
   pub short : length out < at + lineRoom → (out′ ≡ out) × (end ≡ at)

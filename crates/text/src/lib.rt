@@ -20,7 +20,9 @@ pub const LINE_ROOM: usize = 96;
 // Writes the line of an answer, the n-th, at an index, and answers the index after it. The contents are the first bytes
 // of a slice, as many as the answer says. Without the room it writes nothing.
 pub fn put_answer(told: Told, contents: &[u8], n: u64, out: &mut [u8], at: usize) -> usize
-    ensures { λ r. ⌜ Puts (now (out .entry)) at (callLine n (outcomeOf (toldMeans told) (now (contents .entry)))) (now (out .exit)) r ⌝ }
+    ensures { λ r.
+        ⌜ Puts (now (out .entry)) at (callLine n (outcomeOf (toldMeans told) (now (contents .entry))))
+        (now (out .exit)) r ⌝ }
 {
     if out.len() < LINE_ROOM {
         return at;
@@ -46,7 +48,9 @@ pub fn put_totals(frames: u64, refusals: u64, strays: u64, out: &mut [u8], at: u
 
 fn put_told(told: Told, contents: &[u8], n: u64, out: &mut [u8], at: usize) -> usize
     requires { ⌜ at + lineRoom ≤ length (now out) ⌝ }
-    ensures { λ r. ⌜ Wrote (now (out .entry)) at (callLine n (outcomeOf (toldMeans told) (now (contents .entry)))) (now (out .exit)) r ⌝ }
+    ensures { λ r.
+        ⌜ Wrote (now (out .entry)) at (callLine n (outcomeOf (toldMeans told) (now (contents .entry))))
+        (now (out .exit)) r ⌝ }
     ensures { λ r. ⌜ r ≤ at + lineRoom ⌝ }
 {
     match told {
@@ -118,7 +122,8 @@ fn put_counts(frames: u64, refusals: u64, strays: u64, out: &mut [u8], at: usize
 // The end of a frame's body.
 fn put_stop(contents: &[u8], out: &mut [u8], at: usize) -> usize
     requires { ⌜ at + 10 ≤ length (now out) ⌝ }
-    ensures { λ r. ⌜ Wrote (now (out .entry)) at (stopText (stopsWorkout (now (contents .entry)))) (now (out .exit)) r ⌝ }
+    ensures { λ r.
+        ⌜ Wrote (now (out .entry)) at (stopText (stopsWorkout (now (contents .entry)))) (now (out .exit)) r ⌝ }
     ensures { λ r. ⌜ r ≤ at + 10 ⌝ }
 {
     if command::stop::stops_workout(contents) {

@@ -32,8 +32,10 @@ same-length c = search needs
 returns : tie.Need-returns
 unfolding extendedBody
 returns c =
-    let a = c .before .before .before .before .before .before .before .before .before .before .before .before .before .before .before .before .put-hex-field .ensures in
-    let b = c .before .before .before .before .before .before .before .before .before .before .before .put-hex-field2 .ensures in
+    let a = c .before .before .before .before .before .before .before .before .before .before
+    .before .before .before .before .before .before .put-hex-field .ensures in
+    let b = c .before .before .before .before .before .before .before .before .before .before
+    .before .put-hex-field2 .ensures in
     let d = c .before .before .before .before .before .before .put-field .ensures in
     let e = c .before .before .put-stop .ensures in
     (next (next (next (a .0) (b .0) (omega arith)) (d .0) (omega arith)) (e .0) (omega arith), omega arith)

@@ -31,7 +31,9 @@ returns : tie.Need-returns
 unfolding refusedBody
 returns c =
     let a = c .before .before .before .before .before .before .before .put-field .ensures in
-    let number = ap (field _) (c .before .before .before .before .before .before .before .before .before .wide .ensures ∙ c .before .before .before .before .before .before .before .before .before .before .number .ensures) in
+    let number = ap (field _)
+    (c .before .before .before .before .before .before .before .before .before .wide .ensures
+    ∙ c .before .before .before .before .before .before .before .before .before .before .number .ensures) in
     let b = c .before .before .put-bytes .ensures in
     (next (wrote-as number (a .0)) b (omega arith), omega (arith, b .ends))
 

@@ -19,8 +19,11 @@ same-length c = search needs
 
 returns : tie.Need-returns
 unfolding standardBody
-returns c =
-    (next (c .before .before .before .before .before .before .put-field .ensures .0) (c .before .before .put-stop .ensures .0) (omega arith), omega arith)
+returns c = (
+  next (c .before .before .before .before .before .before .put-field .ensures .0)
+      (c .before .before .put-stop .ensures .0) (omega arith),
+  omega arith,
+)
 
 pub put-standard-spec : {M : Type 1} → statement M
 put-standard-spec =

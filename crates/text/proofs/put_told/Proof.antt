@@ -44,7 +44,12 @@ put-extended-requires : tie.Need-put-extended-requires
 put-extended-requires c κs = search needs
 
 returns : tie.Need-returns
-returns c = rw (c .enum-told .given .1) (wrote-nothing (c .before .before .before .before .args .out .now) (c .before .before .before .before .args .at), omega arith)
+returns c =
+    rw (c .enum-told .given .1) (
+      wrote-nothing (c .before .before .before .before .args .out .now)
+          (c .before .before .before .before .args .at),
+      omega arith,
+    )
 
 same-length : tie.Need-same-length
 same-length c = search needs
@@ -54,7 +59,8 @@ unfolding frameRead
 returns-2 c =
     let h = c .before .before .before .before .before .before .put-head .ensures in
     let b = c .before .before .put-refused .ensures in
-    rw (c .before .before .before .before .before .before .before .before .before .told .given .1) (next (h .0) (b .0) (omega arith), omega arith)
+    rw (c .before .before .before .before .before .before .before .before .before .told .given .1)
+    (next (h .0) (b .0) (omega arith), omega arith)
 
 same-length-2 : tie.Need-same-length-2
 same-length-2 c = search needs
@@ -65,7 +71,8 @@ returns-3 c =
     let h = c .before .before .before .before .before .before .before .put-head2 .ensures in
     let b = c .before .before .put-standard .ensures in
     let held = ap standardBody (c .before .before .before .before .part .ensures) in
-    rw (c .before .before .before .before .before .before .before .before .before .before .told2 .given .1) (next (h .0) (wrote-as held (b .0)) (omega arith), omega arith)
+    rw (c .before .before .before .before .before .before .before .before .before .before .told2 .given .1)
+    (next (h .0) (wrote-as held (b .0)) (omega arith), omega arith)
 
 same-length-3 : tie.Need-same-length-3
 same-length-3 c = search needs
@@ -76,7 +83,8 @@ returns-4 c =
     let h = c .before .before .before .before .before .before .before .put-head3 .ensures in
     let b = c .before .before .put-extended .ensures in
     let held = ap (extendedBody _ _) (c .before .before .before .before .part2 .ensures) in
-    rw (c .before .before .before .before .before .before .before .before .before .before .told3 .given .1) (next (h .0) (wrote-as held (b .0)) (omega arith), omega arith)
+    rw (c .before .before .before .before .before .before .before .before .before .before .told3 .given .1)
+    (next (h .0) (wrote-as held (b .0)) (omega arith), omega arith)
 
 pub put-told-spec : {M : Type 1} → statement M
 put-told-spec =
