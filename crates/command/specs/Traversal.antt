@@ -1,4 +1,4 @@
--- An index in a command list and the moves from it: what a command cursor answers (document 01's walker).
+-- An index in a command list and the moves from it: what a command cursor answers (document 01: "walker").
 use Prim.Native.Nat.{ℕ, zero, suc, _+_}
 use mathlib.Core.List.{List}
 use lib.ListN.{drop}

@@ -1,4 +1,4 @@
-// A cursor that stays on one frame's contents from command to command: document 01's walker.
+// A cursor that stays on one frame's contents from command to command (document 01: "walker").
 // The borrow checker covers no function that has one, so each takes it apart and calls a covered function of `traversal`.
 use crate::entries::Found;
 use crate::traversal;

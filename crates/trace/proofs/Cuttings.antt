@@ -28,11 +28,16 @@ use Rattle.trace.proofs.Counts.{Rest, all-text}
 -- ---- calls in a row give what single bytes give
 
 one-call : (s : Listing) (chunk rest out out′ : List ℕ) (r : Listed) → Lists s chunk out out′ r
-    → (take (r .wrote) out′ ++ texts (r .next) (drop (r .taken) chunk ++ rest) ≡ texts s (chunk ++ rest)) × (listingAfter (r .next) (drop (r .taken) chunk ++ rest) ≡ listingAfter s (chunk ++ rest))
+    → (take (r .wrote) out′ ++ texts (r .next) (drop (r .taken) chunk ++ rest) ≡ texts s (chunk ++ rest))
+    × (listingAfter (r .next) (drop (r .taken) chunk ++ rest) ≡ listingAfter s (chunk ++ rest))
 one-call s chunk rest out out′ r l =
     let k = r .taken in
-    let w : take (r .wrote) out′ ≡ texts s (take k chunk) = ap (take (r .wrote)) (l .out-is) ∙ take-at (texts s (take k chunk)) (drop (r .wrote) out) (r .wrote) (sym (l .wrote-is)) in
-    let whole : take k chunk ++ (drop k chunk ++ rest) ≡ chunk ++ rest = sym (append-assoc (take k chunk) (drop k chunk) rest) ∙ ap (λ (x : List ℕ). x ++ rest) (take-append-drop k chunk) in (
+    let w : take (r .wrote) out′ ≡ texts s (take k chunk) =
+    ap (take (r .wrote)) (l .out-is)
+    ∙ take-at (texts s (take k chunk)) (drop (r .wrote) out) (r .wrote) (sym (l .wrote-is)) in
+    let whole : take k chunk ++ (drop k chunk ++ rest) ≡ chunk ++ rest =
+    sym (append-assoc (take k chunk) (drop k chunk) rest)
+    ∙ ap (λ (x : List ℕ). x ++ rest) (take-append-drop k chunk) in (
       ap (λ (x : List ℕ). x ++ texts (r .next) (drop k chunk ++ rest)) w
           ∙ ap (λ (u : Listing). texts s (take k chunk) ++ texts u (drop k chunk ++ rest)) (l .next-is)
           ∙ sym (texts-append s (take k chunk) (drop k chunk ++ rest))
@@ -42,10 +47,12 @@ one-call s chunk rest out out′ r l =
           ∙ ap (listingAfter s) whole,
     )
 
-calls-texts : {s s′ : Listing} {bytes written : List ℕ} → Calls s bytes written s′ → (written ≡ texts s bytes) × (s′ ≡ listingAfter s bytes)
+calls-texts : {s s′ : Listing} {bytes written : List ℕ} → Calls s bytes written s′
+    → (written ≡ texts s bytes) × (s′ ≡ listingAfter s bytes)
 calls-texts none = (refl, refl)
 calls-texts (call {s = s} chunk rest out out′ r l t) =
-    let k : (take (r .wrote) out′ ++ texts (r .next) (drop (r .taken) chunk ++ rest) ≡ texts s (chunk ++ rest)) × (listingAfter (r .next) (drop (r .taken) chunk ++ rest) ≡ listingAfter s (chunk ++ rest)) =
+    let k : (take (r .wrote) out′ ++ texts (r .next) (drop (r .taken) chunk ++ rest) ≡ texts s (chunk ++ rest))
+    × (listingAfter (r .next) (drop (r .taken) chunk ++ rest) ≡ listingAfter s (chunk ++ rest)) =
     one-call s chunk rest out out′ r l in
     (ap (λ (x : List ℕ). take (r .wrote) out′ ++ x) (calls-texts t .0) ∙ k .0, calls-texts t .1 ∙ k .1)
 
@@ -69,9 +76,12 @@ new-text trace h =
 
 pub writes-text : WritesText
 writes-text trace written h s =
-    let k : (s .before ≡ texts newListing trace) × (s .state ≡ listingAfter newListing trace) = calls-texts (s .calls) in
-    let e : (s .wrote ≡ length (lastText (s .state))) × (s .out′ ≡ lastText (s .state) ++ drop (s .wrote) (s .out)) = s .ends .whole (s .room) in
-    let l : take (s .wrote) (s .out′) ≡ lastText (s .state) = ap (take (s .wrote)) (e .1) ∙ take-at (lastText (s .state)) (drop (s .wrote) (s .out)) (s .wrote) (sym (e .0)) in
+    let k : (s .before ≡ texts newListing trace) × (s .state ≡ listingAfter newListing trace) =
+    calls-texts (s .calls) in
+    let e : (s .wrote ≡ length (lastText (s .state))) × (s .out′ ≡ lastText (s .state) ++ drop (s .wrote) (s .out)) =
+    s .ends .whole (s .room) in
+    let l : take (s .wrote) (s .out′) ≡ lastText (s .state) =
+    ap (take (s .wrote)) (e .1) ∙ take-at (lastText (s .state)) (drop (s .wrote) (s .out)) (s .wrote) (sym (e .0)) in
     s .all
     ∙ ap (λ (x : List ℕ). x ++ take (s .wrote) (s .out′)) (k .0)
     ∙ ap (λ (x : List ℕ). texts newListing trace ++ x) (l ∙ ap lastText (k .1))
@@ -85,4 +95,5 @@ some t n e = rw e (omega arith)
 pub takes-some : TakesSome
 takes-some s [] out out′ r h room l = absurd (omega arith)
 takes-some s (b ∷ bytes) out out′ r h room l =
-    rw (l .taken-is) (some (ltb (length out) lineRoom) (takenOf (nextOf s b) bytes (length out - length (textOf s b))) (le-ltb (length out) lineRoom room))
+    rw (l .taken-is) (some (ltb (length out) lineRoom) (takenOf (nextOf s b) bytes (length out - length (textOf s b)))
+    (le-ltb (length out) lineRoom room))

@@ -22,7 +22,7 @@ use Rattle.text.specs.Text.{frameOne, refusedOne}
 use Rattle.text.specs.Writing.{Wrote, lineRoom}
 use Rattle.text.proofs.Writing.{wrote-as}
 use Rattle.trace.specs.Private.{Leads, Advances, strayCount, listing}
-use Rattle.trace.specs.Machine.{frameCount, refusedCount, isOpen, add64, numberAfter, nextOf, textOf, listingAfter, texts, takenOf}
+use Rattle.trace.specs.Machine.{frameCount, refusedCount, isOpen, add64, numberAfter, nextOf, textOf, texts, takenOf}
 use Rattle.trace.specs.declared.Listing.{Listing}
 use Rattle.trace.specs.declared.Tally.{Tally}
 use Rattle.trace.proofs.AnswerLaws.{frame-count, refused-count, add-none}

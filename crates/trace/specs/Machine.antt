@@ -85,7 +85,8 @@ takenOf s (b ∷ bytes) room = pick (ltb room lineRoom) 0 (1 + takenOf (nextOf s
 
 -- ---- what the calls do
 
--- A chunk: how many bytes are taken, the state afterwards, how many bytes are written, and the output. What stands past them stays.
+-- A chunk: how many bytes are taken, the state afterwards, how many bytes are written, and the output. What stands past
+-- them stays.
 pub record Lists (s : Listing) (chunk out out′ : List ℕ) (r : Listed) : Type 0 where
   pub taken-is : r .taken ≡ takenOf s chunk (length out)
   pub next-is : r .next ≡ listingAfter s (take (r .taken) chunk)
@@ -102,7 +103,10 @@ lastRoom = 2 * lineRoom
 unfoldable pub lastText : Listing → List ℕ
 lastText s =
     callLine (numberAfter (s .frames) (s .refused)) (finishOf (s .reader) .answer)
-    ++ totals (add64 (s .frames) (frameOne (finishOf (s .reader) .answer))) (add64 (s .refused) (refusedOne (finishOf (s .reader) .answer))) (s .stray)
+    ++ totals
+    (add64 (s .frames) (frameOne (finishOf (s .reader) .answer)))
+    (add64 (s .refused) (refusedOne (finishOf (s .reader) .answer)))
+    (s .stray)
 
 -- The finish: all of that text, or nothing where the output is too short.
 pub record Ends (s : Listing) (out out′ : List ℕ) (wrote : ℕ) : Type 0 where
