@@ -17,7 +17,9 @@ stepAt limit s at =
     pick (ltb at (length s))
     (pick (ltb (getD s at 0) limit)
     (pick (ltb (at + 1) (length s))
-    (pick (leb (getD s (at + 1) 0) (length s - (at + 2))) (Entry (getD s at 0) (at + 2) (getD s (at + 1) 0) (cursor (at + 2 + getD s (at + 1) 0))) Broken)
+    (pick (leb (getD s (at + 1) 0) (length s - (at + 2)))
+    (Entry (getD s at 0) (at + 2) (getD s (at + 1) 0) (cursor (at + 2 + getD s (at + 1) 0)))
+    Broken)
     Broken)
     (Entry (getD s at 0) (at + 1) 0 (cursor (at + 1))))
     End

@@ -5,7 +5,8 @@ use lib.ListN.{drop}
 use Rattle.command.specs.Entries.{commands, parse, found, nthIn, Extent}
 use Rattle.answer.specs.Answer.{Answer, result, refused}
 
--- The command at an index: the first of the bytes from there on, all of whose counts are checked first. At the end and past it there is none.
+-- The command at an index: the first of the bytes from there on, all of whose counts are checked first. At the end and
+-- past it there is none.
 unfoldable pub commandAt : List ℕ → (at : ℕ) → Answer Extent
 commandAt s at = nthIn commands at (parse commands (drop at s) 0) 0
 

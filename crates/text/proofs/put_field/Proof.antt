@@ -11,8 +11,7 @@ put-decimal-requires : tie.Need-put-decimal-requires
 put-decimal-requires c κs =
     omega (
       arith,
-      decimal-64 (c .before .before .before .before .before .before .before .args .v)
-          (omega arith),
+      decimal-64 (c .before .before .before .before .before .before .before .args .v) (omega arith),
       c .before .before .before .put-bytes .ensures .ends,
     )
 

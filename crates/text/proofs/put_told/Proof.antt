@@ -46,8 +46,7 @@ put-extended-requires c κs = search needs
 returns : tie.Need-returns
 returns c =
     rw (c .enum-told .given .1) (
-      wrote-nothing (c .before .before .before .before .args .out .now)
-          (c .before .before .before .before .args .at),
+      wrote-nothing (c .before .before .before .before .args .out .now) (c .before .before .before .before .args .at),
       omega arith,
     )
 

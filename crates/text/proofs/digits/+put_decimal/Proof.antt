@@ -89,8 +89,7 @@ put-decimal-put-pair-requires t c κs =
       c .before .if2 .taken,
       omega (
         arith,
-        length-pair (p .args .v) (c .before .before .if1 .left)
-            (c .before .if2 .taken),
+        length-pair (p .args .v) (c .before .before .if1 .left) (c .before .if2 .taken),
         p .pre .1,
       ),
     )
@@ -138,8 +137,7 @@ put-decimal-put-pair-requires-2 t c κs =
       omega arith,
       omega (
         arith,
-        length-hundreds (p .args .v)
-            (c .before .before .before .before .before .if2 .left),
+        length-hundreds (p .args .v) (c .before .before .before .before .before .if2 .left),
         p .pre .1,
         q .ensures .ends,
         q .kept .1 .0,
