@@ -35,8 +35,8 @@ module _ (res : Slot 1) (Says : (κs : Lfts 1) → RefT (List ℕ) → ℕ → r
     abbrev pub over : Clauses 𝓤 Over
     over κs a = record { ghost = Unit {0}; requires = λ _. emp 𝓤; ensures = λ _ r _. fact 𝓤 (Says κs (a .0 .contents) (a .0 .at) r) }
 
-    abbrev pub OnPlace : (H : Heap 𝓤) → Atoms 𝓤 → Contract 𝓤
-    OnPlace H A = tripleOf 𝓤 H A (Under .signature) (closing 𝓤 H A Under under)
+    abbrev pub OnIndex : (H : Heap 𝓤) → Atoms 𝓤 → Contract 𝓤
+    OnIndex H A = tripleOf 𝓤 H A (Under .signature) (closing 𝓤 H A Under under)
 
     abbrev pub OnCursor : (H : Heap 𝓤) → Atoms 𝓤 → Contract 𝓤
     OnCursor H A = tripleOf 𝓤 H A (Over .signature) (closing 𝓤 H A Over over)
@@ -46,20 +46,20 @@ module _ (res : Slot 1) (Says : (κs : Lfts 1) → RefT (List ℕ) → ℕ → r
     abbrev pub Told : res .row (κ, tt) .Denot → Type 0
     Told r = Says (κ, tt) (d .contents) (d .at) r
 
-    abbrev pub to-place : OnPlace 𝓤 H A .Ghost
-    to-place = (((κ, tt), (q, tt), tt, (d .contents, (d .at, tt)), passed (d .contents) (d .at)), tt)
+    abbrev pub to-index : OnIndex 𝓤 H A .Ghost
+    to-index = (((κ, tt), (q, tt), tt, (d .contents, (d .at, tt)), passed (d .contents) (d .at)), tt)
 
     abbrev pub to-cursor : OnCursor 𝓤 H A .Ghost
     to-cursor = (((κ, tt), (q, tt), tt, (d, tt), (mach d ∷ [], tt)), tt)
 
-    pub asks-place : ent 𝓤 (⋆ 𝓤 H A ((‵ (flft κ q) ⊛ ‵ ftrue) ∷ ‵ (Lent κ (d .contents) (d .at)) ∷ [])) (OnPlace 𝓤 H A .pre to-place)
-    asks-place = qed W ((‵ (flft κ q) ⊛ ‵ ftrue) ∷ ‵ (Lent κ (d .contents) (d .at)) ∷ []) ∵ join ! $ frame ! $ done !
+    pub asks-index : ent 𝓤 (⋆ 𝓤 H A ((‵ (flft κ q) ⊛ ‵ ftrue) ∷ ‵ (Lent κ (d .contents) (d .at)) ∷ [])) (OnIndex 𝓤 H A .pre to-index)
+    asks-index = qed W ((‵ (flft κ q) ⊛ ‵ ftrue) ∷ ‵ (Lent κ (d .contents) (d .at)) ∷ []) ∵ join ! $ frame ! $ done !
 
     pub asks-cursor : ent 𝓤 (⋆ 𝓤 H A (‵ (Own κ d) ∷ (‵ (flft κ q) ⊛ ‵ ftrue) ∷ [])) (OnCursor 𝓤 H A .pre to-cursor)
     asks-cursor = qed W (‵ (Own κ d) ∷ (‵ (flft κ q) ⊛ ‵ ftrue) ∷ []) ∵ nothing ! $ move ! (1 ∷ 0 ∷ []) $ fjoin ! $ move ! (1 ∷ 0 ∷ []) $ join ! $ frame ! $ done !
 
-    pub told-place : (r : res .row (κ, tt) .Denot) → ent 𝓤 (ensured 𝓤 H A Under (under 𝓤) (κ, tt) (d .contents, (d .at, tt)) tt r) (fact 𝓤 (Told r))
-    told-place r = exE 𝓤 _ (λ ws. snd∗ 𝓤 (sem 𝓤 H A (lasts Under (κ, tt) (d .contents, (d .at, tt)) ws)) (fact 𝓤 (Told r)))
+    pub told-index : (r : res .row (κ, tt) .Denot) → ent 𝓤 (ensured 𝓤 H A Under (under 𝓤) (κ, tt) (d .contents, (d .at, tt)) tt r) (fact 𝓤 (Told r))
+    told-index r = exE 𝓤 _ (λ ws. snd∗ 𝓤 (sem 𝓤 H A (lasts Under (κ, tt) (d .contents, (d .at, tt)) ws)) (fact 𝓤 (Told r)))
 
     pub told-cursor : (r : res .row (κ, tt) .Denot) → ent 𝓤 (ensured 𝓤 H A Over (over 𝓤) (κ, tt) (d, tt) tt r) (fact 𝓤 (Told r))
     told-cursor r = exE 𝓤 _ (λ ws. snd∗ 𝓤 (sem 𝓤 H A (lasts Over (κ, tt) (d, tt) ws)) (fact 𝓤 (Told r)))

@@ -38,17 +38,17 @@ kth-data s k = ap (partOf s) (kth-step s k)
 
 -- ---- where the cursor stands
 
-place-from : (s : List ℕ) (at : ℕ) (before rest : List Entry) → parse commands (drop at s) 0 ≡ sound (before ++ rest)
+index-from : (s : List ℕ) (at : ℕ) (before rest : List Entry) → parse commands (drop at s) 0 ≡ sound (before ++ rest)
     → indexOf s (length before) at ≡ at + length (listBytes commands before)
 unfolding indexOf listBytes
-place-from s at [] rest h = sym (add-zero at)
-place-from s at (e ∷ before) rest h =
+index-from s at [] rest h = sym (add-zero at)
+index-from s at (e ∷ before) rest h =
     let o = one-past s at e (before ++ rest) h in
-    place-from s (indexAfter s at) before rest (o .1) ∙ omega (arith, o .0, length-append (entryBytes commands e) (listBytes commands before))
+    index-from s (indexAfter s at) before rest (o .1) ∙ omega (arith, o .0, length-append (entryBytes commands e) (listBytes commands before))
 
 -- Moved past the first commands of a sound list, a new cursor stands after their bytes.
 pub kth-index : (s : List ℕ) (before rest : List Entry) → parse commands s 0 ≡ sound (before ++ rest) → indexOf s (length before) 0 ≡ length (listBytes commands before)
-kth-index s before rest h = place-from s 0 before rest h ∙ omega arith
+kth-index s before rest h = index-from s 0 before rest h ∙ omega arith
 
 moves-add : (s : List ℕ) (j k at : ℕ) → indexOf s (j + k) at ≡ indexOf s k (indexOf s j at)
 unfolding indexOf

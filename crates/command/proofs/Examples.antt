@@ -1,10 +1,12 @@
 -- Lists that tell readings of document 01 apart, computed.
 use mathlib.Core.Path.{_≡_, refl}
+use mathlib.Core.Bool.{true, false}
 use mathlib.Core.List.{[], _∷_}
 use Rattle.command.specs.Entries.{entryBytes, withEntry, parse, found, nthOf, nthIn}
 use Rattle.answer.specs.Answer.{result, refused}
 use Rattle.command.specs.Commands.{nthCommand, inside, nthInside}
 use Rattle.command.specs.Traversal.{commandAt, indexAfter, indexOf}
+use Rattle.command.specs.Stop.{anyOf, anyIn, isOneTwo, terminates, stopsWithin, stopsWorkout}
 
 pub examples :
     -- an empty list is sound, and so is an empty wrapper
@@ -13,7 +15,7 @@ pub examples :
     -- a short command and a wrapper
     × (nthCommand (0x80 ∷ 0x81 ∷ []) 1 ≡ result (found 0x81 2 0))
     × (nthInside (0x80 ∷ 0x76 ∷ 0x02 ∷ 0x13 ∷ 0x00 ∷ []) 1 0 ≡ result (found 0x13 5 0))
-    -- inside what is no wrapper there is none; only the wrapper that is walked is looked into
+    -- inside what is no wrapper there is none; only the wrapper that is asked about is looked into
     × (nthInside (0x80 ∷ 0x76 ∷ 0x01 ∷ 0x13 ∷ []) 0 0 ≡ refused 15)
     × (nthInside (0x80 ∷ 0x76 ∷ 0x01 ∷ 0x13 ∷ []) 1 0 ≡ refused 7)
     × (nthInside (0x80 ∷ 0x76 ∷ 0x01 ∷ 0x13 ∷ []) 2 0 ≡ refused 15)
@@ -47,3 +49,20 @@ pub cursor-examples :
     × (indexAfter (0x80 ∷ []) 9 ≡ 9)
 unfolding entryBytes withEntry parse nthOf nthIn commandAt indexAfter indexOf
 cursor-examples = (refl, refl, refl, refl, refl, refl, refl, refl, refl, refl, refl)
+
+-- what stops a workout
+pub stop-examples :
+    -- the list is unsound after the wrapper
+    (stopsWorkout (0x76 ∷ 0x04 ∷ 0x13 ∷ 0x02 ∷ 0x01 ∷ 0x02 ∷ 0x20 ∷ []) ≡ false)
+    -- another wrapper is unsound
+    × (stopsWorkout (0x76 ∷ 0x04 ∷ 0x13 ∷ 0x02 ∷ 0x01 ∷ 0x02 ∷ 0x1A ∷ 0x01 ∷ 0x05 ∷ []) ≡ true)
+    -- the first 76 is unsound and the second is not
+    × (stopsWorkout (0x76 ∷ 0x01 ∷ 0x13 ∷ 0x76 ∷ 0x04 ∷ 0x13 ∷ 0x02 ∷ 0x01 ∷ 0x02 ∷ []) ≡ true)
+    -- the 76 is unsound after its command
+    × (stopsWorkout (0x76 ∷ 0x05 ∷ 0x13 ∷ 0x02 ∷ 0x01 ∷ 0x02 ∷ 0x01 ∷ []) ≡ false)
+    -- command 13 stands in 1A, at the top, and with data 01 02 00
+    × (stopsWorkout (0x1A ∷ 0x04 ∷ 0x13 ∷ 0x02 ∷ 0x01 ∷ 0x02 ∷ []) ≡ false)
+    × (stopsWorkout (0x13 ∷ 0x02 ∷ 0x01 ∷ 0x02 ∷ []) ≡ false)
+    × (stopsWorkout (0x76 ∷ 0x05 ∷ 0x13 ∷ 0x03 ∷ 0x01 ∷ 0x02 ∷ 0x00 ∷ []) ≡ false)
+unfolding parse withEntry anyOf anyIn isOneTwo terminates stopsWithin stopsWorkout
+stop-examples = (refl, refl, refl, refl, refl, refl, refl)

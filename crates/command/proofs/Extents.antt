@@ -1,5 +1,5 @@
 -- Entries one after the other: where each of them stands.
-use Prim.Native.Nat.{ℕ, zero, suc, _+_, _-_, _≤_, _<_}
+use Prim.Native.Nat.{ℕ, zero, suc, _+_, _≤_, _<_}
 use mathlib.Core.Path.{_≡_, refl, sym, ap, _∙_}
 use mathlib.Core.Bool.{Bool, true, false}
 use mathlib.Core.List.{List, [], _∷_, _++_, append-assoc, append-nil}
@@ -11,7 +11,7 @@ use lib.Seq.{length-take-le, take-at, drop-append-add}
 use borrow.Author.Tests.{ltb-false}
 use Rattle.lists.specs.Choice.{pick}
 use Rattle.lists.proofs.Cases.{by-bool}
-use Rattle.command.specs.Entries.{Entry, entry, commands, entryBytes, listBytes, WellFormed, AllWellFormed, Parsed, unsound, sound, parse, headOf, found, nthOf, nthIn, Extent}
+use Rattle.command.specs.Entries.{Entry, commands, entryBytes, listBytes, WellFormed, AllWellFormed, Parsed, unsound, sound, parse, headOf, found, nthOf, nthIn, Extent}
 use Rattle.answer.specs.Answer.{Answer, result, refused}
 use Rattle.command.specs.Answers.{partOf}
 use Rattle.command.specs.Commands.{isWrapper, nthCommand, shifted, inside, nthInside}

@@ -7,4 +7,6 @@ pub mod CursorMoves
 pub mod CursorSteps
 pub mod Held
 pub mod Thin
+pub mod StopLaws
+pub mod Stops
 pub mod Examples

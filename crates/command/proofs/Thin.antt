@@ -32,7 +32,7 @@ use denote.Triple.Walked.{says, Stays, stay-none, walkOf, goes-none, Walks, ends
 use denote.Exit.{yes}
 use denote.Triple.Clauses.{closing, ensured}
 use Rattle.command.specs.declared.cursor.CommandCursor.{CommandCursor}
-use Rattle.command.proofs.Called.{Under, Over, under, over, OnPlace, to-place, asks-place, told-place}
+use Rattle.command.proofs.Called.{Under, Over, under, over, OnIndex, to-index, asks-index, told-index}
 use Rattle.command.proofs.Held.{B, D, L, mach, Own, Lent, opened}
 use Rattle.command.proofs.cursor.CommandCursor.Laws as T′
 
@@ -61,8 +61,8 @@ module _ (res : Slot 1) (Says : (κs : Lfts 1) → RefT (List ℕ) → ℕ → r
       abbrev Told : R .Denot → Type 0
       Told r = Says (κ, tt) (d .contents) (d .at) r
 
-      abbrev to : OnPlace res Says 𝓤 H A .Ghost
-      to = to-place res Says 𝓤 H A W κ q d
+      abbrev to : OnIndex res Says 𝓤 H A .Ghost
+      to = to-index res Says 𝓤 H A W κ q d
 
       abbrev Post : Val → SProp 𝓤
       Post = walkOf 𝓤 H A (Over res Says) stayed (over res Says 𝓤) .post (((κ, tt), (q, tt), tt, (d, tt), (mach d ∷ [], tt)), tt)
@@ -73,31 +73,31 @@ module _ (res : Slot 1) (Says : (κs : Lfts 1) → RefT (List ℕ) → ℕ → r
           suffices ! _ (ends-at 𝓤 H A (Over res Says) stayed (over res Says 𝓤) W (((κ, tt), (q, tt), tt, (d, tt), (mach d ∷ [], tt)), tt) u r (tt, tt) (tt, tt)) $ says ! e $
           move ! (1 ∷ []) $ frame ! $ nothing ! $ move ! (2 ∷ 0 ∷ []) $ fjoin ! $ frame ! $ done !
 
-      module _ (C : Calls 𝓤 H) (Λ : Loops 𝓤 H) (fm : FmC 𝓤 H (W .laws) C) (known : Triple 𝓤 (C callee) (OnPlace res Says 𝓤 H A)) where
-        walk : Holds (hasTy (T′.mir (named 0)) (mach d)) × WT (mach d)
+      module _ (C : Calls 𝓤 H) (Λ : Loops 𝓤 H) (fm : FmC 𝓤 H (W .laws) C) (known : Triple 𝓤 (C callee) (OnIndex res Says 𝓤 H A)) where
+        body-runs : Holds (hasTy (T′.mir (named 0)) (mach d)) × WT (mach d)
             → ent 𝓤 (onEntry 𝓤 H A (Over res Says .signature) (κ, tt) (q, tt) (d, tt) (mach d ∷ [], tt)) (WpFn 𝓤 H C Λ (thin callee ty) (mach d ∷ []) Post)
-        walk wt =
+        body-runs wt =
             qed W (raw (onEntry 𝓤 H A (Over res Says .signature) (κ, tt) (q, tt) (d, tt) (mach d ∷ [], tt)) ∷ []) ∵ enter ! C Λ (thin callee ty) (mach d ∷ []) _ $
             alloc1 ! (λ l₀. alloc1 ! (λ l₁. alloc1 ! (λ l₂. alloc1 ! (λ l₃. alloc0 ! $ params1 ! $ pass1 ! (init ! 4 refl wt) $ pass0 ! $
             -- [_3; …; _2; …; _1; …; _0; …; what is had on entry]
             assigns ! (of-opd ! (load ! (from ! (fld ! refl (stop !))) (look-in ! 4 (sub ! 0 refl (whole !))))) (from ! (stop !)) (init ! 2 refl (tt, wt .1 .0)) $
             assigns ! (of-opd ! (load ! (from ! (fld ! refl (stop !))) (look-in ! 4 (sub ! 1 refl (whole !))))) (from ! (stop !)) (init ! 0 refl (tt, wt .1 .1 .0)) $
-            move ! (8 ∷ []) $ use1 W (((‵ (flft κ q) ⊛ ‵ ftrue) ⊛ ‵ (Lent κ (d .contents) (d .at))) ⊛ ‵ (Own κ d)) (opened 𝓤 H A W κ q d (wt .1 .1 .0 .fits)) $ split ! $ use1 W (raw (OnPlace res Says 𝓤 H A .pre to)) (asks-place res Says 𝓤 H A W κ q d) $
-            calls-at ! fm (OnPlace res Says 𝓤 H A) known to (and-then ! (load ! (from ! (stop !)) (look ! 4 refl)) (and-then ! (load ! (from ! (stop !)) (look ! 2 refl)) (no-more !))) (λ u.
+            move ! (8 ∷ []) $ use1 W (((‵ (flft κ q) ⊛ ‵ ftrue) ⊛ ‵ (Lent κ (d .contents) (d .at))) ⊛ ‵ (Own κ d)) (opened 𝓤 H A W κ q d (wt .1 .1 .0 .fits)) $ split ! $ use1 W (raw (OnIndex res Says 𝓤 H A .pre to)) (asks-index res Says 𝓤 H A W κ q d) $
+            calls-at ! fm (OnIndex res Says 𝓤 H A) known to (and-then ! (load ! (from ! (stop !)) (look ! 4 refl)) (and-then ! (load ! (from ! (stop !)) (look ! 2 refl)) (no-more !))) (λ u.
             use1 W (later (some (λ (r : R .Denot). ((‵ (flft κ q) ⊛ ‵ ftrue) ⊛ ‵ (R .own r (u ∷ []))) ⊛ raw (ensured 𝓤 H A (Under res Says) (under res Says 𝓤) (κ, tt) (d .contents, (d .at, tt)) tt r)))) (id⊢ 𝓤 _) $ await ! tt $ pick ! (λ r.
-            split ! $ move ! (1 ∷ []) $ use1 W (raw (fact 𝓤 (Told r))) (told-place res Says 𝓤 H A W κ q d r) $ heard ! (Told r) (λ e. split ! $ move ! (1 ∷ []) $
+            split ! $ move ! (1 ∷ []) $ use1 W (raw (fact 𝓤 (Told r))) (told-index res Says 𝓤 H A W κ q d r) $ heard ! (Told r) (λ e. split ! $ move ! (1 ∷ []) $
             -- [the answer; the token; what the cursor owns; _3; …; _2; …; _1; …; room for _0; …]
             peeks ! R (Is R) (shows 𝓤 H A R) r (u ∷ []) (λ is.
             land ! (from ! (stop !)) (init ! 9 refl (typed κ r u is)) $
             returns ! (look ! 9 refl) $ forget ! 3 refl $ forget ! 5 refl $ forget ! 7 refl $ forget ! 9 refl $
             move ! (9 ∷ 10 ∷ []) $ free1 ! $ move ! (7 ∷ 8 ∷ []) $ free1 ! $ move ! (5 ∷ 6 ∷ []) $ free1 ! $ move ! (3 ∷ 4 ∷ []) $ free1 ! $ free0 ! $ by ! (exits r u e)))))))))
 
-    walks : (C : Calls 𝓤 H) (Λ : Loops 𝓤 H) → FmC 𝓤 H (W .laws) C → Triple 𝓤 (C callee) (OnPlace res Says 𝓤 H A) → Walks 𝓤 H A (Over res Says) stayed (WpFn 𝓤 H C Λ (thin callee ty)) (over res Says 𝓤)
-    walks C Λ fm known =
+    runs : (C : Calls 𝓤 H) (Λ : Loops 𝓤 H) → FmC 𝓤 H (W .laws) C → Triple 𝓤 (C callee) (OnIndex res Says 𝓤 H A) → Walks 𝓤 H A (Over res Says) stayed (WpFn 𝓤 H C Λ (thin callee ty)) (over res Says 𝓤)
+    runs C Λ fm known =
         walked 𝓤 H A (Over res Says) stayed (over res Says 𝓤) (WpFn 𝓤 H C Λ (thin callee ty)) (λ κs. (LL.vals (D (κs .0)) (L (κs .0)), tt)) (λ κs. (LL.tells (D (κs .0)) (L (κs .0)), tt))
-        (λ κs qs bounds a g are. via 𝓤 _ (fst∗ 𝓤 _ (emp 𝓤)) (walk (κs .0) (qs .0) (a .0) C Λ fm known (LL.lawful (D (κs .0)) (L (κs .0)) 𝓤 H A W .typed (a .0) _ (are .0) .0)))
+        (λ κs qs bounds a g are. via 𝓤 _ (fst∗ 𝓤 _ (emp 𝓤)) (body-runs (κs .0) (qs .0) (a .0) C Λ fm known (LL.lawful (D (κs .0)) (L (κs .0)) 𝓤 H A W .typed (a .0) _ (are .0) .0)))
 
-    pub thin-meets : (𝓣 : Tables 𝓤 H) → Triple 𝓤 (𝓣 .C callee) (OnPlace res Says 𝓤 H A) → Meets 𝓤 H A (Over res Says .signature) (WpFn 𝓤 H (𝓣 .C) (𝓣 .Λ) (thin callee ty)) (closing 𝓤 H A (Over res Says) (over res Says 𝓤))
+    pub thin-meets : (𝓣 : Tables 𝓤 H) → Triple 𝓤 (𝓣 .C callee) (OnIndex res Says 𝓤 H A) → Meets 𝓤 H A (Over res Says .signature) (WpFn 𝓤 H (𝓣 .C) (𝓣 .Λ) (thin callee ty)) (closing 𝓤 H A (Over res Says) (over res Says 𝓤))
     thin-meets 𝓣 known =
         walk-meets 𝓤 H A (Over res Says) stayed W (goes-none 𝓤 H A W 1 B yes (λ κs x f. refl), tt) (over res Says 𝓤)
-        (WpFn 𝓤 H (𝓣 .C) (𝓣 .Λ) (thin callee ty)) (WpFn-mono 𝓤 H (W .laws) 𝓣 (thin callee ty)) (walks (𝓣 .C) (𝓣 .Λ) (fmOf 𝓤 H (W .laws) 𝓣) known)
+        (WpFn 𝓤 H (𝓣 .C) (𝓣 .Λ) (thin callee ty)) (WpFn-mono 𝓤 H (W .laws) 𝓣 (thin callee ty)) (runs (𝓣 .C) (𝓣 .Λ) (fmOf 𝓤 H (W .laws) 𝓣) known)

@@ -10,7 +10,12 @@ use Rattle.command.specs.Answers.{partOf}
 
 -- The long commands whose data is a list of commands again.
 abbrev pub isWrapper : ℕ → Bool
-isWrapper b = pick (eqb b 0x1A) true (pick (eqb b 0x76) true (pick (eqb b 0x77) true (pick (eqb b 0x7E) true (pick (eqb b 0x7F) true false))))
+isWrapper b =
+    pick (eqb b 0x1A) true
+    (pick (eqb b 0x76) true
+    (pick (eqb b 0x77) true
+    (pick (eqb b 0x7E) true
+    (pick (eqb b 0x7F) true false))))
 
 -- The n-th command of a list.
 unfoldable pub nthCommand : List ℕ → ℕ → Answer Extent
@@ -24,8 +29,10 @@ shifted by (refused k) = refused k
 -- The n-th command inside what an answer names. Inside what is no wrapper there is none.
 unfoldable pub inside : List ℕ → Answer Extent → ℕ → Answer Extent
 inside s (refused k) n = refused k
-inside s (result (found b start len)) n = pick (isWrapper b) (shifted start (nthCommand (partOf s (result (found b start len))) n)) (refused 15)
+inside s (result (found b start len)) n =
+    pick (isWrapper b) (shifted start (nthCommand (partOf s (result (found b start len))) n)) (refused 15)
 
--- The n-th command inside the w-th at the top. Inside a wrapper no byte is a wrapper: only its commands' own bytes and counts matter.
+-- The n-th command inside the w-th at the top. Inside a wrapper no byte is a wrapper: only its commands' own bytes and
+-- counts matter.
 unfoldable pub nthInside : List ℕ → (w n : ℕ) → Answer Extent
 nthInside s w n = inside s (nthCommand s w) n

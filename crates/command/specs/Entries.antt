@@ -1,5 +1,5 @@
 -- "Byte, count, data": the one shape of long commands and of a reply's items (document 01, "Commands and replies").
--- An entry's byte is followed by a count and that many data bytes where the byte is below a limit; else it stands alone.
+-- An entry's byte is followed by a count and that many data bytes where it is below a limit; else it stands alone.
 use Prim.Native.Nat.{ℕ, zero, suc, _+_, _≤_}
 use mathlib.Core.Path.{_≡_}
 use mathlib.Core.List.{List, [], _∷_, _++_}
@@ -55,7 +55,8 @@ unfoldable mutual
   parse limit [] zero = sound []
   parse limit [] (suc k) = unsound
   parse limit (x ∷ xs) (suc k) = parse limit xs k
-  parse limit (b ∷ xs) zero = pick (ltb b limit) (parseCounted limit xs b) (withEntry (entry b []) (parse limit xs zero))
+  parse limit (b ∷ xs) zero =
+      pick (ltb b limit) (parseCounted limit xs b) (withEntry (entry b []) (parse limit xs zero))
 
   -- the same where the byte b comes before, and is followed by a count
   pub parseCounted : (limit : ℕ) → List ℕ → (b : ℕ) → Parsed

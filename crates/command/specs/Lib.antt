@@ -3,4 +3,5 @@ pub mod Answers
 pub mod Commands
 pub mod Steps
 pub mod Traversal
+pub mod Stop
 pub mod Private

@@ -1,9 +1,13 @@
 -- Contracts of private functions, which no caller reads.
 use Prim.Native.Nat.{ℕ, _+_, _≤_, _<_, _^_}
+use mathlib.Core.Bool.{Bool}
 use mathlib.Core.List.{List}
 use lib.ListN.{length}
 use Rattle.answer.specs.Answer.{Answer, result, refused}
-use Rattle.command.specs.Entries.{Parsed, unsound, sound, Extent, found}
+use Rattle.command.specs.Entries.{Entry, Parsed, unsound, sound, Extent, found}
+use Rattle.command.specs.Stop.{terminates, stopsWithin}
+use Rattle.command.specs.declared.stop.Sought.{Sought}
+use Rattle.command.specs.declared.stop.Sought.the-variants.{Wrapper, Terminate}
 
 -- An answer, where what follows is sound.
 unfoldable pub ifSound : Parsed → Answer Extent → Answer Extent
@@ -19,3 +23,8 @@ InContents s (refused n) = Unit {0}
 abbrev pub IndexFits : ℕ → Answer Extent → Type 0
 IndexFits by (result (found b start len)) = by + start < 2 ^ 64
 IndexFits by (refused n) = Unit {0}
+
+-- The test for an entry that is sought.
+abbrev pub passes : Sought → Entry → Bool
+passes Wrapper = stopsWithin
+passes Terminate = terminates

@@ -1,11 +1,9 @@
 -- The entry at an index: what one step of a cursor answers.
-use Prim.Native.Nat.{ℕ, _+_, _-_, _≤_, _<_, _^_}
+use Prim.Native.Nat.{ℕ, _+_, _-_}
 use mathlib.Core.List.{List}
 use lib.Dec.{leb, ltb}
 use lib.ListN.{length, getD}
 use Rattle.lists.specs.Choice.{pick}
-use Rattle.command.specs.Entries.{Parsed, unsound, sound, found, Extent}
-use Rattle.answer.specs.Answer.{Answer, result, refused}
 use Rattle.command.specs.declared.entries.Cursor.{Cursor}
 use Rattle.command.specs.declared.entries.Step.{Step}
 use Rattle.command.specs.declared.entries.Step.the-variants.{End, Broken, Entry}
@@ -19,7 +17,9 @@ stepAt limit s at =
     pick (ltb at (length s))
     (pick (ltb (getD s at 0) limit)
     (pick (ltb (at + 1) (length s))
-    (pick (leb (getD s (at + 1) 0) (length s - (at + 2))) (Entry (getD s at 0) (at + 2) (getD s (at + 1) 0) (cursor (at + 2 + getD s (at + 1) 0))) Broken)
+    (pick (leb (getD s (at + 1) 0) (length s - (at + 2)))
+    (Entry (getD s at 0) (at + 2) (getD s (at + 1) 0) (cursor (at + 2 + getD s (at + 1) 0)))
+    Broken)
     Broken)
     (Entry (getD s at 0) (at + 1) 0 (cursor (at + 1))))
     End

@@ -1,5 +1,5 @@
-// A cursor that stays on one frame's contents from command to command: document 01's walker.
-// The borrow checker covers no function that has one, so each takes it apart and calls a covered function of `traversal`.
+// A cursor that stays on one frame's contents from command to command (document 01: "walker"). The borrow checker
+// covers no function that has one, so each takes it apart and calls a covered function of `traversal`.
 use crate::entries::Found;
 use crate::traversal;
 ghost use mathlib.Core.Path.{_≡_};
@@ -36,14 +36,18 @@ impl<'a> CommandCursor<'a> {
 
     // Its data, a part of the contents; empty where `command` refuses.
     pub fn data(self) -> &'a [u8]
-        ensures { λ r. ⌜ now r ≡ partOf (now (self .entry .contents)) (commandAt (now (self .entry .contents)) (self .entry .at)) ⌝ }
+        ensures { λ r.
+            ⌜ now r
+            ≡ partOf (now (self .entry .contents)) (commandAt (now (self .entry .contents)) (self .entry .at)) ⌝ }
     {
         traversal::data_at(self.contents, self.at)
     }
 
     // The cursor moved to the next command; unmoved where `command` refuses.
     pub fn advanced(self) -> CommandCursor<'a>
-        ensures { λ r. ⌜ (r .contents ≡ self .entry .contents) × (r .at ≡ indexAfter (now (self .entry .contents)) (self .entry .at)) ⌝ }
+        ensures { λ r.
+            ⌜ (r .contents ≡ self .entry .contents)
+            × (r .at ≡ indexAfter (now (self .entry .contents)) (self .entry .at)) ⌝ }
     {
         let at = traversal::index_after(self.contents, self.at);
         CommandCursor {
@@ -55,7 +59,9 @@ impl<'a> CommandCursor<'a> {
 
 // One step of a cursor, for callers that hold the contents and an index: they need no proof by hand.
 pub fn step_from(contents: &[u8], at: usize) -> CursorStep
-    ensures { λ r. ⌜ (foundMeans (r .found) ≡ commandAt (now (contents .entry)) at) × (r .next ≡ indexAfter (now (contents .entry)) at) ⌝ }
+    ensures { λ r.
+        ⌜ (foundMeans (r .found) ≡ commandAt (now (contents .entry)) at)
+        × (r .next ≡ indexAfter (now (contents .entry)) at) ⌝ }
 {
     let here = CommandCursor { contents, at };
     let found = CommandCursor::command(here);

@@ -1,4 +1,5 @@
-// "Byte, count, data", the one shape of long commands and of a reply's items: bytes below a limit are followed by a count.
+// "Byte, count, data", the one shape of long commands and of a reply's items: a byte below a limit is followed by a
+// count.
 use answer::Refusal;
 ghost use mathlib.Core.Path.{_≡_};
 ghost use lib.ListN.{take, drop};
@@ -6,6 +7,9 @@ ghost use Rattle.command.specs.Entries.{parse, nthIn, found};
 ghost use Rattle.command.specs.Answers.{foundMeans, countedMeans, partOf, counted};
 ghost use Rattle.command.specs.Steps.{stepAt};
 ghost use Rattle.command.specs.Private.{ifSound};
+
+// Command bytes below this have a count.
+pub const COMMANDS: usize = 0x80;
 
 // An index in contents, between two entries.
 pub struct Cursor {

@@ -1,7 +1,9 @@
-// Command lists: the n-th command at the top or inside a wrapper, its data as a part of the caller's contents.
+// Command lists: the n-th command at the top or inside a wrapper, its data as a part of the caller's contents, and
+// whether contents stop a workout.
 // Document 01, "Commands and replies".
 pub mod cursor;
 pub mod entries;
+pub mod stop;
 pub mod traversal;
 
 use answer::Refusal;
@@ -16,15 +18,12 @@ ghost use Rattle.command.specs.Answers.{foundMeans, partOf};
 ghost use Rattle.command.specs.Commands.{isWrapper, nthCommand, shifted, inside, nthInside};
 ghost use Rattle.command.specs.Private.{IndexFits};
 
-// Command bytes below this have a count.
-const COUNTED: usize = 0x80;
-
 // The n-th command at the top. Refusals 7 and 15.
 pub fn nth(contents: &[u8], n: usize) -> Found
     ensures { λ r. ⌜ foundMeans r ≡ nthCommand (now (contents .entry)) n ⌝ }
 {
     let from = Cursor { at: 0 };
-    entries::nth(COUNTED, contents, from, n)
+    entries::nth(entries::COMMANDS, contents, from, n)
 }
 
 // Its data; empty where `nth` refuses.
@@ -76,7 +75,8 @@ pub fn is_wrapper(byte: u8) -> bool
     false
 }
 
-// The n-th command inside a command of the top list. A list inside is walked as a top list is, so no byte of it is a wrapper.
+// The n-th command inside a command of the top list. A list inside is read as a top list is, so no byte of it is a
+// wrapper.
 fn inner(contents: &[u8], byte: u8, start: usize, len: usize, n: usize) -> Found
     requires { ⌜ start + len ≤ length (now contents) ⌝ }
     ensures { λ r. ⌜ foundMeans r ≡ inside (now (contents .entry)) (result (found byte start len)) n ⌝ }

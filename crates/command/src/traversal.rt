@@ -11,7 +11,7 @@ pub fn command_at(contents: &[u8], at: usize) -> Found
     ensures { λ r. ⌜ foundMeans r ≡ commandAt (now (contents .entry)) at ⌝ }
 {
     let from = Cursor { at };
-    entries::nth(crate::COUNTED, contents, from, 0)
+    entries::nth(entries::COMMANDS, contents, from, 0)
 }
 
 // Its data; empty where `command_at` refuses.

@@ -2,6 +2,7 @@
 // Input is read and output is written in pieces of up to 65,536 bytes. What is written is what `trace` proves of any cutting.
 ghost use Prim.Native.Nat.{_≤_};
 ghost use lib.ListN.{length};
+ghost use Rattle.text.specs.Writing.{lineRoom};
 use trace::Listing;
 
 // The most bytes that are read.
@@ -21,7 +22,7 @@ fn main() {
 
 // Where a read or a write fails, no totals are written.
 fn run(input: &mut [u8], out: &mut [u8])
-    requires { ⌜ 96 ≤ length (now out) ⌝ }
+    requires { ⌜ lineRoom ≤ length (now out) ⌝ }
 {
     let mut state = trace::new();
     let mut left = LIMIT;
@@ -55,7 +56,7 @@ fn fetch(input: &mut [u8], left: u64) -> isize {
 
 // Lists all of a chunk and writes what it gives. With room for a line each call takes a byte, so the loop ends.
 fn pump(s: Listing, chunk: &[u8], out: &mut [u8]) -> Pumped
-    requires { ⌜ 96 ≤ length (now out) ⌝ }
+    requires { ⌜ lineRoom ≤ length (now out) ⌝ }
 {
     let mut state = s;
     let mut i: usize = 0;

@@ -39,7 +39,8 @@ pub decimal-large : (n : ℕ) → 10 ≤ n → decimal n ≡ decimal (n / 10) ++
 unfolding decimal
 decimal-large n h =
     let t : n / 10 < n = tenth n h in
-    simp (le-ltb n 10 h) (ap (λ (d : List ℕ). d ++ ((48 + n % 10) ∷ [])) (enough n (suc (n / 10)) (n / 10) t (omega arith)))
+    simp (le-ltb n 10 h)
+    (ap (λ (d : List ℕ). d ++ ((48 + n % 10) ∷ [])) (enough n (suc (n / 10)) (n / 10) t (omega arith)))
 
 pub decimal-pair : (n : ℕ) → 10 ≤ n → n < 100 → decimal n ≡ pair n
 decimal-pair n h g =
@@ -57,7 +58,8 @@ decimal-hundreds n h =
     ∙ append-assoc (decimal (n / 10 / 10)) ((48 + n / 10 % 10) ∷ []) ((48 + n % 10) ∷ [])
     ∙ same-digits x y z
   where
-    same-digits : {a a′ b b′ c c′ : ℕ} → a ≡ a′ → b ≡ b′ → c ≡ c′ → decimal a ++ ((48 + b) ∷ (48 + c) ∷ []) ≡ decimal a′ ++ ((48 + b′) ∷ (48 + c′) ∷ [])
+    same-digits : {a a′ b b′ c c′ : ℕ} → a ≡ a′ → b ≡ b′ → c ≡ c′
+        → decimal a ++ ((48 + b) ∷ (48 + c) ∷ []) ≡ decimal a′ ++ ((48 + b′) ∷ (48 + c′) ∷ [])
     same-digits p q r = rw (p, q, r)
 
 -- ---- how many there are
@@ -79,17 +81,21 @@ bound zero n h = omega (arith, length-small n (omega arith))
 bound (suc k) n h =
     let t : n / 10 < 10 ^ suc k = div-lt-iff-lt-mul {k = 10} (omega arith) .1 (omega arith) in
     let ih : length (decimal (n / 10)) ≤ suc k = bound k (n / 10) t in
-    by-bool (ltb n 10) (λ y. omega (arith, length-small n (ltb-true n 10 y))) (λ m. omega (arith, length-large n (ltb-false n 10 m)))
+    by-bool (ltb n 10) (λ y. omega (arith, length-small n (ltb-true n 10 y)))
+    (λ m. omega (arith, length-large n (ltb-false n 10 m)))
 
 pub decimal-64 : (n : ℕ) → n < 2 ^ 64 → length (decimal n) ≤ 20
 decimal-64 n h = bound 19 n (omega arith)
 
 -- ---- writing them
 
-pub wrote-small : (out : List ℕ) (at v : ℕ) → v < 10 → at + length (decimal v) ≤ length out → Wrote out at (decimal v) (set out at (48 + v)) (at + 1)
-wrote-small out at v h room = wrote-as (sym (decimal-small v h)) (wrote-byte out at (48 + v) (omega (arith, length-small v h)))
+pub wrote-small : (out : List ℕ) (at v : ℕ) → v < 10 → at + length (decimal v) ≤ length out
+    → Wrote out at (decimal v) (set out at (48 + v)) (at + 1)
+wrote-small out at v h room =
+    wrote-as (sym (decimal-small v h)) (wrote-byte out at (48 + v) (omega (arith, length-small v h)))
 
-pub wrote-hundreds : (out : List ℕ) (at v : ℕ) {out₁ out₂ : List ℕ} {a e : ℕ} → 100 ≤ v → at + length (decimal v) ≤ length out → Wrote out at (decimal (v / 100)) out₁ a
+pub wrote-hundreds : (out : List ℕ) (at v : ℕ) {out₁ out₂ : List ℕ} {a e : ℕ} → 100 ≤ v
+    → at + length (decimal v) ≤ length out → Wrote out at (decimal (v / 100)) out₁ a
     → Wrote out₁ a (pair (v % 100)) out₂ e → Wrote out at (decimal v) out₂ e
 wrote-hundreds out at v h room p q =
     wrote-as (sym (decimal-hundreds v h)) (next p q (omega (arith, p .ends, length-hundreds v h)))
@@ -101,12 +107,17 @@ wrote-hex out at v x y room p q =
     wrote-as e (wrote-pair out at x y room)
 
 -- a word and its number
-pub wrote-field : (out : List ℕ) (at : ℕ) (word : List ℕ) (v : ℕ) {out₁ out₂ : List ℕ} {a e : ℕ} → v < 2 ^ 64 → at + (length word + 20) ≤ length out
-    → Wrote out at word out₁ a → Wrote out₁ a (decimal v) out₂ e → Wrote out at (field word v) out₂ e × (e ≤ at + (length word + 20))
+pub wrote-field : (out : List ℕ) (at : ℕ) (word : List ℕ) (v : ℕ) {out₁ out₂ : List ℕ} {a e : ℕ} → v < 2 ^ 64
+    → at + (length word + 20) ≤ length out
+    → Wrote out at word out₁ a → Wrote out₁ a (decimal v) out₂ e
+    → Wrote out at (field word v) out₂ e × (e ≤ at + (length word + 20))
 unfolding field
-wrote-field out at word v h room p q = (next p q (omega (arith, p .ends)), omega (arith, p .ends, q .ends, decimal-64 v h))
+wrote-field out at word v h room p q =
+    (next p q (omega (arith, p .ends)), omega (arith, p .ends, q .ends, decimal-64 v h))
 
-pub wrote-hex-field : (out : List ℕ) (at : ℕ) (word : List ℕ) (v : ℕ) {out₁ out₂ : List ℕ} {a e : ℕ} → at + (length word + 2) ≤ length out
-    → Wrote out at word out₁ a → Wrote out₁ a (hex v) out₂ e → Wrote out at (hexField word v) out₂ e × (e ≡ at + (length word + 2))
+pub wrote-hex-field : (out : List ℕ) (at : ℕ) (word : List ℕ) (v : ℕ) {out₁ out₂ : List ℕ} {a e : ℕ}
+    → at + (length word + 2) ≤ length out
+    → Wrote out at word out₁ a → Wrote out₁ a (hex v) out₂ e
+    → Wrote out at (hexField word v) out₂ e × (e ≡ at + (length word + 2))
 unfolding hexField
 wrote-hex-field out at word v room p q = (next p q (omega (arith, p .ends)), omega (arith, p .ends, q .ends))

@@ -1,6 +1,5 @@
--- Document 01's listing of an example trace, and the readings of `stop=yes`, computed.
+-- Document 01's listing of an example trace, and those of two others, computed.
 use mathlib.Core.Path.{_≡_, refl}
-use mathlib.Core.Bool.{true, false}
 use mathlib.Core.List.{[], _∷_}
 use Rattle.lists.specs.Choice.{noneOf}
 use Rattle.frame.specs.Stuffing.{unstuff, prepend}
@@ -8,32 +7,23 @@ use Rattle.frame.specs.Checksum.{sumFrom}
 use Rattle.frame.specs.Verdict.{frameIn, judgeBytes, judge, isTerminated, verdict}
 use Rattle.command.specs.Entries.{parse, withEntry}
 use Rattle.text.specs.Digits.{decimal}
-use Rattle.text.specs.Stop.{anyOf, anyIn, isOneTwo, terminates, stopsWithin, stopsWorkout}
-use Rattle.text.specs.Lines.{ascii, field, hexField, refusedLine, standardLine, extendedLine, totals}
+use Rattle.command.specs.Stop.{anyOf, anyIn, isOneTwo, terminates, stopsWithin, stopsWorkout}
+use Rattle.text.specs.Lines.{ascii, field, hexField, refusedBody, standardBody, extendedBody, totals}
 use Rattle.text.specs.Text.{text}
 
-pub example : text (0x55 ∷ 0xF1 ∷ 0x76 ∷ 0x04 ∷ 0xF0 ∷ 0x05 ∷ 0x00 ∷ 0x76 ∷ 0x04 ∷ 0x13 ∷ 0x02 ∷ 0x01 ∷ 0x02 ∷ 0x60 ∷ 0xF2 ∷ [])
+pub example : text (0x55 ∷ 0xF1 ∷ 0x76 ∷ 0x04 ∷ 0xF0 ∷ 0x05 ∷ 0x00 ∷ 0x76 ∷ 0x04 ∷ 0x13 ∷ 0x02 ∷ 0x01 ∷ 0x02 ∷ 0x60
+    ∷ 0xF2 ∷ [])
     ≡ ascii "n=1 kind=refused code=6\nn=2 kind=ext to=05 from=00 len=6 stop=yes\nframes=1 refused=1 loose=1\n"
-unfolding noneOf unstuff prepend sumFrom frameIn judgeBytes judge isTerminated verdict parse withEntry decimal anyOf anyIn isOneTwo terminates stopsWithin stopsWorkout field hexField refusedLine standardLine extendedLine totals
+unfolding noneOf unstuff prepend sumFrom frameIn judgeBytes judge isTerminated verdict parse withEntry decimal anyOf
+    anyIn isOneTwo terminates stopsWithin stopsWorkout field hexField refusedBody standardBody extendedBody totals
 example = refl
 
-pub standard-example : text (0xF1 ∷ 0x24 ∷ 0x02 ∷ 0x03 ∷ 0x00 ∷ 0x25 ∷ 0xF2 ∷ []) ≡ ascii "n=1 kind=std len=4 stop=no\nframes=1 refused=0 loose=0\n"
-unfolding noneOf unstuff prepend sumFrom frameIn judgeBytes judge isTerminated verdict parse withEntry decimal anyOf anyIn isOneTwo terminates stopsWithin stopsWorkout field hexField refusedLine standardLine extendedLine totals
+pub standard-example : text (0xF1 ∷ 0x24 ∷ 0x02 ∷ 0x03 ∷ 0x00 ∷ 0x25 ∷ 0xF2 ∷ [])
+    ≡ ascii "n=1 kind=std len=4 stop=no\nframes=1 refused=0 loose=0\n"
+unfolding noneOf unstuff prepend sumFrom frameIn judgeBytes judge isTerminated verdict parse withEntry decimal anyOf
+    anyIn isOneTwo terminates stopsWithin stopsWorkout field hexField refusedBody standardBody extendedBody totals
 standard-example = refl
 
 pub empty-example : text [] ≡ ascii "frames=0 refused=0 loose=0\n"
 unfolding decimal field totals
 empty-example = refl
-
--- The top list is unsound after the wrapper; another wrapper is unsound; the first 76 is unsound and the second is not; the 76 is unsound
--- after its command; command 13 stands in 1A, at the top, and with data 01 02 00.
-pub stop-examples :
-    (stopsWorkout (0x76 ∷ 0x04 ∷ 0x13 ∷ 0x02 ∷ 0x01 ∷ 0x02 ∷ 0x20 ∷ []) ≡ false)
-    × (stopsWorkout (0x76 ∷ 0x04 ∷ 0x13 ∷ 0x02 ∷ 0x01 ∷ 0x02 ∷ 0x1A ∷ 0x01 ∷ 0x05 ∷ []) ≡ true)
-    × (stopsWorkout (0x76 ∷ 0x01 ∷ 0x13 ∷ 0x76 ∷ 0x04 ∷ 0x13 ∷ 0x02 ∷ 0x01 ∷ 0x02 ∷ []) ≡ true)
-    × (stopsWorkout (0x76 ∷ 0x05 ∷ 0x13 ∷ 0x02 ∷ 0x01 ∷ 0x02 ∷ 0x01 ∷ []) ≡ false)
-    × (stopsWorkout (0x1A ∷ 0x04 ∷ 0x13 ∷ 0x02 ∷ 0x01 ∷ 0x02 ∷ []) ≡ false)
-    × (stopsWorkout (0x13 ∷ 0x02 ∷ 0x01 ∷ 0x02 ∷ []) ≡ false)
-    × (stopsWorkout (0x76 ∷ 0x05 ∷ 0x13 ∷ 0x03 ∷ 0x01 ∷ 0x02 ∷ 0x00 ∷ []) ≡ false)
-unfolding parse withEntry anyOf anyIn isOneTwo terminates stopsWithin stopsWorkout
-stop-examples = (refl, refl, refl, refl, refl, refl, refl)

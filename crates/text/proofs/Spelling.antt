@@ -38,7 +38,9 @@ first-append [] d h = absurd (omega arith)
 first-append (e ∷ ds) d h = refl
 
 some : (n : ℕ) → 0 < length (decimal n)
-some n = by-bool (ltb n 10) (λ y. omega (arith, length-small n (ltb-true n 10 y))) (λ m. omega (arith, length-large n (ltb-false n 10 m)))
+some n =
+    by-bool (ltb n 10) (λ y. omega (arith, length-small n (ltb-true n 10 y)))
+    (λ m. omega (arith, length-large n (ltb-false n 10 m)))
 
 -- What holds of the digits of a number.
 pub record Spelt (n : ℕ) : Type 0 where
@@ -60,9 +62,14 @@ below (suc k) n h = by-bool (ltb n 10)
     let l : n % 10 < 10 = last-digit n in
     let ih : Spelt (n / 10) = below k (n / 10) (omega arith) in
     record {
-      spelling = ap (spells 0) (decimal-large n g) ∙ spells-last 0 (decimal (n / 10)) (48 + n % 10) ∙ omega (arith, ih .spelling, div-add-mod' n 10);
-      digits = rw (decimal-large n g) (digits-last (decimal (n / 10)) (48 + n % 10) (ih .digits) (omega arith) (omega arith));
-      no-leading-zero = λ e. let same : first (decimal n) ≡ first (decimal (n / 10)) = ap first (decimal-large n g) ∙ first-append (decimal (n / 10)) (48 + n % 10) (some (n / 10)) in
+      spelling = ap (spells 0) (decimal-large n g)
+          ∙ spells-last 0 (decimal (n / 10)) (48 + n % 10)
+          ∙ omega (arith, ih .spelling, div-add-mod' n 10);
+      digits = rw (decimal-large n g)
+          (digits-last (decimal (n / 10)) (48 + n % 10) (ih .digits) (omega arith) (omega arith));
+      no-leading-zero = λ e.
+          let same : first (decimal n) ≡ first (decimal (n / 10)) =
+          ap first (decimal-large n g) ∙ first-append (decimal (n / 10)) (48 + n % 10) (some (n / 10)) in
           let z : n / 10 ≡ 0 = ih .no-leading-zero (sym same ∙ e) in
           absurd (omega (arith, div-add-mod' n 10, last-digit n));
     })

@@ -66,56 +66,76 @@ stays bytes b e o = record {
   flag-free = free-more (o .rest) b (o .flag-free) e;
 }
 
--- the last byte of bytes that leave a candidate open is its start flag, or is no flag and comes after bytes that leave it open
-by-rest : (bytes : List ℕ) (b : ℕ) (before : List ℕ) (flag : ℕ) (rest : List ℕ) → bytes ++ b ∷ [] ≡ before ++ flag ∷ rest → roleOf flag ≡ starts → FlagFree roleOf rest
+-- the last byte of bytes that leave a candidate open is its start flag, or is no flag and comes after bytes that leave
+-- it open
+by-rest : (bytes : List ℕ) (b : ℕ) (before : List ℕ) (flag : ℕ) (rest : List ℕ)
+    → bytes ++ b ∷ [] ≡ before ++ flag ∷ rest → roleOf flag ≡ starts → FlagFree roleOf rest
     → (roleOf b ≡ starts) ⊎ ((roleOf b ≡ plain) × LeftOpen rowing bytes)
 by-rest bytes b before flag [] e st n =
     let same : b ≡ flag = sym (last-append 0 bytes b []) ∙ ap (last 0) e ∙ last-append 0 before flag [] in
     inl (ap roleOf same ∙ st)
 by-rest bytes b before flag (r ∷ rest) e st n =
-    let same : last r rest ≡ b = sym (last-append 0 before flag (r ∷ rest)) ∙ ap (last 0) (sym e) ∙ last-append 0 bytes b [] in
-    let parts : bytes ≡ before ++ flag ∷ front (r ∷ rest) = sym (front-last bytes b) ∙ ap front e ∙ front-append before flag r rest in
-    inr (free-last r rest b n same, record { before = before; flag = flag; rest = front (r ∷ rest); splits = parts; starting = st; flag-free = free-front (r ∷ rest) n })
+    let same : last r rest ≡ b = sym (last-append 0 before flag (r ∷ rest)) ∙ ap (last 0) (sym e)
+    ∙ last-append 0 bytes b [] in
+    let parts : bytes ≡ before ++ flag ∷ front (r ∷ rest) =
+    sym (front-last bytes b) ∙ ap front e ∙ front-append before flag r rest in
+    inr (
+      free-last r rest b n same,
+      record {
+        before = before;
+        flag = flag;
+        rest = front (r ∷ rest);
+        splits = parts;
+        starting = st;
+        flag-free = free-front (r ∷ rest) n;
+      },
+    )
 
-by-last : (bytes : List ℕ) (b : ℕ) → LeftOpen rowing (bytes ++ b ∷ []) → (roleOf b ≡ starts) ⊎ ((roleOf b ≡ plain) × LeftOpen rowing bytes)
+by-last : (bytes : List ℕ) (b : ℕ) → LeftOpen rowing (bytes ++ b ∷ [])
+    → (roleOf b ≡ starts) ⊎ ((roleOf b ≡ plain) × LeftOpen rowing bytes)
 by-last bytes b o = by-rest bytes b (o .before) (o .flag) (o .rest) (o .splits) (o .starting) (o .flag-free)
 
 -- ---- the Bool that the count keeps says whether a candidate is open
 
-abbrev Tells : Bool → List ℕ → Type 0
-Tells true bytes = LeftOpen rowing bytes
-Tells false bytes = LeftOpen rowing bytes → ⊥
+abbrev SaysOpen : Bool → List ℕ → Type 0
+SaysOpen true bytes = LeftOpen rowing bytes
+SaysOpen false bytes = LeftOpen rowing bytes → ⊥
 
-tells : (o : Bool) (bytes : List ℕ) (b : ℕ) (ρ : Role) → roleOf b ≡ ρ → Tells o bytes → Tells (openAfter ρ o) (bytes ++ b ∷ [])
-tells o bytes b starts e t = opens bytes b e
-tells o bytes b stops e t = λ l. ⊎-elim
+says-open : (o : Bool) (bytes : List ℕ) (b : ℕ) (ρ : Role) → roleOf b ≡ ρ → SaysOpen o bytes
+    → SaysOpen (openAfter ρ o) (bytes ++ b ∷ [])
+says-open o bytes b starts e t = opens bytes b e
+says-open o bytes b stops e t = λ l. ⊎-elim
     (λ s. let q : stops ≡ starts = sym e ∙ s in let z : _≡_ {A = ℕ} 0 1 = cc in absurd (omega arith))
     (λ p. let q : stops ≡ plain = sym e ∙ p .0 in let z : _≡_ {A = ℕ} 0 1 = cc in absurd (omega arith))
     (by-last bytes b l)
-tells true bytes b plain e t = stays bytes b e t
-tells false bytes b plain e t = λ l. ⊎-elim
+says-open true bytes b plain e t = stays bytes b e t
+says-open false bytes b plain e t = λ l. ⊎-elim
     (λ s. let q : plain ≡ starts = sym e ∙ s in let z : _≡_ {A = ℕ} 0 1 = cc in absurd (omega arith))
     (λ p. t (p .1))
     (by-last bytes b l)
 
 -- ---- the count
 
-one-byte : (o : Bool) (before : List ℕ) (b : ℕ) (bytes : List ℕ) (n : ℕ) (ρ : Role) → roleOf b ≡ ρ → Tells o before → Strays (before ++ b ∷ []) bytes n
+one-byte : (o : Bool) (before : List ℕ) (b : ℕ) (bytes : List ℕ) (n : ℕ) (ρ : Role) → roleOf b ≡ ρ → SaysOpen o before
+    → Strays (before ++ b ∷ []) bytes n
     → Strays before (b ∷ bytes) (strayAt ρ o + n)
 one-byte o before b bytes n starts e t s = let z : 0 + n ≡ n = omega arith in rw z (inside (inl e) s)
 one-byte true before b bytes n stops e t s = let z : 0 + n ≡ n = omega arith in rw z (inside (inr t) s)
 one-byte false before b bytes n stops e t s =
     let z : 1 + n ≡ suc n = omega arith in
-    rw z (stray (⊎-elim (λ s′. let q : stops ≡ starts = sym e ∙ s′ in let y : _≡_ {A = ℕ} 0 1 = cc in absurd (omega arith)) t) s)
+    rw z (stray (⊎-elim
+    (λ s′. let q : stops ≡ starts = sym e ∙ s′ in let y : _≡_ {A = ℕ} 0 1 = cc in absurd (omega arith)) t) s)
 one-byte true before b bytes n plain e t s = let z : 0 + n ≡ n = omega arith in rw z (inside (inr t) s)
 one-byte false before b bytes n plain e t s =
     let z : 1 + n ≡ suc n = omega arith in
-    rw z (stray (⊎-elim (λ s′. let q : plain ≡ starts = sym e ∙ s′ in let y : _≡_ {A = ℕ} 0 1 = cc in absurd (omega arith)) t) s)
+    rw z (stray (⊎-elim
+    (λ s′. let q : plain ≡ starts = sym e ∙ s′ in let y : _≡_ {A = ℕ} 0 1 = cc in absurd (omega arith)) t) s)
 
-counted : (o : Bool) (before bytes : List ℕ) → Tells o before → Strays before bytes (strays o bytes)
+counted : (o : Bool) (before bytes : List ℕ) → SaysOpen o before → Strays before bytes (strays o bytes)
 counted o before [] t = done
 counted o before (b ∷ bytes) t =
-    one-byte o before b bytes (strays (openAfter (roleOf b) o) bytes) (roleOf b) refl t (counted (openAfter (roleOf b) o) (before ++ b ∷ []) bytes (tells o before b (roleOf b) refl t))
+    one-byte o before b bytes (strays (openAfter (roleOf b) o) bytes) (roleOf b) refl t
+    (counted (openAfter (roleOf b) o) (before ++ b ∷ []) bytes (says-open o before b (roleOf b) refl t))
 
 none-open : LeftOpen rowing [] → ⊥
 none-open o = none-at (o .before) (o .flag) (o .rest) (o .splits)
@@ -133,5 +153,7 @@ one-number (stray i s) (inside j t) = absurd (i j)
 one-number (stray i s) (stray j t) = ap suc (one-number s t)
 
 -- The count of the totals is that number, and no other number is.
-pub strays-exactly : (trace : List ℕ) (n : ℕ) → (n ≡ strays false trace → Strays [] trace n) × (Strays [] trace n → n ≡ strays false trace)
-strays-exactly trace n = ((λ e. rw e (counted false [] trace none-open)), λ s. one-number s (counted false [] trace none-open))
+pub strays-exactly : (trace : List ℕ) (n : ℕ)
+    → (n ≡ strays false trace → Strays [] trace n) × (Strays [] trace n → n ≡ strays false trace)
+strays-exactly trace n =
+    ((λ e. rw e (counted false [] trace none-open)), λ s. one-number s (counted false [] trace none-open))

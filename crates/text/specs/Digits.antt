@@ -9,7 +9,8 @@ abbrev pub decimalWithin : (k n : ℕ) → List ℕ
 decimalWithin zero n = []
 decimalWithin (suc k) n = pick (ltb n 10) ((48 + n) ∷ []) (decimalWithin k (n / 10) ++ ((48 + n % 10) ∷ []))
 
--- The decimal digits of a number. A number has fewer digits than its successor counts; proofs/Spelling says what they spell.
+-- The decimal digits of a number. A number has fewer digits than its successor counts; proofs/Spelling says what they
+-- spell.
 unfoldable pub decimal : ℕ → List ℕ
 decimal n = decimalWithin (suc n) n
 

@@ -1,5 +1,4 @@
 pub mod Digits
-pub mod Stop
 pub mod Lines
 pub mod Strays
 pub mod Text

@@ -6,10 +6,11 @@ use Prim.Native.Char.{code}
 use Prim.Native.String.{String, [] as empty, _∷_ as _then_}
 use lib.ListN.{length}
 use Rattle.frame.specs.Frame.{standard, extended}
+use Rattle.frame.specs.Verdict.{Verdict}
 use Rattle.answer.specs.Answer.{result, refused}
+use Rattle.command.specs.Stop.{stopsWorkout}
 use Rattle.line.specs.Outcome.{Outcome, nothing, judged}
 use Rattle.text.specs.Digits.{decimal, hex}
-use Rattle.text.specs.Stop.{stopsWorkout}
 
 -- A text as bytes.
 abbrev pub ascii : String → List ℕ
@@ -30,25 +31,39 @@ abbrev pub stopText : Bool → List ℕ
 stopText true = ascii " stop=yes\n"
 stopText false = ascii " stop=no\n"
 
--- The n-th answer is a refusal, a standard frame, an extended frame.
-unfoldable pub refusedLine : (n number : ℕ) → List ℕ
-refusedLine n number = field (ascii "n=") n ++ field (ascii " kind=refused code=") number ++ newline
+-- ---- a line: a head with its number, and a body
 
-unfoldable pub standardLine : (n : ℕ) → List ℕ → List ℕ
-standardLine n contents = field (ascii "n=") n ++ field (ascii " kind=std len=") (length contents) ++ stopText (stopsWorkout contents)
+abbrev pub head : (n : ℕ) → List ℕ
+head n = field (ascii "n=") n
 
-unfoldable pub extendedLine : (n to from : ℕ) → List ℕ → List ℕ
-extendedLine n to from contents =
-    field (ascii "n=") n ++ hexField (ascii " kind=ext to=") to ++ hexField (ascii " from=") from ++ field (ascii " len=") (length contents)
+-- The body for a refusal, for a standard frame, for an extended frame.
+unfoldable pub refusedBody : (number : ℕ) → List ℕ
+refusedBody number = field (ascii " kind=refused code=") number ++ newline
+
+unfoldable pub standardBody : List ℕ → List ℕ
+standardBody contents = field (ascii " kind=std len=") (length contents) ++ stopText (stopsWorkout contents)
+
+unfoldable pub extendedBody : (to from : ℕ) → List ℕ → List ℕ
+extendedBody to from contents =
+    hexField (ascii " kind=ext to=") to ++ hexField (ascii " from=") from ++ field (ascii " len=") (length contents)
     ++ stopText (stopsWorkout contents)
 
--- The line of one answer, the n-th. Where there is no answer there is no line.
-abbrev pub line : (n : ℕ) → Outcome → List ℕ
-line n nothing = []
-line n (judged (refused number)) = refusedLine n number
-line n (judged (result (standard contents))) = standardLine n contents
-line n (judged (result (extended to from contents))) = extendedLine n to from contents
+abbrev pub body : Verdict → List ℕ
+body (refused number) = refusedBody number
+body (result (standard contents)) = standardBody contents
+body (result (extended to from contents)) = extendedBody to from contents
 
--- The last line.
+-- The line of the n-th answer.
+abbrev pub line : (n : ℕ) → Verdict → List ℕ
+line n v = head n ++ body v
+
+-- The line of a call, where the next answer is the n-th: none where the call is answered with nothing.
+abbrev pub callLine : (n : ℕ) → Outcome → List ℕ
+callLine n nothing = []
+callLine n (judged v) = line n v
+
+-- ---- the last line
+
 unfoldable pub totals : (frames refusals strays : ℕ) → List ℕ
-totals frames refusals strays = field (ascii "frames=") frames ++ field (ascii " refused=") refusals ++ field (ascii " loose=") strays ++ newline
+totals frames refusals strays =
+    field (ascii "frames=") frames ++ field (ascii " refused=") refusals ++ field (ascii " loose=") strays ++ newline

@@ -1,4 +1,5 @@
--- Stray bytes (document 01, "The line": loose bytes), those of a trace that stand in no candidate, a lone stop flag included.
+-- Stray bytes (document 01, "The line": loose bytes), those of a trace that stand in no candidate, a lone stop flag
+-- included.
 use mathlib.Core.Path.{_≡_}
 use mathlib.Core.Bool.{Bool, true, false}
 use mathlib.Core.List.{List, [], _∷_, _++_}
@@ -32,13 +33,15 @@ strays is-open (b ∷ bytes) = strayAt (roleOf b) is-open + strays (openAfter (r
 
 -- ---- said of the bytes alone
 
--- A byte stands in a candidate where it is a start flag, or where the bytes before it leave a candidate open: they hold a start flag, and no
--- flag after the last one.
+-- A byte stands in a candidate where it is a start flag, or where the bytes before it leave a candidate open: they hold
+-- a start flag, and no flag after the last one.
 abbrev pub Inside : (before : List ℕ) → ℕ → Type 0
 Inside before b = (roleOf b ≡ starts) ⊎ LeftOpen rowing before
 
 -- Of the bytes of a list, which come after others, so many stand in no candidate.
 pub data Strays : (before bytes : List ℕ) → ℕ → Type 0 where
   done : {before : List ℕ} → Strays before [] 0
-  inside : {before bytes : List ℕ} {b n : ℕ} → Inside before b → Strays (before ++ b ∷ []) bytes n → Strays before (b ∷ bytes) n
-  stray : {before bytes : List ℕ} {b n : ℕ} → (Inside before b → ⊥) → Strays (before ++ b ∷ []) bytes n → Strays before (b ∷ bytes) (suc n)
+  inside : {before bytes : List ℕ} {b n : ℕ} → Inside before b → Strays (before ++ b ∷ []) bytes n
+      → Strays before (b ∷ bytes) n
+  stray : {before bytes : List ℕ} {b n : ℕ} → (Inside before b → ⊥) → Strays (before ++ b ∷ []) bytes n
+      → Strays before (b ∷ bytes) (suc n)

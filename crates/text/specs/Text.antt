@@ -5,40 +5,52 @@ use Prim.Native.Nat.{ℕ, _+_}
 use Rattle.framing.specs.Reference.{finish, Reference}
 use Rattle.framing.specs.Demand3.{feed}
 use Rattle.answer.specs.Answer.{result, refused}
+use Rattle.frame.specs.Verdict.{Verdict}
 use Rattle.line.specs.Outcome.{Outcome, nothing, judged}
 use Rattle.line.specs.Rowing.{rowing}
 use Rattle.text.specs.Lines.{line, totals}
 use Rattle.text.specs.Strays.{strays}
 
--- 1 for a frame, and 1 for a refusal.
-abbrev pub frameOne : Outcome → ℕ
-frameOne nothing = 0
-frameOne (judged (result f)) = 1
-frameOne (judged (refused number)) = 0
+-- ---- answers
 
-abbrev pub refusedOne : Outcome → ℕ
-refusedOne nothing = 0
-refusedOne (judged (result f)) = 0
-refusedOne (judged (refused number)) = 1
-
--- How many answers are frames, and how many are refusals.
-abbrev pub frames : List Outcome → ℕ
-frames [] = 0
-frames (o ∷ os) = frameOne o + frames os
-
-abbrev pub refusals : List Outcome → ℕ
-refusals [] = 0
-refusals (o ∷ os) = refusedOne o + refusals os
-
--- The lines of answers that come after n frames and refusals.
-abbrev pub lines : (n : ℕ) → List Outcome → List ℕ
-lines n [] = []
-lines n (o ∷ os) = line (n + 1) o ++ lines (n + (frameOne o + refusedOne o)) os
+-- The answers among outcomes of calls: those that are not nothing.
+abbrev pub verdictsIn : List Outcome → List Verdict
+verdictsIn [] = []
+verdictsIn (nothing ∷ os) = verdictsIn os
+verdictsIn (judged v ∷ os) = v ∷ verdictsIn os
 
 -- The reference decoder's answers to a trace: to its bytes, and to the finish.
-abbrev pub answersTo : List ℕ → List Outcome
-answersTo trace = Reference rowing (feed trace ++ finish ∷ [])
+abbrev pub answersTo : List ℕ → List Verdict
+answersTo trace = verdictsIn (Reference rowing (feed trace ++ finish ∷ []))
+
+-- How many answers are frames, and how many are refusals.
+abbrev pub frames : List Verdict → ℕ
+frames [] = 0
+frames (result f ∷ vs) = 1 + frames vs
+frames (refused number ∷ vs) = frames vs
+
+abbrev pub refusals : List Verdict → ℕ
+refusals [] = 0
+refusals (result f ∷ vs) = refusals vs
+refusals (refused number ∷ vs) = 1 + refusals vs
+
+-- ---- the text
+
+-- The lines of answers that come after n others: the first has the number n + 1, and each the next number.
+abbrev pub lines : (n : ℕ) → List Verdict → List ℕ
+lines n [] = []
+lines n (v ∷ vs) = line (n + 1) v ++ lines (n + 1) vs
 
 -- The whole text.
 abbrev pub text : List ℕ → List ℕ
-text trace = lines 0 (answersTo trace) ++ totals (frames (answersTo trace)) (refusals (answersTo trace)) (strays false trace)
+text trace =
+    lines 0 (answersTo trace) ++ totals (frames (answersTo trace)) (refusals (answersTo trace)) (strays false trace)
+
+-- ---- one call
+
+-- How many frames and how many refusals a call is answered with, 1 or 0.
+abbrev pub frameOne : Outcome → ℕ
+frameOne o = frames (verdictsIn (o ∷ []))
+
+abbrev pub refusedOne : Outcome → ℕ
+refusedOne o = refusals (verdictsIn (o ∷ []))

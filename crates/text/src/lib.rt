@@ -1,7 +1,6 @@
-// The lines of a listing, written into an output that is lent: one for each answer of the line reader, and one of totals.
-// Document 01, "Listing".
+// The lines of a listing (document 01, "Listing"), written into an output that is lent: one for each answer of the line
+// reader, and one of totals.
 mod digits;
-pub mod stop;
 
 use answer::Refusal;
 use line::Told;
@@ -9,18 +8,21 @@ ghost use mathlib.Core.Path.{_≡_};
 ghost use Prim.Native.Nat.{_+_, _≤_};
 ghost use lib.ListN.{length};
 ghost use Rattle.answer.specs.Refusals.{numberOf};
+ghost use Rattle.command.specs.Stop.{stopsWorkout};
 ghost use Rattle.line.specs.Outcome.{toldMeans, outcomeOf};
-ghost use Rattle.text.specs.Lines.{field, hexField, stopText, refusedLine, standardLine, extendedLine, line, totals};
-ghost use Rattle.text.specs.Stop.{stopsWorkout};
-ghost use Rattle.text.specs.Writing.{Wrote, Puts};
+ghost use Rattle.text.specs.Lines.{field, hexField, stopText, head, callLine, totals};
+ghost use Rattle.text.specs.Lines.{refusedBody, standardBody, extendedBody};
+ghost use Rattle.text.specs.Writing.{Wrote, lineRoom, headRoom, bodyRoom, Puts};
 
-// The room that any line fits in. A line is written only where there is so much, so that no line has to be measured first.
+// The room that any line fits in. A line is written only where there is so much, so no line has to be measured first.
 pub const LINE_ROOM: usize = 96;
 
-// Writes the line of an answer, the n-th, at an index, and answers the index after it. The contents are the first bytes of a slice,
-// as many as the answer says. Without the room it writes nothing.
+// Writes the line of an answer, the n-th, at an index, and answers the index after it. The contents are the first bytes
+// of a slice, as many as the answer says. Without the room it writes nothing.
 pub fn put_answer(told: Told, contents: &[u8], n: u64, out: &mut [u8], at: usize) -> usize
-    ensures { λ r. ⌜ Puts (now (out .entry)) at (line n (outcomeOf (toldMeans told) (now (contents .entry)))) (now (out .exit)) r ⌝ }
+    ensures { λ r.
+        ⌜ Puts (now (out .entry)) at (callLine n (outcomeOf (toldMeans told) (now (contents .entry))))
+        (now (out .exit)) r ⌝ }
 {
     if out.len() < LINE_ROOM {
         return at;
@@ -45,60 +47,71 @@ pub fn put_totals(frames: u64, refusals: u64, strays: u64, out: &mut [u8], at: u
 }
 
 fn put_told(told: Told, contents: &[u8], n: u64, out: &mut [u8], at: usize) -> usize
-    requires { ⌜ at + 96 ≤ length (now out) ⌝ }
-    ensures { λ r. ⌜ Wrote (now (out .entry)) at (line n (outcomeOf (toldMeans told) (now (contents .entry)))) (now (out .exit)) r ⌝ }
-    ensures { λ r. ⌜ r ≤ at + 96 ⌝ }
+    requires { ⌜ at + lineRoom ≤ length (now out) ⌝ }
+    ensures { λ r.
+        ⌜ Wrote (now (out .entry)) at (callLine n (outcomeOf (toldMeans told) (now (contents .entry))))
+        (now (out .exit)) r ⌝ }
+    ensures { λ r. ⌜ r ≤ at + lineRoom ⌝ }
 {
     match told {
         Told::Nothing => at,
-        Told::Refused(why) => put_refused(n, why, out, at),
+        Told::Refused(why) => {
+            let a = put_head(n, out, at);
+            put_refused(why, out, a)
+        }
         Told::Standard { len } => {
-            let held = command::entries::part(contents, 0, len);
-            put_standard(n, held, out, at)
+            let a = put_head(n, out, at);
+            put_standard(command::entries::part(contents, 0, len), out, a)
         }
         Told::Extended { to, from, len } => {
-            let held = command::entries::part(contents, 0, len);
-            put_extended(n, to, from, held, out, at)
+            let a = put_head(n, out, at);
+            put_extended(to, from, command::entries::part(contents, 0, len), out, a)
         }
     }
 }
 
-fn put_refused(n: u64, why: Refusal, out: &mut [u8], at: usize) -> usize
-    requires { ⌜ at + 96 ≤ length (now out) ⌝ }
-    ensures { λ r. ⌜ Wrote (now (out .entry)) at (refusedLine n (numberOf why)) (now (out .exit)) r ⌝ }
-    ensures { λ r. ⌜ r ≤ at + 96 ⌝ }
+// The head of a line, and then the three bodies.
+fn put_head(n: u64, out: &mut [u8], at: usize) -> usize
+    requires { ⌜ at + headRoom ≤ length (now out) ⌝ }
+    ensures { λ r. ⌜ Wrote (now (out .entry)) at (head n) (now (out .exit)) r ⌝ }
+    ensures { λ r. ⌜ r ≤ at + headRoom ⌝ }
 {
-    let a = put_field(b"n=", n, out, at);
-    let b = put_field(b" kind=refused code=", wide(why.number()), out, a);
-    put_bytes(b"\n", out, b)
+    put_field(b"n=", n, out, at)
 }
 
-fn put_standard(n: u64, contents: &[u8], out: &mut [u8], at: usize) -> usize
-    requires { ⌜ at + 96 ≤ length (now out) ⌝ }
-    ensures { λ r. ⌜ Wrote (now (out .entry)) at (standardLine n (now (contents .entry))) (now (out .exit)) r ⌝ }
-    ensures { λ r. ⌜ r ≤ at + 96 ⌝ }
+fn put_refused(why: Refusal, out: &mut [u8], at: usize) -> usize
+    requires { ⌜ at + bodyRoom ≤ length (now out) ⌝ }
+    ensures { λ r. ⌜ Wrote (now (out .entry)) at (refusedBody (numberOf why)) (now (out .exit)) r ⌝ }
+    ensures { λ r. ⌜ r ≤ at + bodyRoom ⌝ }
 {
-    let a = put_field(b"n=", n, out, at);
-    let b = put_field(b" kind=std len=", contents.len() as u64, out, a);
-    put_stop(contents, out, b)
+    let a = put_field(b" kind=refused code=", wide(why.number()), out, at);
+    put_bytes(b"\n", out, a)
 }
 
-fn put_extended(n: u64, to: u8, from: u8, contents: &[u8], out: &mut [u8], at: usize) -> usize
-    requires { ⌜ at + 96 ≤ length (now out) ⌝ }
-    ensures { λ r. ⌜ Wrote (now (out .entry)) at (extendedLine n to from (now (contents .entry))) (now (out .exit)) r ⌝ }
-    ensures { λ r. ⌜ r ≤ at + 96 ⌝ }
+fn put_standard(contents: &[u8], out: &mut [u8], at: usize) -> usize
+    requires { ⌜ at + bodyRoom ≤ length (now out) ⌝ }
+    ensures { λ r. ⌜ Wrote (now (out .entry)) at (standardBody (now (contents .entry))) (now (out .exit)) r ⌝ }
+    ensures { λ r. ⌜ r ≤ at + bodyRoom ⌝ }
 {
-    let a = put_field(b"n=", n, out, at);
-    let b = put_hex_field(b" kind=ext to=", to, out, a);
-    let c = put_hex_field(b" from=", from, out, b);
-    let d = put_field(b" len=", contents.len() as u64, out, c);
-    put_stop(contents, out, d)
+    let a = put_field(b" kind=std len=", contents.len() as u64, out, at);
+    put_stop(contents, out, a)
+}
+
+fn put_extended(to: u8, from: u8, contents: &[u8], out: &mut [u8], at: usize) -> usize
+    requires { ⌜ at + bodyRoom ≤ length (now out) ⌝ }
+    ensures { λ r. ⌜ Wrote (now (out .entry)) at (extendedBody to from (now (contents .entry))) (now (out .exit)) r ⌝ }
+    ensures { λ r. ⌜ r ≤ at + bodyRoom ⌝ }
+{
+    let a = put_hex_field(b" kind=ext to=", to, out, at);
+    let b = put_hex_field(b" from=", from, out, a);
+    let c = put_field(b" len=", contents.len() as u64, out, b);
+    put_stop(contents, out, c)
 }
 
 fn put_counts(frames: u64, refusals: u64, strays: u64, out: &mut [u8], at: usize) -> usize
-    requires { ⌜ at + 96 ≤ length (now out) ⌝ }
+    requires { ⌜ at + lineRoom ≤ length (now out) ⌝ }
     ensures { λ r. ⌜ Wrote (now (out .entry)) at (totals frames refusals strays) (now (out .exit)) r ⌝ }
-    ensures { λ r. ⌜ r ≤ at + 96 ⌝ }
+    ensures { λ r. ⌜ r ≤ at + lineRoom ⌝ }
 {
     let a = put_field(b"frames=", frames, out, at);
     let b = put_field(b" refused=", refusals, out, a);
@@ -106,13 +119,14 @@ fn put_counts(frames: u64, refusals: u64, strays: u64, out: &mut [u8], at: usize
     put_bytes(b"\n", out, c)
 }
 
-// The end of a frame's line.
+// The end of a frame's body.
 fn put_stop(contents: &[u8], out: &mut [u8], at: usize) -> usize
     requires { ⌜ at + 10 ≤ length (now out) ⌝ }
-    ensures { λ r. ⌜ Wrote (now (out .entry)) at (stopText (stopsWorkout (now (contents .entry)))) (now (out .exit)) r ⌝ }
+    ensures { λ r.
+        ⌜ Wrote (now (out .entry)) at (stopText (stopsWorkout (now (contents .entry)))) (now (out .exit)) r ⌝ }
     ensures { λ r. ⌜ r ≤ at + 10 ⌝ }
 {
-    if stop::stops_workout(contents) {
+    if command::stop::stops_workout(contents) {
         return put_bytes(b" stop=yes\n", out, at);
     }
     put_bytes(b" stop=no\n", out, at)

@@ -1,4 +1,5 @@
--- The counts of a state in plain numbers: the text that bytes give from a state on is that of the reader's answers to them.
+-- The counts of a state in plain numbers: the text that bytes give from a state on is that of the reader's answers to
+-- them.
 use mathlib.Core.Path.{_≡_, refl, sym, ap, _∙_}
 use mathlib.Core.Bool.{Bool, true, false}
 use mathlib.Core.List.{List, [], _∷_, _++_, append-assoc, append-nil}
@@ -13,6 +14,7 @@ use Rattle.lists.specs.Machine.{run}
 use Rattle.framing.specs.Demand3.{feed}
 use Rattle.framing.specs.Bounded.{BoundedMode, inside, overlong, BoundedReader, grownIn}
 use Rattle.answer.specs.Answer.{result, refused}
+use Rattle.frame.specs.Verdict.{Verdict}
 use Rattle.line.specs.Outcome.{Outcome, nothing, judged}
 use Rattle.line.specs.Rowing.{rowing, rowingBounds}
 use Rattle.line.specs.Reader.{modeSeen, modeIn, roleStep, stepOf, finishOf, outcomeAt, nextAfter}
@@ -22,9 +24,10 @@ use Rattle.frame.specs.declared.Kind.the-variants.{Standard, Extended}
 use Rattle.line.specs.declared.LineReader.{LineReader}
 use Rattle.line.specs.declared.Mode.{Mode}
 use Rattle.line.specs.declared.Mode.the-variants.{Outside, InStandard, InExtended, Overlong}
-use Rattle.text.specs.Lines.{line, totals}
+use Rattle.text.specs.Lines.{callLine, totals}
 use Rattle.text.specs.Strays.{strayAt, openAfter, strays}
-use Rattle.text.specs.Text.{frameOne, refusedOne, frames, refusals, lines}
+use Rattle.text.specs.Text.{frameOne, refusedOne, verdictsIn, frames, refusals, lines}
+use Rattle.text.proofs.LineLaws.{lines-more, frames-more, refusals-more}
 use Rattle.trace.specs.Machine.{add64, isOpen, numberAfter, nextOf, textOf, listingAfter, texts, lastText}
 use Rattle.trace.specs.declared.Listing.{Listing}
 
@@ -57,59 +60,79 @@ by-room : (t : Bool) (kind : Kind) (full more : BoundedReader Kind) → full .mo
 by-room true kind full more e f = ap (λ (m : BoundedMode Kind). isOpen (modeIn m)) f ∙ inside-open kind
 by-room false kind full more e f = ap (λ (m : BoundedMode Kind). isOpen (modeIn m)) e
 
-grown-open : (m : Mode) (bytes : List ℕ) (len b : ℕ) → isOpen (modeIn (grownIn rowing rowingBounds (modeSeen m) bytes len b .mode)) ≡ isOpen m
+grown-open : (m : Mode) (bytes : List ℕ) (len b : ℕ)
+    → isOpen (modeIn (grownIn rowing rowingBounds (modeSeen m) bytes len b .mode)) ≡ isOpen m
 grown-open Outside bytes len b = refl
 grown-open InStandard bytes len b = by-room (ltb len 118) Standard _ _ refl refl
 grown-open InExtended bytes len b = by-room (ltb len 118) Extended _ _ refl refl
 grown-open Overlong bytes len b = refl
 
-open-at : (r : LineReader) (b : ℕ) (ρ : Role) → isOpen (roleStep ρ r b .next .state .mode) ≡ openAfter ρ (isOpen (r .state .mode))
+open-at : (r : LineReader) (b : ℕ) (ρ : Role)
+    → isOpen (roleStep ρ r b .next .state .mode) ≡ openAfter ρ (isOpen (r .state .mode))
 open-at r b starts = inside-open (kindOf b)
 open-at r b stops = refl
 open-at r b plain = grown-open (r .state .mode) (r .bytes) (r .state .len) b
 
-pub open-is : (r : LineReader) (b : ℕ) → isOpen (stepOf r b .next .state .mode) ≡ openAfter (roleOf b) (isOpen (r .state .mode))
+pub open-is : (r : LineReader) (b : ℕ)
+    → isOpen (stepOf r b .next .state .mode) ≡ openAfter (roleOf b) (isOpen (r .state .mode))
 open-is r b = open-at r b (roleOf b)
 
 -- ---- the text from a state on
 
--- The reader's answers to bytes and the finish.
-abbrev pub told : LineReader → List ℕ → List Outcome
-told r bytes = run outcomeAt nextAfter r (feed bytes ++ finish ∷ [])
+-- What calls on a reader are answered with: its bytes, and then the finish.
+abbrev pub outcomesFrom : LineReader → List ℕ → List Outcome
+outcomesFrom r bytes = run outcomeAt nextAfter r (feed bytes ++ finish ∷ [])
 
 -- The text of answers and bytes that come after so many frames, refusals and stray bytes.
 abbrev pub Rest : (f r st : ℕ) → Bool → List Outcome → List ℕ → List ℕ
-Rest f r st o os bytes = lines (f + r) os ++ totals (f + frames os) (r + refusals os) (st + strays o bytes)
+Rest f r st o os bytes =
+    lines (f + r) (verdictsIn os)
+    ++ totals (f + frames (verdictsIn os)) (r + refusals (verdictsIn os)) (st + strays o bytes)
 
-same-rest : (f f′ r r′ st st′ : ℕ) (o o′ : Bool) (os : List Outcome) (bytes : List ℕ) → f ≡ f′ → r ≡ r′ → st ≡ st′ → o ≡ o′ → Rest f r st o os bytes ≡ Rest f′ r′ st′ o′ os bytes
+same-rest : (f f′ r r′ st st′ : ℕ) (o o′ : Bool) (os : List Outcome) (bytes : List ℕ) → f ≡ f′ → r ≡ r′ → st ≡ st′
+    → o ≡ o′ → Rest f r st o os bytes ≡ Rest f′ r′ st′ o′ os bytes
 same-rest f f′ r r′ st st′ o o′ os bytes p q u v = rw (p, q, u, v)
 
-same-text : (l : List ℕ) (n n′ x x′ y y′ z z′ : ℕ) (os : List Outcome) → n ≡ n′ → x ≡ x′ → y ≡ y′ → z ≡ z′ → l ++ (lines n os ++ totals x y z) ≡ l ++ (lines n′ os ++ totals x′ y′ z′)
-same-text l n n′ x x′ y y′ z z′ os p q u v = rw (p, q, u, v)
+same-text : (l : List ℕ) (n n′ x x′ y y′ z z′ : ℕ) (vs : List Verdict) → n ≡ n′ → x ≡ x′ → y ≡ y′ → z ≡ z′
+    → l ++ (lines n vs ++ totals x y z) ≡ l ++ (lines n′ vs ++ totals x′ y′ z′)
+same-text l n n′ x x′ y y′ z z′ vs p q u v = rw (p, q, u, v)
 
 rest-step : (f r st : ℕ) (o : Bool) (b : ℕ) (a : Outcome) (os : List Outcome) (bytes : List ℕ)
-    → line (f + r + 1) a ++ Rest (f + frameOne a) (r + refusedOne a) (st + strayAt (roleOf b) o) (openAfter (roleOf b) o) os bytes ≡ Rest f r st o (a ∷ os) (b ∷ bytes)
+    → callLine (f + r + 1) a
+    ++ Rest (f + frameOne a) (r + refusedOne a) (st + strayAt (roleOf b) o) (openAfter (roleOf b) o) os bytes
+    ≡ Rest f r st o (a ∷ os) (b ∷ bytes)
 rest-step f r st o b a os bytes =
-    same-text (line (f + r + 1) a) _ (f + r + (frameOne a + refusedOne a)) _ (f + (frameOne a + frames os)) _ (r + (refusedOne a + refusals os)) _ (st + (strayAt (roleOf b) o + strays (openAfter (roleOf b) o) bytes)) os
+    let vs : List Verdict = verdictsIn os in
+    let all : List Verdict = verdictsIn (a ∷ os) in
+    let F = frames-more a os in
+    let R = refusals-more a os in
+    let z : ℕ = st + (strayAt (roleOf b) o + strays (openAfter (roleOf b) o) bytes) in
+    same-text (callLine (f + r + 1) a) _ (f + r + (frameOne a + refusedOne a)) _ (f + frames all) _
+    (r + refusals all) _ z vs
     (omega arith) (omega arith) (omega arith) (omega arith)
-    ∙ sym (append-assoc (line (f + r + 1) a) (lines (f + r + (frameOne a + refusedOne a)) os) (totals (f + (frameOne a + frames os)) (r + (refusedOne a + refusals os)) (st + (strayAt (roleOf b) o + strays (openAfter (roleOf b) o) bytes))))
+    ∙ sym (append-assoc (callLine (f + r + 1) a) (lines (f + r + (frameOne a + refusedOne a)) vs)
+    (totals (f + frames all) (r + refusals all) z))
+    ∙ ap (λ (l : List ℕ). l ++ totals (f + frames all) (r + refusals all) z) (lines-more (f + r) a os)
 
 -- the finish
-same-last : (a : Outcome) (n n′ x x′ y y′ z z′ : ℕ) → n ≡ n′ → x ≡ x′ → y ≡ y′ → z ≡ z′ → line n a ++ totals x y z ≡ line n′ a ++ totals x′ y′ z′
+same-last : (a : Outcome) (n n′ x x′ y y′ z z′ : ℕ) → n ≡ n′ → x ≡ x′ → y ≡ y′ → z ≡ z′
+    → callLine n a ++ totals x y z ≡ callLine n′ a ++ totals x′ y′ z′
 same-last a n n′ x x′ y y′ z z′ p q u v = rw (p, q, u, v)
 
 last-is : (s : Listing) → s .frames + s .refused + 1 < 2 ^ 64 → s .stray < 2 ^ 64
-    → lastText s ≡ Rest (s .frames) (s .refused) (s .stray) (isOpen (s .reader .state .mode)) (told (s .reader) []) []
+    → lastText s ≡ Rest (s .frames) (s .refused) (s .stray) (isOpen (s .reader .state .mode))
+    (outcomesFrom (s .reader) []) []
 unfolding lastText
 last-is s h g =
     let a : Outcome = finishOf (s .reader) .answer in
     let k = one-answer a in
-    same-last a _ (s .frames + s .refused + 1) _ (s .frames + (frameOne a + 0)) _ (s .refused + (refusedOne a + 0)) _ (s .stray + 0)
+    same-last a _ (s .frames + s .refused + 1) _ (s .frames + frameOne a) _ (s .refused + refusedOne a) _ (s .stray + 0)
     (number-is (s .frames) (s .refused) h)
-    (add64-is (s .frames) (frameOne a) (omega arith) ∙ omega arith)
-    (add64-is (s .refused) (refusedOne a) (omega arith) ∙ omega arith)
+    (add64-is (s .frames) (frameOne a) (omega arith))
+    (add64-is (s .refused) (refusedOne a) (omega arith))
     (omega arith)
-    ∙ ap (λ (l : List ℕ). l ++ totals (s .frames + (frameOne a + 0)) (s .refused + (refusedOne a + 0)) (s .stray + 0)) (sym (append-nil (line (s .frames + s .refused + 1) a)))
+    ∙ ap (λ (l : List ℕ). l ++ totals (s .frames + frameOne a) (s .refused + refusedOne a) (s .stray + 0))
+    (sym (append-nil (callLine (s .frames + s .refused + 1) a)) ∙ lines-more (s .frames + s .refused) a [])
 
 -- a byte
 module _ (s : Listing) (b : ℕ) (h : s .frames + s .refused + 1 < 2 ^ 64) (g : s .stray + 1 < 2 ^ 64) where
@@ -130,22 +153,27 @@ module _ (s : Listing) (b : ℕ) (h : s .frames + s .refused + 1 < 2 ^ 64) (g : 
 
   next-stray : nextOf s b .stray ≡ s .stray + strayAt (roleOf b) (isOpen (s .reader .state .mode))
   unfolding nextOf
-  next-stray = let k = one-stray (roleOf b) (isOpen (s .reader .state .mode)) in add64-is (s .stray) (strayAt (roleOf b) (isOpen (s .reader .state .mode))) (omega arith)
+  next-stray =
+      let k = one-stray (roleOf b) (isOpen (s .reader .state .mode)) in
+      add64-is (s .stray) (strayAt (roleOf b) (isOpen (s .reader .state .mode))) (omega arith)
 
   next-open : isOpen (nextOf s b .reader .state .mode) ≡ openAfter (roleOf b) (isOpen (s .reader .state .mode))
   unfolding nextOf
   next-open = open-is (s .reader) b
 
-  text-line : textOf s b ≡ line (s .frames + s .refused + 1) answer
+  text-line : textOf s b ≡ callLine (s .frames + s .refused + 1) answer
   unfolding textOf answer
-  text-line = ap (λ (k : ℕ). line k (stepOf (s .reader) b .answer)) (number-is (s .frames) (s .refused) h)
+  text-line = ap (λ (k : ℕ). callLine k (stepOf (s .reader) b .answer)) (number-is (s .frames) (s .refused) h)
 
-  told-next : (bytes : List ℕ) → told (s .reader) (b ∷ bytes) ≡ answer ∷ told (nextOf s b .reader) bytes
+  outcomes-next : (bytes : List ℕ)
+      → outcomesFrom (s .reader) (b ∷ bytes) ≡ answer ∷ outcomesFrom (nextOf s b .reader) bytes
   unfolding nextOf answer
-  told-next bytes = refl
+  outcomes-next bytes = refl
 
-pub all-text : (s : Listing) (bytes : List ℕ) → s .frames + s .refused + length bytes + 1 < 2 ^ 64 → s .stray + length bytes < 2 ^ 64
-    → texts s bytes ++ lastText (listingAfter s bytes) ≡ Rest (s .frames) (s .refused) (s .stray) (isOpen (s .reader .state .mode)) (told (s .reader) bytes) bytes
+pub all-text : (s : Listing) (bytes : List ℕ) → s .frames + s .refused + length bytes + 1 < 2 ^ 64
+    → s .stray + length bytes < 2 ^ 64
+    → texts s bytes ++ lastText (listingAfter s bytes)
+    ≡ Rest (s .frames) (s .refused) (s .stray) (isOpen (s .reader .state .mode)) (outcomesFrom (s .reader) bytes) bytes
 all-text s [] h g = last-is s (omega arith) (omega arith)
 all-text s (b ∷ bytes) h g =
     let h₁ : s .frames + s .refused + 1 < 2 ^ 64 = omega arith in
@@ -158,10 +186,15 @@ all-text s (b ∷ bytes) h g =
     let S = next-stray s b h₁ g₁ in
     let k = one-answer a in
     let u = one-stray (roleOf b) o in
-    let ih : texts n bytes ++ lastText (listingAfter n bytes) ≡ Rest (n .frames) (n .refused) (n .stray) (isOpen (n .reader .state .mode)) (told (n .reader) bytes) bytes =
+    let os : List Outcome = outcomesFrom (n .reader) bytes in
+    let rest : List ℕ = Rest (s .frames + frameOne a) (s .refused + refusedOne a) (s .stray + strayAt (roleOf b) o)
+    (openAfter (roleOf b) o) os bytes in
+    let ih : texts n bytes ++ lastText (listingAfter n bytes)
+    ≡ Rest (n .frames) (n .refused) (n .stray) (isOpen (n .reader .state .mode)) os bytes =
     all-text n bytes (omega arith) (omega arith) in
     append-assoc (textOf s b) (texts n bytes) (lastText (listingAfter n bytes))
-    ∙ ap (λ (l : List ℕ). textOf s b ++ l) (ih ∙ same-rest _ _ _ _ _ _ _ _ (told (n .reader) bytes) bytes F R S (next-open s b h₁ g₁))
-    ∙ ap (λ (l : List ℕ). l ++ Rest (s .frames + frameOne a) (s .refused + refusedOne a) (s .stray + strayAt (roleOf b) o) (openAfter (roleOf b) o) (told (n .reader) bytes) bytes) (text-line s b h₁ g₁)
-    ∙ rest-step (s .frames) (s .refused) (s .stray) o b a (told (n .reader) bytes) bytes
-    ∙ ap (λ (os : List Outcome). Rest (s .frames) (s .refused) (s .stray) o os (b ∷ bytes)) (sym (told-next s b h₁ g₁ bytes))
+    ∙ ap (λ (l : List ℕ). textOf s b ++ l) (ih ∙ same-rest _ _ _ _ _ _ _ _ os bytes F R S (next-open s b h₁ g₁))
+    ∙ ap (λ (l : List ℕ). l ++ rest) (text-line s b h₁ g₁)
+    ∙ rest-step (s .frames) (s .refused) (s .stray) o b a os bytes
+    ∙ ap (λ (l : List Outcome). Rest (s .frames) (s .refused) (s .stray) o l (b ∷ bytes))
+    (sym (outcomes-next s b h₁ g₁ bytes))

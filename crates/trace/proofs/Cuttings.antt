@@ -9,13 +9,14 @@ use lib.Seq.{take-at}
 use lib.Dec.{ltb}
 use borrow.Author.Tests.{le-ltb}
 use Rattle.lists.specs.Choice.{pick}
-use Rattle.framing.specs.Reference.{finish}
+use Rattle.framing.specs.Reference.{finish, Reference}
 use Rattle.framing.specs.Demand3.{feed}
 use Rattle.line.specs.Outcome.{Outcome}
+use Rattle.line.specs.Rowing.{rowing}
 use Rattle.line.proofs.Follows.{reader-follows}
 use Rattle.text.specs.Lines.{totals}
 use Rattle.text.specs.Strays.{strays}
-use Rattle.text.specs.Text.{frames, refusals, lines, answersTo, text}
+use Rattle.text.specs.Text.{verdictsIn, frames, refusals, lines, text}
 use Rattle.text.specs.Writing.{lineRoom}
 use Rattle.trace.specs.Machine.{newListing, nextOf, textOf, listingAfter, texts, takenOf, lastText, Lists}
 use Rattle.trace.specs.Cutting.{Calls, none, call, longest, WritesText, TakesSome}
@@ -27,11 +28,16 @@ use Rattle.trace.proofs.Counts.{Rest, all-text}
 -- ---- calls in a row give what single bytes give
 
 one-call : (s : Listing) (chunk rest out out′ : List ℕ) (r : Listed) → Lists s chunk out out′ r
-    → (take (r .wrote) out′ ++ texts (r .next) (drop (r .taken) chunk ++ rest) ≡ texts s (chunk ++ rest)) × (listingAfter (r .next) (drop (r .taken) chunk ++ rest) ≡ listingAfter s (chunk ++ rest))
+    → (take (r .wrote) out′ ++ texts (r .next) (drop (r .taken) chunk ++ rest) ≡ texts s (chunk ++ rest))
+    × (listingAfter (r .next) (drop (r .taken) chunk ++ rest) ≡ listingAfter s (chunk ++ rest))
 one-call s chunk rest out out′ r l =
     let k = r .taken in
-    let w : take (r .wrote) out′ ≡ texts s (take k chunk) = ap (take (r .wrote)) (l .out-is) ∙ take-at (texts s (take k chunk)) (drop (r .wrote) out) (r .wrote) (sym (l .wrote-is)) in
-    let whole : take k chunk ++ (drop k chunk ++ rest) ≡ chunk ++ rest = sym (append-assoc (take k chunk) (drop k chunk) rest) ∙ ap (λ (x : List ℕ). x ++ rest) (take-append-drop k chunk) in (
+    let w : take (r .wrote) out′ ≡ texts s (take k chunk) =
+    ap (take (r .wrote)) (l .out-is)
+    ∙ take-at (texts s (take k chunk)) (drop (r .wrote) out) (r .wrote) (sym (l .wrote-is)) in
+    let whole : take k chunk ++ (drop k chunk ++ rest) ≡ chunk ++ rest =
+    sym (append-assoc (take k chunk) (drop k chunk) rest)
+    ∙ ap (λ (x : List ℕ). x ++ rest) (take-append-drop k chunk) in (
       ap (λ (x : List ℕ). x ++ texts (r .next) (drop k chunk ++ rest)) w
           ∙ ap (λ (u : Listing). texts s (take k chunk) ++ texts u (drop k chunk ++ rest)) (l .next-is)
           ∙ sym (texts-append s (take k chunk) (drop k chunk ++ rest))
@@ -41,33 +47,41 @@ one-call s chunk rest out out′ r l =
           ∙ ap (listingAfter s) whole,
     )
 
-calls-texts : {s s′ : Listing} {bytes written : List ℕ} → Calls s bytes written s′ → (written ≡ texts s bytes) × (s′ ≡ listingAfter s bytes)
+calls-texts : {s s′ : Listing} {bytes written : List ℕ} → Calls s bytes written s′
+    → (written ≡ texts s bytes) × (s′ ≡ listingAfter s bytes)
 calls-texts none = (refl, refl)
 calls-texts (call {s = s} chunk rest out out′ r l t) =
-    let k : (take (r .wrote) out′ ++ texts (r .next) (drop (r .taken) chunk ++ rest) ≡ texts s (chunk ++ rest)) × (listingAfter (r .next) (drop (r .taken) chunk ++ rest) ≡ listingAfter s (chunk ++ rest)) =
+    let k : (take (r .wrote) out′ ++ texts (r .next) (drop (r .taken) chunk ++ rest) ≡ texts s (chunk ++ rest))
+    × (listingAfter (r .next) (drop (r .taken) chunk ++ rest) ≡ listingAfter s (chunk ++ rest)) =
     one-call s chunk rest out out′ r l in
     (ap (λ (x : List ℕ). take (r .wrote) out′ ++ x) (calls-texts t .0) ∙ k .0, calls-texts t .1 ∙ k .1)
 
 -- ---- from a new state
 
-from-zero : (os : List Outcome) (bytes : List ℕ) → Rest 0 0 0 false os bytes ≡ lines 0 os ++ totals (frames os) (refusals os) (strays false bytes)
+from-zero : (os : List Outcome) (bytes : List ℕ)
+    → Rest 0 0 0 false os bytes
+    ≡ lines 0 (verdictsIn os) ++ totals (frames (verdictsIn os)) (refusals (verdictsIn os)) (strays false bytes)
 from-zero os bytes =
-    let x : 0 + frames os ≡ frames os = omega arith in
-    let y : 0 + refusals os ≡ refusals os = omega arith in
+    let x : 0 + frames (verdictsIn os) ≡ frames (verdictsIn os) = omega arith in
+    let y : 0 + refusals (verdictsIn os) ≡ refusals (verdictsIn os) = omega arith in
     let z : 0 + strays false bytes ≡ strays false bytes = omega arith in
     rw (x, y, z)
 
-new-text : (trace : List ℕ) → length trace ≤ longest → texts newListing trace ++ lastText (listingAfter newListing trace) ≡ text trace
+new-text : (trace : List ℕ) → length trace ≤ longest
+    → texts newListing trace ++ lastText (listingAfter newListing trace) ≡ text trace
 new-text trace h =
     all-text newListing trace (omega arith) (omega arith)
     ∙ ap (λ (os : List Outcome). Rest 0 0 0 false os trace) (reader-follows .same (feed trace ++ finish ∷ []))
-    ∙ from-zero (answersTo trace) trace
+    ∙ from-zero (Reference rowing (feed trace ++ finish ∷ [])) trace
 
 pub writes-text : WritesText
 writes-text trace written h s =
-    let k : (s .before ≡ texts newListing trace) × (s .state ≡ listingAfter newListing trace) = calls-texts (s .calls) in
-    let e : (s .wrote ≡ length (lastText (s .state))) × (s .out′ ≡ lastText (s .state) ++ drop (s .wrote) (s .out)) = s .ends .whole (s .room) in
-    let l : take (s .wrote) (s .out′) ≡ lastText (s .state) = ap (take (s .wrote)) (e .1) ∙ take-at (lastText (s .state)) (drop (s .wrote) (s .out)) (s .wrote) (sym (e .0)) in
+    let k : (s .before ≡ texts newListing trace) × (s .state ≡ listingAfter newListing trace) =
+    calls-texts (s .calls) in
+    let e : (s .wrote ≡ length (lastText (s .state))) × (s .out′ ≡ lastText (s .state) ++ drop (s .wrote) (s .out)) =
+    s .ends .whole (s .room) in
+    let l : take (s .wrote) (s .out′) ≡ lastText (s .state) =
+    ap (take (s .wrote)) (e .1) ∙ take-at (lastText (s .state)) (drop (s .wrote) (s .out)) (s .wrote) (sym (e .0)) in
     s .all
     ∙ ap (λ (x : List ℕ). x ++ take (s .wrote) (s .out′)) (k .0)
     ∙ ap (λ (x : List ℕ). texts newListing trace ++ x) (l ∙ ap lastText (k .1))
@@ -81,4 +95,5 @@ some t n e = rw e (omega arith)
 pub takes-some : TakesSome
 takes-some s [] out out′ r h room l = absurd (omega arith)
 takes-some s (b ∷ bytes) out out′ r h room l =
-    rw (l .taken-is) (some (ltb (length out) lineRoom) (takenOf (nextOf s b) bytes (length out - length (textOf s b))) (le-ltb (length out) 96 room))
+    rw (l .taken-is) (some (ltb (length out) lineRoom) (takenOf (nextOf s b) bytes (length out - length (textOf s b)))
+    (le-ltb (length out) lineRoom room))

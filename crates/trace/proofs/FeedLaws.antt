@@ -16,13 +16,13 @@ use Rattle.frame.specs.Flags.{roleOf}
 use Rattle.line.specs.declared.ChunkStep.{ChunkStep}
 use Rattle.line.specs.declared.LineReader.{LineReader}
 use Rattle.line.proofs.ChunkCalls.{feeds-outcome}
-use Rattle.text.specs.Lines.{line}
+use Rattle.text.specs.Lines.{callLine}
 use Rattle.text.specs.Strays.{strayAt, strays}
 use Rattle.text.specs.Text.{frameOne, refusedOne}
 use Rattle.text.specs.Writing.{Wrote, lineRoom}
 use Rattle.text.proofs.Writing.{wrote-as}
 use Rattle.trace.specs.Private.{Leads, Advances, strayCount, listing}
-use Rattle.trace.specs.Machine.{frameCount, refusedCount, isOpen, add64, numberAfter, nextOf, textOf, listingAfter, texts, takenOf}
+use Rattle.trace.specs.Machine.{frameCount, refusedCount, isOpen, add64, numberAfter, nextOf, textOf, texts, takenOf}
 use Rattle.trace.specs.declared.Listing.{Listing}
 use Rattle.trace.specs.declared.Tally.{Tally}
 use Rattle.trace.proofs.AnswerLaws.{frame-count, refused-count, add-none}
@@ -47,7 +47,7 @@ lead-one s b bytes = record {
   fits = omega arith;
   state = refl;
   text = sym (append-nil (textOf s b));
-  taken = λ room h. taken-more (ltb room lineRoom) (takenOf (nextOf s b) bytes (room - length (textOf s b))) (le-ltb room 96 h);
+  taken = λ room h. taken-more (ltb room lineRoom) (takenOf (nextOf s b) bytes (room - length (textOf s b))) (le-ltb room lineRoom h);
 }
 
 lead-on : (s : Listing) (b : ℕ) (bytes : List ℕ) (n : ℕ) (s′ : Listing) (w : List ℕ) → textOf s b ≡ [] → Leads (nextOf s b) bytes n s′ w → Leads s (b ∷ bytes) (1 + n) s′ w
@@ -59,7 +59,7 @@ lead-on s b bytes n s′ w e l =
       text = rw m (l .text ∙ ap (λ (x : List ℕ). x ++ texts (nextOf s b) (take n bytes)) (sym e));
       taken = λ room h.
           let z : room - 0 ≡ room = omega arith in
-          taken-more (ltb room lineRoom) (takenOf (nextOf s b) bytes (room - length (textOf s b))) (le-ltb room 96 h)
+          taken-more (ltb room lineRoom) (takenOf (nextOf s b) bytes (room - length (textOf s b))) (le-ltb room lineRoom h)
           ∙ ap (λ (x : List ℕ). 1 + takenOf (nextOf s b) bytes (room - length x)) e
           ∙ ap (λ (k : ℕ). 1 + takenOf (nextOf s b) bytes k) z
           ∙ ap (λ (k : ℕ). 1 + k) (l .taken room h)
@@ -80,7 +80,7 @@ counting s o r n = record { reader = r; frames = add64 (s .frames) (frameOne o);
 -- The first bytes, as many as are fed, take a state to the one that the answer gives, and their text is its line.
 abbrev LeadsTo : Listing → List ℕ → ChunkTurn → Type 0
 LeadsTo s bytes f =
-    Leads s bytes (f .taken) (counting s (f .answer) (f .next) (strays (isOpen (s .reader .state .mode)) (take (f .taken) bytes))) (line (numberAfter (s .frames) (s .refused)) (f .answer))
+    Leads s bytes (f .taken) (counting s (f .answer) (f .next) (strays (isOpen (s .reader .state .mode)) (take (f .taken) bytes))) (callLine (numberAfter (s .frames) (s .refused)) (f .answer))
 
 unanswered : (o : Outcome) → isAnswer o ≡ false → o ≡ nothing
 unanswered nothing e = refl
@@ -102,7 +102,7 @@ quiet-next s b h e =
 
 quiet-text : (s : Listing) (b : ℕ) → stepOf (s .reader) b .answer ≡ nothing → textOf s b ≡ []
 unfolding textOf
-quiet-text s b e = ap (line (numberAfter (s .frames) (s .refused))) e
+quiet-text s b e = ap (callLine (numberAfter (s .frames) (s .refused))) e
 
 add64-add64 : (a b c : ℕ) → add64 (add64 a b) c ≡ add64 a (b + c)
 add64-add64 a b c = omega arith
@@ -111,7 +111,7 @@ first-leads : (s : Listing) (b : ℕ) (bytes : List ℕ) (f : ChunkTurn) (q : Bo
     → LeadsTo s (b ∷ bytes) (pick q (chunkTurn (stepOf (s .reader) b .answer) (stepOf (s .reader) b .next) 1) (laterBy 1 f))
 unfolding nextOf textOf
 first-leads s b bytes f true h e l =
-    subst (λ (n : ℕ). Leads s (b ∷ bytes) 1 (counting s (stepOf (s .reader) b .answer) (stepOf (s .reader) b .next) n) (line (numberAfter (s .frames) (s .refused)) (stepOf (s .reader) b .answer)))
+    subst (λ (n : ℕ). Leads s (b ∷ bytes) 1 (counting s (stepOf (s .reader) b .answer) (stepOf (s .reader) b .next) n) (callLine (numberAfter (s .frames) (s .refused)) (stepOf (s .reader) b .answer)))
     (sym (add-zero (strayAt (roleOf b) (isOpen (s .reader .state .mode))))) (lead-one s b bytes)
 first-leads s b bytes f false h e l =
     let u : Listing = quiet s b in
@@ -122,7 +122,7 @@ first-leads s b bytes f false h e l =
     add64-add64 (s .stray) (strayAt (roleOf b) o) (strays (isOpen (u .reader .state .mode)) (take (f .taken) bytes))
     ∙ ap (λ (t : Bool). add64 (s .stray) (strayAt (roleOf b) o + strays t (take (f .taken) bytes))) (open-is (s .reader) b)
     ∙ ap (λ (n : ℕ). add64 (s .stray) (strays o (take n (b ∷ bytes)))) (sym m) in
-    let w : List ℕ = line (numberAfter (s .frames) (s .refused)) (f .answer) in
+    let w : List ℕ = callLine (numberAfter (s .frames) (s .refused)) (f .answer) in
     subst (λ (n : ℕ). Leads s (b ∷ bytes) (1 + f .taken) (record { reader = f .next; frames = add64 (s .frames) (frameOne (f .answer)); refused = add64 (s .refused) (refusedOne (f .answer)); stray = n }) w) z
     (lead-on s b bytes (f .taken) _ w (quiet-text s b a)
     (subst (λ (x : Listing). Leads x bytes (f .taken) (counting u (f .answer) (f .next) (strays (isOpen (u .reader .state .mode)) (take (f .taken) bytes))) w) (quiet-next s b h a) l))
@@ -151,7 +151,7 @@ module _ (bytes₀ : List ℕ) (t : Tally) (rest bytes : List ℕ) (f : ChunkSte
 
   pub advances : (n x y z fc rc sc : ℕ) → n ≡ numberAfter (t .frames) (t .refused) → x ≡ add64 (t .frames) fc → fc ≡ frameCount (toldMeans (f .told))
       → y ≡ add64 (t .refused) rc → rc ≡ refusedCount (toldMeans (f .told)) → z ≡ add64 (t .stray) sc → sc ≡ strayCount (isOpen (t .state .mode)) (take (f .taken) rest)
-      → {out out′ : List ℕ} {at end : ℕ} → Wrote out at (line n (outcomeOf (toldMeans (f .told)) bytes)) out′ end → end ≤ at + lineRoom
+      → {out out′ : List ℕ} {at end : ℕ} → Wrote out at (callLine n (outcomeOf (toldMeans (f .told)) bytes)) out′ end → end ≤ at + lineRoom
       → Advances (listing bytes₀ t) rest bytes out at out′ (record { taken = f .taken; at = end; tally = record { state = f .state; frames = x; refused = y; stray = z } })
   advances n x y z fc rc sc en ex efc ey erc ez esc p k =
       let s : Listing = listing bytes₀ t in
@@ -164,12 +164,12 @@ module _ (bytes₀ : List ℕ) (t : Tally) (rest bytes : List ℕ) (f : ChunkSte
       sym (ez ∙ ap (add64 (t .stray)) (esc ∙ ap (λ (i : ℕ). strayCount (isOpen (t .state .mode)) (take i rest)) (g .taken-is) ∙ sym (stray-count-is (s .reader) rest))) in
       let next : counting s o (d .next) (strays (isOpen (t .state .mode)) (take (d .taken) rest)) ≡ listing bytes (record { state = f .state; frames = x; refused = y; stray = z }) =
       (λ i. record { reader = sym (g .next-is) i; frames = fr i; refused = re i; stray = st i }) in
-      let w : List ℕ = line (numberAfter (t .frames) (t .refused)) o in
+      let w : List ℕ = callLine (numberAfter (t .frames) (t .refused)) o in
       record {
         text = w;
         leads = subst (λ (i : ℕ). Leads s rest i (listing bytes (record { state = f .state; frames = x; refused = y; stray = z })) w) (sym (g .taken-is))
             (subst (λ (u : Listing). Leads s rest (d .taken) u w) next l);
         some = λ e. omega (arith, g .taken-is, feed-some (s .reader) rest e);
-        wrote = wrote-as (ap (λ (i : ℕ). line i (outcomeOf (toldMeans (f .told)) bytes)) en ∙ ap (line (numberAfter (t .frames) (t .refused))) (feeds-outcome bytes f (s .reader) rest g)) p;
+        wrote = wrote-as (ap (λ (i : ℕ). callLine i (outcomeOf (toldMeans (f .told)) bytes)) en ∙ ap (callLine (numberAfter (t .frames) (t .refused))) (feeds-outcome bytes f (s .reader) rest g)) p;
         within = k;
       }

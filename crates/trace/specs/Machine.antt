@@ -2,7 +2,7 @@
 use mathlib.Core.Path.{_≡_}
 use mathlib.Core.Bool.{Bool, true, false}
 use mathlib.Core.List.{List, [], _∷_, _++_}
-use Prim.Native.Nat.{ℕ, _+_, _-_, _%_, _^_, _<_, _≤_}
+use Prim.Native.Nat.{ℕ, _+_, _-_, _*_, _%_, _^_, _<_, _≤_}
 use lib.ListN.{length, take, drop}
 use lib.Dec.{ltb}
 use Rattle.lists.specs.Choice.{pick}
@@ -13,13 +13,12 @@ use Rattle.line.specs.Reader.{newReader, stepOf, finishOf}
 use Rattle.frame.specs.Flags.{roleOf}
 use Rattle.line.specs.declared.Mode.{Mode}
 use Rattle.line.specs.declared.Mode.the-variants.{Outside, InStandard, InExtended, Overlong}
-use Rattle.text.specs.Lines.{line, totals}
+use Rattle.text.specs.Lines.{callLine, totals}
 use Rattle.text.specs.Strays.{strayAt}
 use Rattle.text.specs.Text.{frameOne, refusedOne}
 use Rattle.text.specs.Writing.{lineRoom}
 use Rattle.trace.specs.declared.Listing.{Listing}
 use Rattle.trace.specs.declared.Listed.{Listed}
-use Rattle.trace.specs.declared.Tally.{Tally}
 
 -- ---- what an answer and a mode tell
 
@@ -67,7 +66,7 @@ nextOf s b = record {
 
 -- The line of its answer.
 unfoldable pub textOf : Listing → ℕ → List ℕ
-textOf s b = line (numberAfter (s .frames) (s .refused)) (stepOf (s .reader) b .answer)
+textOf s b = callLine (numberAfter (s .frames) (s .refused)) (stepOf (s .reader) b .answer)
 
 -- ---- bytes one after the other
 
@@ -86,7 +85,8 @@ takenOf s (b ∷ bytes) room = pick (ltb room lineRoom) 0 (1 + takenOf (nextOf s
 
 -- ---- what the calls do
 
--- A chunk: how many bytes are taken, the state afterwards, how many bytes are written, and the output. What stands past them stays.
+-- A chunk: how many bytes are taken, the state afterwards, how many bytes are written, and the output. What stands past
+-- them stays.
 pub record Lists (s : Listing) (chunk out out′ : List ℕ) (r : Listed) : Type 0 where
   pub taken-is : r .taken ≡ takenOf s chunk (length out)
   pub next-is : r .next ≡ listingAfter s (take (r .taken) chunk)
@@ -97,13 +97,16 @@ pub record Lists (s : Listing) (chunk out out′ : List ℕ) (r : Listed) : Type
 
 -- The room in which the line of the finish and the totals fit.
 abbrev pub lastRoom : ℕ
-lastRoom = 192
+lastRoom = 2 * lineRoom
 
 -- The text after the last byte.
 unfoldable pub lastText : Listing → List ℕ
 lastText s =
-    line (numberAfter (s .frames) (s .refused)) (finishOf (s .reader) .answer)
-    ++ totals (add64 (s .frames) (frameOne (finishOf (s .reader) .answer))) (add64 (s .refused) (refusedOne (finishOf (s .reader) .answer))) (s .stray)
+    callLine (numberAfter (s .frames) (s .refused)) (finishOf (s .reader) .answer)
+    ++ totals
+    (add64 (s .frames) (frameOne (finishOf (s .reader) .answer)))
+    (add64 (s .refused) (refusedOne (finishOf (s .reader) .answer)))
+    (s .stray)
 
 -- The finish: all of that text, or nothing where the output is too short.
 pub record Ends (s : Listing) (out out′ : List ℕ) (wrote : ℕ) : Type 0 where

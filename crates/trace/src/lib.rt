@@ -9,11 +9,12 @@ ghost use mathlib.Core.Path.{_≡_};
 ghost use Prim.Native.Nat.{_+_, _≤_};
 ghost use lib.ListN.{length};
 ghost use Rattle.line.specs.Outcome.{toldMeans};
+ghost use Rattle.text.specs.Writing.{lineRoom};
 ghost use Rattle.trace.specs.Private.{strayCount, Advances, listing, listedOf};
 ghost use Rattle.trace.specs.Machine.{frameCount, refusedCount, isOpen, newListing, numberAfter, Lists, Ends};
 
 // The room that the line of the finish and the totals fit in.
-const LAST_ROOM: usize = 192;
+const LAST_ROOM: usize = 2 * text::LINE_ROOM;
 
 // The line reader, and how many frames, refusals and stray bytes there were. The counts wrap at 2^64.
 pub struct Listing {
@@ -83,8 +84,8 @@ pub fn list(s: Listing, chunk: &[u8], out: &mut [u8]) -> Listed
     packed(i, at, bytes, tally)
 }
 
-// Ends the trace: writes the line of a candidate that is open, and the totals, and answers how many bytes it wrote. It writes nothing
-// where the output is shorter than 192 bytes.
+// Ends the trace: writes the line of a candidate that is open, and the totals, and answers how many bytes it wrote. It
+// writes nothing where the output is shorter than the room for both.
 pub fn finish(s: Listing, out: &mut [u8]) -> usize
     ensures { λ r. ⌜ Ends s (now (out .entry)) (now (out .exit)) r ⌝ }
 {
@@ -122,7 +123,7 @@ fn packed(taken: usize, wrote: usize, bytes: [u8; 118], t: Tally) -> Listed
 
 // Takes bytes up to the first that is answered, at least one, and writes its line at an index where there is room for any.
 fn advance(bytes: &mut [u8; 118], t: Tally, rest: &[u8], out: &mut [u8], at: usize) -> Advanced
-    requires { ⌜ at + 96 ≤ length (now out) ⌝ }
+    requires { ⌜ at + lineRoom ≤ length (now out) ⌝ }
     ensures { λ r. ⌜ Advances (listing (now (bytes .entry)) t) (now (rest .entry)) (now (bytes .exit)) (now (out .entry)) at (now (out .exit)) r ⌝ }
 {
     let before = t.state;

@@ -20,7 +20,10 @@ same-length : tie.Need-same-length
 same-length c = search needs
 
 returns-3 : tie.Need-returns-3
-returns-3 c = puts-done (omega (arith, c .before .before .before .before .before .if1 .left, c .before .before .before .before .if2 .left)) (c .before .before .put-told .ensures .0) (c .before .before .put-told .ensures .1)
+returns-3 c =
+    let w = c .before .before .put-told .ensures in
+    let t = c .before .before .before .before in
+    puts-done (omega (arith, t .before .if1 .left, t .if2 .left)) (w .0) (w .1)
 
 pub put-answer-spec : {M : Type 1} → statement M
 put-answer-spec =

@@ -36,7 +36,8 @@ loop-again c =
     let l = c .before .before in
     let a = l .before .args in (
       search needs,
-      copy-more (a .s .now) (a .out .now) (a .at) (l .loop .i) (l .loop .out) (l .before .pre) (c .before .loop-test .taken) (l .loop .inv .1),
+      copy-more (a .s .now) (a .out .now) (a .at) (l .loop .i) (l .loop .out) (l .before .pre)
+          (c .before .loop-test .taken) (l .loop .inv .1),
       (simp length-set) ∙ l .loop .inv .2,
     )
 
@@ -49,7 +50,8 @@ same-length c = search needs
 returns : tie.Need-returns Inv-loop μ-loop
 returns c =
     let l = c .before in
-    let a = l .before .args in copy-all (a .s .now) (a .out .now) (a .at) (l .loop .i) (l .loop .out) (c .loop-test .left) (l .loop .inv .1)
+    let a = l .before .args in
+    copy-all (a .s .now) (a .out .now) (a .at) (l .loop .i) (l .loop .out) (c .loop-test .left) (l .loop .inv .1)
 
 pub put-bytes-spec : {M : Type 1} → statement M
 put-bytes-spec =

@@ -35,10 +35,12 @@ same-length c = search needs
 returns : tie.Need-returns
 unfolding totals
 returns c =
-    let a = c .before .before .before .before .before .before .before .before .before .before .before .before .before .before .before .before .before .put-field .ensures in
-    let b = c .before .before .before .before .before .before .before .before .before .before .before .before .put-field2 .ensures in
-    let d = c .before .before .before .before .before .before .before .put-field3 .ensures in
-    (next (next (next (a .0) (b .0) (omega arith)) (d .0) (omega arith)) (c .before .before .put-bytes .ensures) (omega arith), omega (arith, c .before .before .put-bytes .ensures .ends))
+    let e = c .before .before .put-bytes .ensures in
+    let k = c .before .before .before .before .before .before .before in
+    let d = k .put-field3 .ensures in
+    let b = k .before .before .before .before .before .put-field2 .ensures in
+    let a = k .before .before .before .before .before .before .before .before .before .before .put-field .ensures in
+    (next (next (next (a .0) (b .0) (omega arith)) (d .0) (omega arith)) e (omega arith), omega (arith, e .ends))
 
 pub put-counts-spec : {M : Type 1} → statement M
 put-counts-spec =

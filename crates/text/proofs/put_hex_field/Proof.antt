@@ -15,7 +15,8 @@ same-length c = search needs
 returns : tie.Need-returns
 returns c =
     let s = c .before .before .before .before .before .before .before .before .before .before in
-    wrote-hex-field (s .args .out .now) (s .args .at) (s .args .word .now) (s .args .v) (s .pre) (c .before .before .before .before .before .before .put-bytes .ensures) (c .before .before .put-hex .ensures)
+    wrote-hex-field (s .args .out .now) (s .args .at) (s .args .word .now) (s .args .v) (s .pre)
+    (c .before .before .before .before .before .before .put-bytes .ensures) (c .before .before .put-hex .ensures)
 
 pub put-hex-field-spec : {M : Type 1} → statement M
 put-hex-field-spec = tie.close (tie.spec put-bytes-requires put-hex-requires same-length returns)

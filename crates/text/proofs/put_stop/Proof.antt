@@ -19,8 +19,13 @@ same-length : tie.Need-same-length
 same-length c = search needs
 
 returns : tie.Need-returns
-returns c =
-    (wrote-as (ap stopText (sym (c .before .before .before .before .before .if1 .taken) ∙ c .before .before .before .before .before .before .stops-workout .ensures)) (c .before .before .put-bytes .ensures), omega (arith, c .before .before .put-bytes .ensures .ends))
+returns c = (
+  wrote-as (ap stopText
+      (sym (c .before .before .before .before .before .if1 .taken)
+      ∙ c .before .before .before .before .before .before .stops-workout .ensures))
+      (c .before .before .put-bytes .ensures),
+  omega (arith, c .before .before .put-bytes .ensures .ends),
+)
 
 slice-aggregate-put-bytes-2 : tie.Need-slice-aggregate-put-bytes-2
 slice-aggregate-put-bytes-2 c = search needs
@@ -32,8 +37,13 @@ same-length-2 : tie.Need-same-length-2
 same-length-2 c = search needs
 
 returns-2 : tie.Need-returns-2
-returns-2 c =
-    (wrote-as (ap stopText (sym (c .before .before .before .before .before .if1 .left) ∙ c .before .before .before .before .before .before .stops-workout .ensures)) (c .before .before .put-bytes2 .ensures), omega (arith, c .before .before .put-bytes2 .ensures .ends))
+returns-2 c = (
+  wrote-as (ap stopText
+      (sym (c .before .before .before .before .before .if1 .left)
+      ∙ c .before .before .before .before .before .before .stops-workout .ensures))
+      (c .before .before .put-bytes2 .ensures),
+  omega (arith, c .before .before .put-bytes2 .ensures .ends),
+)
 
 pub put-stop-spec : {M : Type 1} → statement M
 put-stop-spec =

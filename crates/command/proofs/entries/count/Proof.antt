@@ -4,7 +4,7 @@ use native.Mathlib.Omega.{arith}
 use mathlib.Core.List.{List}
 use lib.ListN.{length, drop}
 use Rattle.command.specs.Answers.{counted}
-use Rattle.command.specs.Entries.{entry, parse}
+use Rattle.command.specs.Entries.{parse}
 use Rattle.command.specs.declared.entries.Step.the-variants.{End, Broken}
 use Rattle.command.proofs.EntryLaws.{EntryStands, told, told-stands, countedPlus, plus-none, count-end, count-broken, count-more}
 use borrow.Author.Needs.{needs}

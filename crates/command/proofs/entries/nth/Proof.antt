@@ -3,7 +3,7 @@ use Prim.Native.Nat.{ℕ, _-_}
 use native.Mathlib.Omega.{arith}
 use mathlib.Core.List.{List}
 use lib.ListN.{length, drop}
-use Rattle.command.specs.Entries.{entry, parse, nthIn}
+use Rattle.command.specs.Entries.{parse, nthIn}
 use Rattle.command.specs.declared.entries.Step.the-variants.{End, Broken, Entry}
 use Rattle.command.proofs.EntryLaws.{EntryStands, parseAfter, told, told-stands, nth-end, nth-broken, nth-found, nth-more}
 use borrow.Author.Needs.{needs}

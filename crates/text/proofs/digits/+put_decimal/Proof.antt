@@ -4,7 +4,8 @@ use Prim.Native.Nat.{_+_, _/_, _≤_}
 use native.Mathlib.Omega.{arith}
 use lib.ListN.{length-set}
 use Rattle.text.proofs.Writing.{wrote-as}
-use Rattle.text.proofs.DigitLaws.{decimal-pair, length-small, length-pair, length-hundreds, wrote-small, wrote-hundreds}
+use Rattle.text.proofs.DigitLaws.{decimal-pair, length-small, length-pair, length-hundreds}
+use Rattle.text.proofs.DigitLaws.{wrote-small, wrote-hundreds}
 use Prim.Native.Nat.{ℕ, _<_}
 use borrow.Fn.Kinds.{In}
 use borrow.Fn.PlainCycle.{Measures, is, falls, and}
@@ -64,7 +65,8 @@ put-decimal-same-length : (t : ℕ) → put-decimal-lts.Need-same-length (
   put-decimal-below t,
   put-decimal.Post,
 ) (put-decimal-at t) put-decimal.Post
-put-decimal-same-length t c = length-set (c .before .before .args .out .now) (c .before .before .args .at) (48 + c .before .before .args .v)
+put-decimal-same-length t c =
+    length-set (c .before .before .args .out .now) (c .before .before .args .at) (48 + c .before .before .args .v)
 
 put-decimal-returns : (t : ℕ) → put-decimal-lts.Need-returns (
   put-pair-reads.Asked,
@@ -72,7 +74,9 @@ put-decimal-returns : (t : ℕ) → put-decimal-lts.Need-returns (
   put-decimal-below t,
   put-decimal.Post,
 ) (put-decimal-at t) put-decimal.Post
-put-decimal-returns t c = let a = c .before .before .args in wrote-small (a .out .now) (a .at) (a .v) (c .if1 .taken) (c .before .before .pre .1)
+put-decimal-returns t c =
+    let a = c .before .before .args in
+    wrote-small (a .out .now) (a .at) (a .v) (c .if1 .taken) (c .before .before .pre .1)
 
 put-decimal-put-pair-requires : (t : ℕ) → put-decimal-lts.Need-put-pair-requires (
   put-pair-reads.Asked,
@@ -81,8 +85,14 @@ put-decimal-put-pair-requires : (t : ℕ) → put-decimal-lts.Need-put-pair-requ
   put-decimal.Post,
 ) (put-decimal-at t) put-decimal.Post
 put-decimal-put-pair-requires t c κs =
-    let p = c .before .before .before .before in
-    (c .before .if2 .taken, omega (arith, length-pair (p .args .v) (c .before .before .if1 .left) (c .before .if2 .taken), p .pre .1))
+    let p = c .before .before .before .before in (
+      c .before .if2 .taken,
+      omega (
+        arith,
+        length-pair (p .args .v) (c .before .before .if1 .left) (c .before .if2 .taken),
+        p .pre .1,
+      ),
+    )
 
 put-decimal-same-length-2 : (t : ℕ) → put-decimal-lts.Need-same-length-2 (
   put-pair-reads.Asked,
@@ -98,7 +108,10 @@ put-decimal-returns-2 : (t : ℕ) → put-decimal-lts.Need-returns-2 (
   put-decimal-below t,
   put-decimal.Post,
 ) (put-decimal-at t) put-decimal.Post
-put-decimal-returns-2 t c = wrote-as (sym (decimal-pair (c .before .before .before .before .before .before .before .args .v) (c .before .before .before .before .before .if1 .left) (c .before .before .before .before .if2 .taken))) (c .before .before .put-pair .ensures)
+put-decimal-returns-2 t c =
+    wrote-as (sym (decimal-pair (c .before .before .before .before .before .before .before .args .v)
+    (c .before .before .before .before .before .if1 .left) (c .before .before .before .before .if2 .taken)))
+    (c .before .before .put-pair .ensures)
 
 put-decimal-put-decimal-requires : (t : ℕ) → put-decimal-lts.Need-put-decimal-requires (
   put-pair-reads.Asked,
@@ -120,8 +133,16 @@ put-decimal-put-pair-requires-2 : (t : ℕ) → put-decimal-lts.Need-put-pair-re
 ) (put-decimal-at t) put-decimal.Post
 put-decimal-put-pair-requires-2 t c κs =
     let p = c .before .before .before .before .before .before .before .before in
-    let q = c .before .before .before .put-decimal in
-    (omega arith, omega (arith, length-hundreds (p .args .v) (c .before .before .before .before .before .if2 .left), p .pre .1, q .ensures .ends, q .kept .1 .0))
+    let q = c .before .before .before .put-decimal in (
+      omega arith,
+      omega (
+        arith,
+        length-hundreds (p .args .v) (c .before .before .before .before .before .if2 .left),
+        p .pre .1,
+        q .ensures .ends,
+        q .kept .1 .0,
+      ),
+    )
 
 put-decimal-same-length-3 : (t : ℕ) → put-decimal-lts.Need-same-length-3 (
   put-pair-reads.Asked,
@@ -129,7 +150,9 @@ put-decimal-same-length-3 : (t : ℕ) → put-decimal-lts.Need-same-length-3 (
   put-decimal-below t,
   put-decimal.Post,
 ) (put-decimal-at t) put-decimal.Post
-put-decimal-same-length-3 t c = c .before .before .put-pair2 .kept .1 .0 ∙ c .before .before .before .before .before .before .put-decimal .kept .1 .0
+put-decimal-same-length-3 t c =
+    c .before .before .put-pair2 .kept .1 .0
+    ∙ c .before .before .before .before .before .before .put-decimal .kept .1 .0
 
 put-decimal-returns-3 : (t : ℕ) → put-decimal-lts.Need-returns-3 (
   put-pair-reads.Asked,
@@ -139,7 +162,9 @@ put-decimal-returns-3 : (t : ℕ) → put-decimal-lts.Need-returns-3 (
 ) (put-decimal-at t) put-decimal.Post
 put-decimal-returns-3 t c =
     let p = c .before .before .before .before .before .before .before .before .before .before .before in
-    wrote-hundreds (p .args .out .now) (p .args .at) (p .args .v) (c .before .before .before .before .before .before .before .before .if2 .left) (p .pre .1) (c .before .before .before .before .before .before .put-decimal .ensures) (c .before .before .put-pair2 .ensures)
+    wrote-hundreds (p .args .out .now) (p .args .at) (p .args .v)
+    (c .before .before .before .before .before .before .before .before .if2 .left) (p .pre .1)
+    (c .before .before .before .before .before .before .put-decimal .ensures) (c .before .before .put-pair2 .ensures)
 
 pub +put-decimal-spec : {M : Type 1} → statement M
 +put-decimal-spec = close μ-put-decimal λ t. put-decimal-lts.spec (

@@ -27,7 +27,10 @@ same-length : tie.Need-same-length
 same-length c = search needs
 
 returns : tie.Need-returns
-returns c = let a = c .before .before .before .args in wrote-hex (a .out .now) (a .at) (a .v) _ _ (c .before .before .before .pre) (c .before .hex-digit .ensures) (c .hex-digit2 .ensures)
+returns c =
+    let a = c .before .before .before .args in
+    wrote-hex (a .out .now) (a .at) (a .v) _ _ (c .before .before .before .pre) (c .before .hex-digit .ensures)
+    (c .hex-digit2 .ensures)
 
 pub put-hex-spec : {M : Type 1} → statement M
 put-hex-spec =

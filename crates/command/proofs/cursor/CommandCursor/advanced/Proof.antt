@@ -38,7 +38,7 @@ use denote.Exit.{yes}
 use denote.Triple.Clauses.{ensured}
 use Rattle.command.specs.Traversal.{indexAfter}
 use Rattle.command.specs.declared.cursor.CommandCursor.{CommandCursor}
-use Rattle.command.proofs.Called.{Under, under, OnPlace, to-place, asks-place, told-place}
+use Rattle.command.proofs.Called.{Under, under, OnIndex, to-index, asks-index, told-index}
 use Rattle.command.proofs.Held.{B, D, L, mach, parts, Own, Lent, opened}
 use Rattle.command.proofs.cursor.CommandCursor.Laws as T′
 use Rattle.command.proofs.traversal.index_after.Symbol as symbol
@@ -63,36 +63,36 @@ module _ {M : Type 1} (𝓤 : URA M) (H : Heap 𝓤) (A : Atoms 𝓤) (W : Given
   abbrev Told : ℕ → Type 0
   Told r = Says (κ, tt) (d .contents) (d .at) r
 
-  abbrev at-place : ℕ → CommandCursor
-  at-place n = record { contents = d .contents; at = n }
+  abbrev at-index : ℕ → CommandCursor
+  at-index n = record { contents = d .contents; at = n }
 
   abbrev Post : Val → SProp 𝓤
   Post = walkOf 𝓤 H A here.ended stayed (here.clauses 𝓤 H A mem run) .post (((κ, tt), (q, tt), tt, (d, tt), (mach d ∷ [], tt)), tt)
 
-  abbrev to : OnPlace answer Says 𝓤 H A .Ghost
-  to = to-place answer Says 𝓤 H A W κ q d
+  abbrev to : OnIndex answer Says 𝓤 H A .Ghost
+  to = to-index answer Says 𝓤 H A W κ q d
 
-  exits : (r : ℕ) (u : Val) → Told r → r < 2 ^ 64 → ent 𝓤 (⋆ 𝓤 H A (‵ (usize .own r (u ∷ [])) ∷ (‵ (flft κ q) ⊛ ‵ ftrue) ∷ ‵ (Own κ d) ∷ [])) (Post (mach (at-place r)))
+  exits : (r : ℕ) (u : Val) → Told r → r < 2 ^ 64 → ent 𝓤 (⋆ 𝓤 H A (‵ (usize .own r (u ∷ [])) ∷ (‵ (flft κ q) ⊛ ‵ ftrue) ∷ ‵ (Own κ d) ∷ [])) (Post (mach (at-index r)))
   exits r u e ok =
       qed W (‵ (usize .own r (u ∷ [])) ∷ (‵ (flft κ q) ⊛ ‵ ftrue) ∷ ‵ (Own κ d) ∷ []) ∵
-      suffices ! _ (ends-at 𝓤 H A here.ended stayed (here.clauses 𝓤 H A mem run) W (((κ, tt), (q, tt), tt, (d, tt), (mach d ∷ [], tt)), tt) (mach (at-place r)) (at-place r) (tt, tt) (tt, tt)) $ says ! (refl, e) $
+      suffices ! _ (ends-at 𝓤 H A here.ended stayed (here.clauses 𝓤 H A mem run) W (((κ, tt), (q, tt), tt, (d, tt), (mach d ∷ [], tt)), tt) (mach (at-index r)) (at-index r) (tt, tt) (tt, tt)) $ says ! (refl, e) $
       move ! (1 ∷ []) $ frame ! $ drop ! $ use1 W (‵ (Own κ d) ⊛ ‵ (Own κ d)) (LL.copy (D κ) (T′.the-copy (namedLft 1 0 tt (κ, tt))) 𝓤 H A W .twice d (mach d ∷ [])) $ split ! $
       nothing ! $ move ! (1 ∷ 0 ∷ []) $ fjoin ! $ frame ! $
       -- [what the cursor owns]: the facts of the new index stand for those of the old one
       owned ! usize (Is usize) (uint-makes 𝓤 H A W w64) r _ (refl, ok) $ move ! (1 ∷ 0 ∷ []) $ by ! (own-put 𝓤 H A W (D κ) (L κ) 1 (parts κ d) r (mach d))
 
-  module _ (C : Calls 𝓤 H) (Λ : Loops 𝓤 H) (fm : FmC 𝓤 H (W .laws) C) (known : Triple 𝓤 (C #callee) (OnPlace answer Says 𝓤 H A)) where
-    walk : Holds (hasTy (T′.mir (named 0)) (mach d)) × WT (mach d) → ent 𝓤 (onEntry 𝓤 H A here.signature (κ, tt) (q, tt) (d, tt) (mach d ∷ [], tt)) (WpFn 𝓤 H C Λ code.function (mach d ∷ []) Post)
-    walk wt =
+  module _ (C : Calls 𝓤 H) (Λ : Loops 𝓤 H) (fm : FmC 𝓤 H (W .laws) C) (known : Triple 𝓤 (C #callee) (OnIndex answer Says 𝓤 H A)) where
+    body-runs : Holds (hasTy (T′.mir (named 0)) (mach d)) × WT (mach d) → ent 𝓤 (onEntry 𝓤 H A here.signature (κ, tt) (q, tt) (d, tt) (mach d ∷ [], tt)) (WpFn 𝓤 H C Λ code.function (mach d ∷ []) Post)
+    body-runs wt =
         qed W (raw (onEntry 𝓤 H A here.signature (κ, tt) (q, tt) (d, tt) (mach d ∷ [], tt)) ∷ []) ∵ enter ! C Λ code.function (mach d ∷ []) _ $
         alloc1 ! (λ l₀. alloc1 ! (λ l₁. alloc1 ! (λ l₂. alloc1 ! (λ l₃. alloc1 ! (λ l₄. alloc1 ! (λ l₅. alloc0 ! $ params1 ! $ pass1 ! (init ! 8 refl wt) $ pass0 ! $
         -- [_5; …; _4; …; _3; …; _2; …; _1; …; _0; …; what is had on entry]
         assigns ! (of-opd ! (load ! (from ! (fld ! refl (stop !))) (look-in ! 8 (sub ! 0 refl (whole !))))) (from ! (stop !)) (init ! 4 refl (tt, wt .1 .0)) $
         assigns ! (of-opd ! (load ! (from ! (fld ! refl (stop !))) (look-in ! 8 (sub ! 1 refl (whole !))))) (from ! (stop !)) (init ! 2 refl (tt, wt .1 .1 .0)) $
-        move ! (12 ∷ []) $ use1 W (((‵ (flft κ q) ⊛ ‵ ftrue) ⊛ ‵ (Lent κ (d .contents) (d .at))) ⊛ ‵ (Own κ d)) (opened 𝓤 H A W κ q d (wt .1 .1 .0 .fits)) $ split ! $ use1 W (raw (OnPlace answer Says 𝓤 H A .pre to)) (asks-place answer Says 𝓤 H A W κ q d) $
-        calls-at ! fm (OnPlace answer Says 𝓤 H A) known to (and-then ! (load ! (from ! (stop !)) (look ! 6 refl)) (and-then ! (load ! (from ! (stop !)) (look ! 4 refl)) (no-more !))) (λ u.
+        move ! (12 ∷ []) $ use1 W (((‵ (flft κ q) ⊛ ‵ ftrue) ⊛ ‵ (Lent κ (d .contents) (d .at))) ⊛ ‵ (Own κ d)) (opened 𝓤 H A W κ q d (wt .1 .1 .0 .fits)) $ split ! $ use1 W (raw (OnIndex answer Says 𝓤 H A .pre to)) (asks-index answer Says 𝓤 H A W κ q d) $
+        calls-at ! fm (OnIndex answer Says 𝓤 H A) known to (and-then ! (load ! (from ! (stop !)) (look ! 6 refl)) (and-then ! (load ! (from ! (stop !)) (look ! 4 refl)) (no-more !))) (λ u.
         use1 W (later (some (λ (r : ℕ). ((‵ (flft κ q) ⊛ ‵ ftrue) ⊛ ‵ (usize .own r (u ∷ []))) ⊛ raw (ensured 𝓤 H A (Under answer Says) (under answer Says 𝓤) (κ, tt) (d .contents, (d .at, tt)) tt r)))) (id⊢ 𝓤 _) $ await ! tt $ pick ! (λ r.
-        split ! $ move ! (1 ∷ []) $ use1 W (raw (fact 𝓤 (Told r))) (told-place answer Says 𝓤 H A W κ q d r) $ heard ! (Told r) (λ e. split ! $ move ! (1 ∷ []) $
+        split ! $ move ! (1 ∷ []) $ use1 W (raw (fact 𝓤 (Told r))) (told-index answer Says 𝓤 H A W κ q d r) $ heard ! (Told r) (λ e. split ! $ move ! (1 ∷ []) $
         -- [the new index; the token; what the cursor owns; _5; …; _4; …; _3; …; room for _2; …; _1; …; room for _0; …]
         peeks ! usize (Is usize) (shows 𝓤 H A usize) r (u ∷ []) (λ is.
         land ! (from ! (stop !)) (init ! 9 refl (uint-lawful 𝓤 H A W w64 .typed r _ is .0)) $ rewrite ! 9 (λ (x : Val). ‵ (fat fullShare (tyInt w64) l₂ 0 x)) (ap only (is .0)) refl $
@@ -103,15 +103,15 @@ module _ {M : Type 1} (𝓤 : URA M) (H : Heap 𝓤) (A : Atoms 𝓤) (W : Given
         free0 ! $ by ! (exits r u e (is .1))))))))))))
 
 module _ {M : Type 1} (𝓤 : URA M) (H : Heap 𝓤) (A : Atoms 𝓤) (W : Given 𝓤 H A) (mem : Memory → SProp 𝓤) (run : Routine → Fun 𝓤) where
-  walks : (C : Calls 𝓤 H) (Λ : Loops 𝓤 H) → FmC 𝓤 H (W .laws) C → Triple 𝓤 (C #callee) (OnPlace answer Says 𝓤 H A) → Walks 𝓤 H A here.ended stayed (WpFn 𝓤 H C Λ code.function) (here.clauses 𝓤 H A mem run)
-  walks C Λ fm known =
+  runs : (C : Calls 𝓤 H) (Λ : Loops 𝓤 H) → FmC 𝓤 H (W .laws) C → Triple 𝓤 (C #callee) (OnIndex answer Says 𝓤 H A) → Walks 𝓤 H A here.ended stayed (WpFn 𝓤 H C Λ code.function) (here.clauses 𝓤 H A mem run)
+  runs C Λ fm known =
       walked 𝓤 H A here.ended stayed (here.clauses 𝓤 H A mem run) (WpFn 𝓤 H C Λ code.function) (λ κs. (LL.vals (D (κs .0)) (L (κs .0)), tt)) (λ κs. (LL.tells (D (κs .0)) (L (κs .0)), tt))
-      (λ κs qs bounds a g are. via 𝓤 _ (fst∗ 𝓤 _ (emp 𝓤)) (walk 𝓤 H A W mem run (κs .0) (qs .0) (a .0) C Λ fm known (LL.lawful (D (κs .0)) (L (κs .0)) 𝓤 H A W .typed (a .0) _ (are .0) .0)))
+      (λ κs qs bounds a g are. via 𝓤 _ (fst∗ 𝓤 _ (emp 𝓤)) (body-runs 𝓤 H A W mem run (κs .0) (qs .0) (a .0) C Λ fm known (LL.lawful (D (κs .0)) (L (κs .0)) 𝓤 H A W .typed (a .0) _ (are .0) .0)))
 
-  meets : (𝓣 : Tables 𝓤 H) → Triple 𝓤 (𝓣 .C #callee) (OnPlace answer Says 𝓤 H A) → Meets 𝓤 H A here.signature (WpFn 𝓤 H (𝓣 .C) (𝓣 .Λ) code.function) (here.spec 𝓤 H A mem run)
+  meets : (𝓣 : Tables 𝓤 H) → Triple 𝓤 (𝓣 .C #callee) (OnIndex answer Says 𝓤 H A) → Meets 𝓤 H A here.signature (WpFn 𝓤 H (𝓣 .C) (𝓣 .Λ) code.function) (here.spec 𝓤 H A mem run)
   meets 𝓣 known =
       walk-meets 𝓤 H A here.ended stayed W (goes-none 𝓤 H A W 1 B yes (λ κs x f. refl), tt) (here.clauses 𝓤 H A mem run)
-      (WpFn 𝓤 H (𝓣 .C) (𝓣 .Λ) code.function) (WpFn-mono 𝓤 H (W .laws) 𝓣 code.function) (walks (𝓣 .C) (𝓣 .Λ) (fmOf 𝓤 H (W .laws) 𝓣) known)
+      (WpFn 𝓤 H (𝓣 .C) (𝓣 .Λ) code.function) (WpFn-mono 𝓤 H (W .laws) 𝓣 code.function) (runs (𝓣 .C) (𝓣 .Λ) (fmOf 𝓤 H (W .laws) 𝓣) known)
 
 pub advanced-spec : {M : Type 1} → stated.statement M
 unfolding code.routine tablesOf
@@ -119,4 +119,4 @@ advanced-spec 𝓤 H 𝓜 𝓖 𝓡 =
     entered 𝓤 H (tripleOf 𝓤 H (𝓖 .A) here.signature (here.spec 𝓤 H (𝓖 .A) (𝓜 .mem) (𝓡 .run)))
     (tables 𝓤 H 𝓜 𝓡 code.env .C) (tables 𝓤 H 𝓜 𝓡 code.env .Λ) #here code.function (code.unfolded 𝓤 H 𝓜 𝓡)
     (meets 𝓤 H (𝓖 .A) (givenOf 𝓤 H 𝓜 𝓖) (𝓜 .mem) (𝓡 .run) (tablesOf 𝓤 H 𝓜 (tables 𝓤 H 𝓜 𝓡 code.env))
-    (cited 𝓤 H (OnPlace answer Says 𝓤 H (𝓖 .A)) 𝓜 𝓡 code.env #callee symbol.routine code.calls-command·traversal·index-after (proved.met 𝓤 H 𝓜 𝓖 𝓡)))
+    (cited 𝓤 H (OnIndex answer Says 𝓤 H (𝓖 .A)) 𝓜 𝓡 code.env #callee symbol.routine code.calls-command·traversal·index-after (proved.met 𝓤 H 𝓜 𝓖 𝓡)))

@@ -12,7 +12,7 @@ use denote.Triple.Table.{entered, cited}
 use Rattle.command.specs.Answers.{foundMeans}
 use Rattle.command.specs.Traversal.{commandAt}
 use Rattle.command.specs.declared.entries.Found.{Found}
-use Rattle.command.proofs.Called.{OnPlace}
+use Rattle.command.proofs.Called.{OnIndex}
 use Rattle.command.proofs.Thin.{thin-meets}
 use Rattle.command.proofs.entries.Found as S
 use Rattle.command.proofs.entries.Found.Laws as S′
@@ -37,4 +37,4 @@ command-spec 𝓤 H 𝓜 𝓖 𝓡 =
     entered 𝓤 H (tripleOf 𝓤 H (𝓖 .A) here.signature (here.spec 𝓤 H (𝓖 .A) (𝓜 .mem) (𝓡 .run)))
     (tables 𝓤 H 𝓜 𝓡 code.env .C) (tables 𝓤 H 𝓜 𝓡 code.env .Λ) #here code.function (code.unfolded 𝓤 H 𝓜 𝓡)
     (thin-meets answer Says 𝓤 H (𝓖 .A) W #callee S′.mir (λ κ r u is. EL.lawful S.the-type S′.the-laws 𝓤 H (𝓖 .A) W tt .typed r _ is .0) (tablesOf 𝓤 H 𝓜 (tables 𝓤 H 𝓜 𝓡 code.env))
-    (cited 𝓤 H (OnPlace answer Says 𝓤 H (𝓖 .A)) 𝓜 𝓡 code.env #callee symbol.routine code.calls-command·traversal·command-at (proved.met 𝓤 H 𝓜 𝓖 𝓡)))
+    (cited 𝓤 H (OnIndex answer Says 𝓤 H (𝓖 .A)) 𝓜 𝓡 code.env #callee symbol.routine code.calls-command·traversal·command-at (proved.met 𝓤 H 𝓜 𝓖 𝓡)))

@@ -1,7 +1,7 @@
 use borrow.Author.Tests.{lt-ltb, le-ltb, le-leb, lt-leb}
 use Rattle.command.specs.Steps.{stepAt}
 use native.Mathlib.Omega.{arith}
-use Prim.Native.Nat.{_+_, _-_}
+use Prim.Native.Nat.{_+_}
 use borrow.Author.Needs.{needs}
 use Rattle.command.proofs.entries.Cursor.step.Statement.{statement}
 use Rattle.command.proofs.entries.Cursor.step.Tie as tie

@@ -1,7 +1,7 @@
-use Rattle.text.proofs.StopLaws.{not-two, first-other, second-other, one-two}
+use Rattle.command.proofs.StopLaws.{not-two, first-other, second-other, one-two}
 use borrow.Author.Needs.{needs}
-use Rattle.text.proofs.stop.is_one_two.Statement.{statement}
-use Rattle.text.proofs.stop.is_one_two.Tie as tie
+use Rattle.command.proofs.stop.is_one_two.Statement.{statement}
+use Rattle.command.proofs.stop.is_one_two.Tie as tie
 
 returns : tie.Need-returns
 returns c = not-two _ (c .if1 .taken)

@@ -1,4 +1,4 @@
--- The laws of a walk over entries that looks for one that passes a test.
+-- The laws of a loop over entries that looks for one that passes a test.
 use mathlib.Core.Path.{_≡_, refl, sym, ap, _∙_}
 use mathlib.Core.Bool.{Bool, true, false}
 use mathlib.Core.List.{List, [], _∷_}
@@ -8,45 +8,44 @@ use lib.Dec.{eqb}
 use lib.ListN.{length, getD}
 use borrow.Author.Tests.{eq-eqb, ne-eqb}
 use Rattle.lists.specs.Choice.{pick}
-use Rattle.command.specs.Entries.{Entry, entry, Parsed, unsound, sound, withEntry}
-use Rattle.text.specs.Stop.{anyOf, anyIn, isOneTwo}
+use Rattle.command.specs.Entries.{Entry, Parsed, unsound, sound, withEntry}
+use Rattle.command.specs.Stop.{anyOf, anyIn, isOneTwo}
 
 module _ (p : Entry → Bool) where
   -- An entry that passes was found before, or is one of those that follow, and what follows is sound.
-  unfoldable pub found : Bool → Parsed → Bool
-  found t unsound = false
-  found t (sound es) = pick t true (anyOf p es)
+  unfoldable pub foundSoFar : Bool → Parsed → Bool
+  foundSoFar t unsound = false
+  foundSoFar t (sound es) = pick t true (anyOf p es)
 
-  pub found-start : (q : Parsed) → found false q ≡ anyIn p q
-  unfolding found anyIn
+  pub found-start : (q : Parsed) → foundSoFar false q ≡ anyIn p q
+  unfolding foundSoFar anyIn
   found-start unsound = refl
   found-start (sound es) = refl
 
-  pub found-end : (t : Bool) (q : Parsed) → q ≡ sound [] → t ≡ found t q
-  unfolding found anyOf
-  found-end t q e = alone t ∙ ap (found t) (sym e)
+  pub found-end : (t : Bool) (q : Parsed) → q ≡ sound [] → t ≡ foundSoFar t q
+  unfolding foundSoFar anyOf
+  found-end t q e = alone t ∙ ap (foundSoFar t) (sym e)
     where
       alone : (u : Bool) → u ≡ pick u true false
       alone true = refl
       alone false = refl
 
-  pub found-broken : (t : Bool) (q : Parsed) → q ≡ unsound → false ≡ found t q
-  unfolding found
-  found-broken t q e = ap (found t) (sym e)
+  pub found-broken : (t : Bool) (q : Parsed) → q ≡ unsound → false ≡ foundSoFar t q
+  unfolding foundSoFar
+  found-broken t q e = ap (foundSoFar t) (sym e)
 
   either-way : (t u v : Bool) → pick (pick t true u) true v ≡ pick t true (pick u true v)
   either-way true u v = refl
   either-way false u v = refl
 
-  pub found-more : (t u v : Bool) (e : Entry) (q r : Parsed) → q ≡ withEntry e r → v ≡ p e → u ≡ pick t true v → found u r ≡ found t q
-  unfolding found anyOf withEntry
-  found-more t u v e q unsound h k g = ap (found t) (sym h)
+  pub found-more : (t u v : Bool) (e : Entry) (q r : Parsed) → q ≡ withEntry e r → v ≡ p e → u ≡ pick t true v
+      → foundSoFar u r ≡ foundSoFar t q
+  unfolding foundSoFar anyOf withEntry
+  found-more t u v e q unsound h k g = ap (foundSoFar t) (sym h)
   found-more t u v e q (sound es) h k g =
-      ap (λ (x : Bool). pick x true (anyOf p es)) (g ∙ ap (pick t true) k) ∙ either-way t (p e) (anyOf p es) ∙ ap (found t) (sym h)
-
--- the test on an entry whose body is a part of the bytes
-pub part-test : (p : Entry → Bool) (b : ℕ) (l d : List ℕ) (v : Bool) → v ≡ p (entry b l) → l ≡ d → v ≡ p (entry b d)
-part-test p b l d v e q = e ∙ ap (λ (x : List ℕ). p (entry b x)) q
+      ap (λ (x : Bool). pick x true (anyOf p es)) (g ∙ ap (pick t true) k)
+      ∙ either-way t (p e) (anyOf p es)
+      ∙ ap (foundSoFar t) (sym h)
 
 -- ---- data 01 02
 

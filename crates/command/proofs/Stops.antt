@@ -1,4 +1,5 @@
--- The test for `stop=yes` holds exactly where the contents are a sound list in which a sound 76 wrapper holds command 13 with data 01 02.
+-- The test for contents that stop a workout holds exactly where they are a sound list in which a sound 76 wrapper holds
+-- command 13 with data 01 02.
 use mathlib.Core.Path.{_≡_, refl, ap, _∙_}
 use mathlib.Core.Bool.{Bool, true, false, false≢true}
 use mathlib.Core.List.{List, [], _∷_}
@@ -7,8 +8,9 @@ use lib.Dec.{eqb}
 use borrow.Author.Tests.{eq-eqb, eqb-true}
 use Rattle.lists.specs.Choice.{pick}
 use Rattle.lists.proofs.Cases.{by-bool, both-true}
 use Rattle.command.specs.Entries.{Entry, commands, Parsed, unsound, sound, parse}
-use Rattle.text.specs.Stop.{anyOf, anyIn, isOneTwo, terminates, stopsWithin, stopsWorkout, Among, first, later, StopsWorkout}
+use Rattle.command.specs.Stop.{anyOf, anyIn, isOneTwo, terminates, stopsWithin, stopsWorkout}
+use Rattle.command.specs.Stop.{Among, first, later, StopsWorkout}
 
 -- ---- an entry that passes a test
 
@@ -91,10 +93,13 @@ found-stop contents h =
 stop-found : (contents : List ℕ) → StopsWorkout contents → stopsWorkout contents ≡ true
 unfolding stopsWorkout stopsWithin
 stop-found contents s =
-    let c : anyOf terminates (s .inner) ≡ true = among-any terminates (s .inside) (terminate-is (s .command) (s .is-13) (s .data-is)) in
-    let i : anyIn terminates (parse commands (s .wrapper .body) 0) ≡ true = sound-any terminates (parse commands (s .wrapper .body) 0) (s .inner) (s .inner-sound) c in
+    let c : anyOf terminates (s .inner) ≡ true =
+    among-any terminates (s .inside) (terminate-is (s .command) (s .is-13) (s .data-is)) in
+    let i : anyIn terminates (parse commands (s .wrapper .body) 0) ≡ true =
+    sound-any terminates (parse commands (s .wrapper .body) 0) (s .inner) (s .inner-sound) c in
     let w : stopsWithin (s .wrapper) ≡ true = simp (eq-eqb (s .wrapper .byte) 0x76 (s .is-76), i) in
     sound-any stopsWithin (parse commands contents 0) (s .top) (s .is-sound) (among-any stopsWithin (s .at-top) w)
 
-pub stops-exactly : (contents : List ℕ) → (stopsWorkout contents ≡ true → StopsWorkout contents) × (StopsWorkout contents → stopsWorkout contents ≡ true)
+pub stops-exactly : (contents : List ℕ)
+    → (stopsWorkout contents ≡ true → StopsWorkout contents) × (StopsWorkout contents → stopsWorkout contents ≡ true)
 stops-exactly contents = (found-stop contents, stop-found contents)

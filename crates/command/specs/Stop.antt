@@ -1,12 +1,12 @@
--- Contents that stop a workout (document 01, "Listing": what `stop=yes` means): a sound command list in which a 76 wrapper, itself sound,
--- holds command 13 with data 01 02.
+-- Contents that stop a workout (document 01, "Listing": what `stop=yes` means): a sound command list in which a 76
+-- wrapper, itself sound, holds command 13 with data 01 02.
 use mathlib.Core.Path.{_≡_}
 use mathlib.Core.Bool.{Bool, true, false}
 use mathlib.Core.List.{List, [], _∷_}
 use Prim.Native.Nat.{ℕ}
 use lib.Dec.{eqb}
 use Rattle.lists.specs.Choice.{pick}
 use Rattle.command.specs.Entries.{Entry, commands, Parsed, unsound, sound, parse}
 
 -- ---- as a test
 
