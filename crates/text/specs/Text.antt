@@ -6,22 +6,16 @@ use Rattle.framing.specs.Reference.{finish, Reference}
 use Rattle.framing.specs.Demand3.{feed}
 use Rattle.answer.specs.Answer.{result, refused}
 use Rattle.frame.specs.Verdict.{Verdict}
-use Rattle.line.specs.Outcome.{Outcome, nothing, judged}
+use Rattle.line.specs.Outcome.{Outcome, answersIn}
 use Rattle.line.specs.Rowing.{rowing}
 use Rattle.text.specs.Lines.{line, totals}
 use Rattle.text.specs.Strays.{strays}
 
 -- ---- answers
 
--- The answers among outcomes of calls: those that are not nothing.
-abbrev pub verdictsIn : List Outcome → List Verdict
-verdictsIn [] = []
-verdictsIn (nothing ∷ os) = verdictsIn os
-verdictsIn (judged v ∷ os) = v ∷ verdictsIn os
-
 -- The reference decoder's answers to a trace: to its bytes, and to the finish.
 abbrev pub answersTo : List ℕ → List Verdict
-answersTo trace = verdictsIn (Reference rowing (feed trace ++ finish ∷ []))
+answersTo trace = answersIn (Reference rowing (feed trace ++ finish ∷ []))
 
 -- How many answers are frames, and how many are refusals.
 abbrev pub frames : List Verdict → ℕ
@@ -50,7 +44,7 @@ text trace =
 
 -- How many frames and how many refusals a call is answered with, 1 or 0.
 abbrev pub frameOne : Outcome → ℕ
-frameOne o = frames (verdictsIn (o ∷ []))
+frameOne o = frames (answersIn (o ∷ []))
 
 abbrev pub refusedOne : Outcome → ℕ
-refusedOne o = refusals (verdictsIn (o ∷ []))
+refusedOne o = refusals (answersIn (o ∷ []))

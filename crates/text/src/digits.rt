@@ -41,7 +41,7 @@ pub(crate) fn put_hex(v: u8, out: &mut [u8], at: usize) -> usize
     at + 2
 }
 
-fn hex_digit(d: u8) -> u8
+pub(crate) fn hex_digit(d: u8) -> u8
     requires { ⌜ d ≤ 15 ⌝ }
     ensures { λ r. ⌜ r ≡ hexDigit d ⌝ }
 {

@@ -10,12 +10,19 @@ ghost use lib.ListN.{length};
 ghost use Rattle.answer.specs.Refusals.{numberOf};
 ghost use Rattle.command.specs.Stop.{stopsWorkout};
 ghost use Rattle.line.specs.Outcome.{toldMeans, outcomeOf};
-ghost use Rattle.text.specs.Lines.{field, hexField, stopText, head, callLine, totals};
-ghost use Rattle.text.specs.Lines.{refusedBody, standardBody, extendedBody};
+ghost use Rattle.text.specs.Digits.{hex};
+ghost use Rattle.text.specs.Lines.{field, hexField, stopText, head, callLine, totals, refusedBody, standardBody, extendedBody};
 ghost use Rattle.text.specs.Writing.{Wrote, lineRoom, headRoom, bodyRoom, Puts};
 
 // The room that any line fits in. A line is written only where there is so much, so no line has to be measured first.
 pub const LINE_ROOM: usize = 96;
+
+// The two upper-case hexadecimal digits of a byte.
+pub fn hex_digits(b: u8) -> [u8; 2]
+    ensures { λ r. ⌜ r ≡ hex b ⌝ }
+{
+    [digits::hex_digit(b / 16), digits::hex_digit(b % 16)]
+}
 
 // Writes the line of an answer, the n-th, at an index, and answers the index after it. The contents are the first bytes
 // of a slice, as many as the answer says. Without the room it writes nothing.

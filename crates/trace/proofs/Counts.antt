@@ -15,7 +15,7 @@ use Rattle.framing.specs.Demand3.{feed}
 use Rattle.framing.specs.Bounded.{BoundedMode, inside, overlong, BoundedReader, grownIn}
 use Rattle.answer.specs.Answer.{result, refused}
 use Rattle.frame.specs.Verdict.{Verdict}
-use Rattle.line.specs.Outcome.{Outcome, nothing, judged}
+use Rattle.line.specs.Outcome.{Outcome, nothing, judged, answersIn}
 use Rattle.line.specs.Rowing.{rowing, rowingBounds}
 use Rattle.line.specs.Reader.{modeSeen, modeIn, roleStep, stepOf, finishOf, outcomeAt, nextAfter}
 use Rattle.frame.specs.Flags.{roleOf, kindOf}
@@ -26,7 +26,7 @@ use Rattle.line.specs.declared.Mode.{Mode}
 use Rattle.line.specs.declared.Mode.the-variants.{Outside, InStandard, InExtended, Overlong}
 use Rattle.text.specs.Lines.{callLine, totals}
 use Rattle.text.specs.Strays.{strayAt, openAfter, strays}
-use Rattle.text.specs.Text.{frameOne, refusedOne, verdictsIn, frames, refusals, lines}
+use Rattle.text.specs.Text.{frameOne, refusedOne, frames, refusals, lines}
 use Rattle.text.proofs.LineLaws.{lines-more, frames-more, refusals-more}
 use Rattle.trace.specs.Machine.{add64, isOpen, numberAfter, nextOf, textOf, listingAfter, texts, lastText}
 use Rattle.trace.specs.declared.Listing.{Listing}
@@ -86,8 +86,8 @@ outcomesFrom r bytes = run outcomeAt nextAfter r (feed bytes ++ finish ∷ [])
 -- The text of answers and bytes that come after so many frames, refusals and stray bytes.
 abbrev pub Rest : (f r st : ℕ) → Bool → List Outcome → List ℕ → List ℕ
 Rest f r st o os bytes =
-    lines (f + r) (verdictsIn os)
-    ++ totals (f + frames (verdictsIn os)) (r + refusals (verdictsIn os)) (st + strays o bytes)
+    lines (f + r) (answersIn os)
+    ++ totals (f + frames (answersIn os)) (r + refusals (answersIn os)) (st + strays o bytes)
 
 same-rest : (f f′ r r′ st st′ : ℕ) (o o′ : Bool) (os : List Outcome) (bytes : List ℕ) → f ≡ f′ → r ≡ r′ → st ≡ st′
     → o ≡ o′ → Rest f r st o os bytes ≡ Rest f′ r′ st′ o′ os bytes
@@ -102,8 +102,8 @@ rest-step : (f r st : ℕ) (o : Bool) (b : ℕ) (a : Outcome) (os : List Outcome
     ++ Rest (f + frameOne a) (r + refusedOne a) (st + strayAt (roleOf b) o) (openAfter (roleOf b) o) os bytes
     ≡ Rest f r st o (a ∷ os) (b ∷ bytes)
 rest-step f r st o b a os bytes =
-    let vs : List Verdict = verdictsIn os in
-    let all : List Verdict = verdictsIn (a ∷ os) in
+    let vs : List Verdict = answersIn os in
+    let all : List Verdict = answersIn (a ∷ os) in
     let F = frames-more a os in
     let R = refusals-more a os in
     let z : ℕ = st + (strayAt (roleOf b) o + strays (openAfter (roleOf b) o) bytes) in

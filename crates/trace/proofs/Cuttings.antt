@@ -11,12 +11,12 @@ use borrow.Author.Tests.{le-ltb}
 use Rattle.lists.specs.Choice.{pick}
 use Rattle.framing.specs.Reference.{finish, Reference}
 use Rattle.framing.specs.Demand3.{feed}
-use Rattle.line.specs.Outcome.{Outcome}
+use Rattle.line.specs.Outcome.{Outcome, answersIn}
 use Rattle.line.specs.Rowing.{rowing}
 use Rattle.line.proofs.Follows.{reader-follows}
 use Rattle.text.specs.Lines.{totals}
 use Rattle.text.specs.Strays.{strays}
-use Rattle.text.specs.Text.{verdictsIn, frames, refusals, lines, text}
+use Rattle.text.specs.Text.{frames, refusals, lines, text}
 use Rattle.text.specs.Writing.{lineRoom}
 use Rattle.trace.specs.Machine.{newListing, nextOf, textOf, listingAfter, texts, takenOf, lastText, Lists}
 use Rattle.trace.specs.Cutting.{Calls, none, call, longest, WritesText, TakesSome}
@@ -60,10 +60,10 @@ calls-texts (call {s = s} chunk rest out out′ r l t) =
 
 from-zero : (os : List Outcome) (bytes : List ℕ)
     → Rest 0 0 0 false os bytes
-    ≡ lines 0 (verdictsIn os) ++ totals (frames (verdictsIn os)) (refusals (verdictsIn os)) (strays false bytes)
+    ≡ lines 0 (answersIn os) ++ totals (frames (answersIn os)) (refusals (answersIn os)) (strays false bytes)
 from-zero os bytes =
-    let x : 0 + frames (verdictsIn os) ≡ frames (verdictsIn os) = omega arith in
-    let y : 0 + refusals (verdictsIn os) ≡ refusals (verdictsIn os) = omega arith in
+    let x : 0 + frames (answersIn os) ≡ frames (answersIn os) = omega arith in
+    let y : 0 + refusals (answersIn os) ≡ refusals (answersIn os) = omega arith in
     let z : 0 + strays false bytes ≡ strays false bytes = omega arith in
     rw (x, y, z)
 

@@ -2,8 +2,6 @@
 use answer::Refusal;
 use libc::STDOUT_FILENO;
 
-const HEX_DIGITS: [u8; 16] = *b"0123456789ABCDEF";
-
 pub(crate) fn text(s: &[u8]) {
     io::write_all(STDOUT_FILENO, s);
 }
@@ -18,7 +16,7 @@ pub(crate) fn hex(s: &[u8]) {
 }
 
 pub(crate) fn hex_byte(b: u8) {
-    let digits = [hex_digit(b / 16), hex_digit(b % 16)];
+    let digits = text::hex_digits(b);
     text(&digits);
 }
 
@@ -37,9 +35,4 @@ pub(crate) fn bytes(key: &[u8], s: &[u8]) {
 // A key and a refusal's number.
 pub(crate) fn refusal(key: &[u8], why: Refusal) {
     number(key, why.number() as u64);
-}
-
-// The upper-case digit of the low four bits.
-fn hex_digit(n: u8) -> u8 {
-    HEX_DIGITS[(n % 16) as usize]
 }
