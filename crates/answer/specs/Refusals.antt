@@ -1,7 +1,10 @@
 -- Document 01, "Refusal numbers": the number of each refusal. Every meaning of an answer goes through it.
 use Prim.Native.Nat.{ℕ}
 use Rattle.answer.specs.declared.Refusal.{Refusal}
-use Rattle.answer.specs.declared.Refusal.the-variants.{NoRoom, TooLong, BadEscape, TooShort, BadChecksum, Truncated, BadCount, BadStatus, BadAddress, AlreadyHeld, NotHolder, OutOfLimits, NotWorkout, ZeroToken, Absent, BadTable}
+use Rattle.answer.specs.declared.Refusal.the-variants.{NoRoom, TooLong, BadEscape, TooShort, BadChecksum}
+use Rattle.answer.specs.declared.Refusal.the-variants.{Truncated, BadCount, BadStatus, BadAddress, AlreadyHeld}
+use Rattle.answer.specs.declared.Refusal.the-variants.{NotHolder, OutOfLimits, NotWorkout, ZeroToken, Absent}
+use Rattle.answer.specs.declared.Refusal.the-variants.{BadTable}
 
 abbrev pub numberOf : Refusal → ℕ
 numberOf NoRoom = 1

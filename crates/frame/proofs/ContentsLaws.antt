@@ -1,7 +1,8 @@
 -- Laws of a sound body's contents, copied out or brought to the front of the body itself.
 use borrow.Author.Tests.{leb-true}
 use lib.ListN.{length-drop, length, getD, take, drop, length-append, take-append-drop}
-use Rattle.frame.specs.Verdict.{judge, judgeBytes, frameIn, addressCount, lastOf, contentsIn, Verdict, bodyOf, isTerminated, verdict}
+use Rattle.frame.specs.Verdict.{judge, judgeBytes, frameIn, addressCount, lastOf, contentsIn, Verdict, bodyOf}
+use Rattle.frame.specs.Verdict.{isTerminated, verdict}
 use Rattle.frame.specs.Flags.{kindOf}
 use Rattle.answer.specs.Answer.{result, refused}
 use Prim.Native.Nat.{_-_, ℕ, _+_, _≤_}

@@ -1,7 +1,9 @@
 -- Which verdict is given exactly when: document 01's table of refusals, and demand 2's "accepted exactly when".
 use Rattle.frame.specs.Frame.{contentsOf, Frame}
 use Rattle.frame.specs.Answers.{readAnswer, FrameOutline}
-use Rattle.frame.specs.Conditions.{ReadJudged, refusedBy, noRoom, fits, Terminated, WithinLimit, EscapesSound, Unstuffs, none, plain, escape, fewest, SoundFrame, Judged, truncated, long, badEscape as badEscapes, short, badSum, sound}
+use Rattle.frame.specs.Conditions.{ReadJudged, refusedBy, noRoom, fits, Terminated, WithinLimit, EscapesSound}
+use Rattle.frame.specs.Conditions.{Unstuffs, none, plain, escape, fewest, SoundFrame, Judged, truncated, long}
+use Rattle.frame.specs.Conditions.{badEscape as badEscapes, short, badSum, sound}
 use Prim.Native.Nat.{ℕ, zero, suc, _+_, _≤_}
 use mathlib.Core.Path.{_≡_, refl, sym, ap, _∙_, subst}
 use mathlib.Core.Bool.{Bool, true, false, true≢false}
@@ -15,12 +17,15 @@ use Rattle.lists.proofs.Cases.{by-bool}
 use Rattle.frame.specs.Flags.{kindOf}
 use Rattle.frame.specs.Stuffing.{Unstuffed, badEscape, bytes, prepend, unstuff}
 use Rattle.frame.specs.Checksum.{checksum}
-use Rattle.frame.specs.Verdict.{Verdict, addressCount, contentsIn, lastOf, frameIn, judge, bodyOf, isTerminated, verdict}
+use Rattle.frame.specs.Verdict.{Verdict, addressCount, contentsIn, lastOf, frameIn, judge, bodyOf, isTerminated}
+use Rattle.frame.specs.Verdict.{verdict}
 use Rattle.answer.specs.Answer.{result, refused, Answer}
 use Rattle.frame.specs.declared.Kind.{Kind}
 use Rattle.frame.specs.declared.Kind.the-variants.{Standard, Extended}
 use Rattle.frame.proofs.StuffingLaws.{prepend-inv}
-use Rattle.frame.proofs.VerdictLaws.{whole-length, whole-terminated, whole-verdict, terminated-means, terminated-whole, verdict-truncated, judge-long, judge-escape, judge-short, judge-sum, judge-sound}
+use Rattle.frame.proofs.VerdictLaws.{whole-length, whole-terminated, whole-verdict, terminated-means}
+use Rattle.frame.proofs.VerdictLaws.{terminated-whole, verdict-truncated, judge-long, judge-escape, judge-short}
+use Rattle.frame.proofs.VerdictLaws.{judge-sum, judge-sound}
 use Rattle.frame.proofs.FlagLaws.{flagless-free, free-flagless}
 
 -- ---- the conditions, and what the definitions compute

@@ -17,11 +17,13 @@ use Rattle.frame.specs.Flags.{isFlag, flagless, kindOf, startFlag}
 use Rattle.frame.specs.Stuffing.{isStuffed, Unstuffed, badEscape, bytes, prepend, unstuff}
 use Rattle.frame.specs.Checksum.{sumFrom, checksum}
 use Rattle.frame.specs.Frame.{Frame, contentsOf}
-use Rattle.frame.specs.Verdict.{Verdict, addressCount, contentsIn, lastOf, frameIn, judgeBytes, judge, bodyOf, isTerminated, verdict}
+use Rattle.frame.specs.Verdict.{Verdict, addressCount, contentsIn, lastOf, frameIn, judgeBytes, judge, bodyOf}
+use Rattle.frame.specs.Verdict.{isTerminated, verdict}
 use Rattle.answer.specs.Answer.{result, refused}
 use Rattle.answer.specs.Draft.{draftOut}
 use Rattle.frame.specs.Answers.{outlineOf, judgeAnswer, readAnswer, readOut}
-use Rattle.frame.specs.Private.{isBounded, frameOf, headerKind, headed, readAs, scanFrom, unstuffedBytes, SoundAt, Unescaped, UnescapedAfter, Examines, judgeWhole, ExaminesWhole}
+use Rattle.frame.specs.Private.{isBounded, frameOf, headerKind, headed, readAs, scanFrom, unstuffedBytes, SoundAt}
+use Rattle.frame.specs.Private.{Unescaped, UnescapedAfter, Examines, judgeWhole, ExaminesWhole}
 use Rattle.frame.specs.declared.Kind.{Kind}
 use Rattle.frame.specs.declared.Kind.the-variants.{Extended}
 use Rattle.frame.specs.declared.Header.{Header}

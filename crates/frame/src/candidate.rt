@@ -12,7 +12,9 @@ ghost use lib.ListN.{length, getD, take, drop};
 ghost use Rattle.lists.specs.Choice.{pick, within, countOf};
 ghost use Rattle.frame.specs.Stuffing.{unstuff, prepend};
 ghost use Rattle.frame.specs.Checksum.{checksum};
-ghost use Rattle.frame.specs.Private.{isBounded, nextAt, scanFrom, isSound, goodPair, lowerByte, lowered, unstuffedBytes, headerKind, AddressesIn, Unescaped, Examines, ExaminesWhole};
+ghost use Rattle.frame.specs.Private.{isBounded, nextAt, scanFrom, isSound, goodPair, lowerByte, lowered};
+ghost use Rattle.frame.specs.Private.{unstuffedBytes, headerKind, AddressesIn, Unescaped, Examines};
+ghost use Rattle.frame.specs.Private.{ExaminesWhole};
 
 // The most bytes that may stand between the flags.
 const BODY_LIMIT: usize = 118;

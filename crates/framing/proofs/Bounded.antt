@@ -14,9 +14,12 @@ use borrow.Author.Tests.{ltb-true, ltb-false}
 use Rattle.lists.specs.Choice.{pick}
 use Rattle.lists.specs.Machine.{Turn, run, Answered}
 use Rattle.lists.proofs.Machines.{ran-run}
-use Rattle.framing.specs.Reference.{Call, byte, finish, Role, starts, stops, plain, FlagFree, Candidate, none, opened, Protocol, byteAnswer, byteAfter, endAnswer, answerTo, candidateAfter, Reference}
+use Rattle.framing.specs.Reference.{Call, byte, finish, Role, starts, stops, plain, FlagFree, Candidate, none}
+use Rattle.framing.specs.Reference.{opened, Protocol, byteAnswer, byteAfter, endAnswer, answerTo, candidateAfter}
+use Rattle.framing.specs.Reference.{Reference}
 use Rattle.framing.specs.Demand3.{Follows, Demand3}
-use Rattle.framing.specs.Bounded.{BoundedMode, outside, inside, overlong, BoundedReader, bounded, Bounds, Suits, truncatedIn, terminatedIn, leftIn, grownIn, byteTurn, boundedTurn}
+use Rattle.framing.specs.Bounded.{BoundedMode, outside, inside, overlong, BoundedReader, bounded, Bounds, Suits}
+use Rattle.framing.specs.Bounded.{truncatedIn, terminatedIn, leftIn, grownIn, byteTurn, boundedTurn}
 use Rattle.framing.proofs.Restart.{follows, demand3-of}
 
 -- bytes that are no flags, and one more

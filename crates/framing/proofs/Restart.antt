@@ -5,7 +5,8 @@ use mathlib.Core.List.{List, [], _∷_, _++_}
 use native.Mathlib.Omega.{arith}
 use Prim.Native.Nat.{ℕ}
 use lib.ListN.{drop}
-use Rattle.framing.specs.Reference.{Call, byte, Role, starts, stops, plain, Candidate, none, opened, Protocol, byteAnswer, byteAfter, answerTo, candidateAfter, Reference, FlagFree}
+use Rattle.framing.specs.Reference.{Call, byte, Role, starts, stops, plain, Candidate, none, opened, Protocol}
+use Rattle.framing.specs.Reference.{byteAnswer, byteAfter, answerTo, candidateAfter, Reference, FlagFree}
 use Rattle.lists.specs.Machine.{run, leftAfter}
 use Rattle.framing.specs.Demand3.{feed, LeftOpen, Restarts, Follows, Demand3}
 use Rattle.lists.proofs.Machines.{run-append, left-append, runs-anew, simulates}

@@ -14,7 +14,8 @@ use Rattle.answer.specs.Draft.{writtenMeans}
 use Rattle.answer.specs.declared.Written.{Written}
 use Rattle.lease.specs.Lease.{LeaseCall, hold, release, stop, tableAnswer, tableAfter, lentAnswer, lentAfter}
 use Rattle.lease.specs.Answers.{leaseMeans, writtenLength, outAfter, stopTold}
-use Rattle.lease.specs.History.{newTable, newBytes, answersOn, tableOn, lentAnswersOn, lentOn, Tokens, TokenFits, callsAt, answersAt}
+use Rattle.lease.specs.History.{newTable, newBytes, answersOn, tableOn, lentAnswersOn, lentOn, Tokens, TokenFits}
+use Rattle.lease.specs.History.{callsAt, answersAt}
 use Rattle.lease.specs.declared.LeaseTable.{LeaseTable}
 use Rattle.lease.specs.declared.Leased.{Leased}
 use Rattle.lease.specs.declared.LeaseAnswer.{LeaseAnswer}

@@ -13,8 +13,10 @@ use Rattle.lists.specs.Choice.{pick}
 use Rattle.lists.proofs.Cases.{by-bool}
 use Rattle.lists.proofs.Machines.{left-append}
 use Rattle.answer.specs.Answer.{result, refused}
-use Rattle.lease.specs.Lease.{LeaseCall, hold, release, stop, addressOf, inRange, answerOf, ifAccepted, heldAfter, tableAfter}
-use Rattle.lease.specs.History.{newTable, tableOn, both, isToken, takes, frees, holderAfter, holderFrom, holder, releasedIn, HeldBy}
+use Rattle.lease.specs.Lease.{LeaseCall, hold, release, stop, addressOf, inRange, answerOf, ifAccepted, heldAfter}
+use Rattle.lease.specs.Lease.{tableAfter}
+use Rattle.lease.specs.History.{newTable, tableOn, both, isToken, takes, frees, holderAfter, holderFrom, holder}
+use Rattle.lease.specs.History.{releasedIn, HeldBy}
 use Rattle.lease.proofs.LeaseLaws.{range-means, stop-held}
 
 -- ---- one call at one address

@@ -20,7 +20,9 @@ use Rattle.frame.specs.Checksum.{sumFrom}
 use Rattle.frame.specs.Frame.{wireOf, payload, addressesOf, contentsOf, extended}
 use Rattle.frame.specs.Answers.{frameDraft}
 use Rattle.frame.proofs.WireLaws.{draft-fits}
-use Rattle.lease.specs.Lease.{LeaseCall, hold, release, stop, addressOf, tokenOf, inRange, owns, stopFrame, answerOf, leaves, ifAccepted, heldAfter, tableAnswer, tableAfter, tableOf, lentAnswer, lentAfter}
+use Rattle.lease.specs.Lease.{LeaseCall, hold, release, stop, addressOf, tokenOf, inRange, owns, stopFrame}
+use Rattle.lease.specs.Lease.{answerOf, leaves, ifAccepted, heldAfter, tableAnswer, tableAfter, tableOf}
+use Rattle.lease.specs.Lease.{lentAnswer, lentAfter}
 use Rattle.lease.specs.Answers.{writtenLength, outAfter}
 use Rattle.lease.specs.Contracts.{TableCall, Real, LentCall}
 use Rattle.lease.specs.Private.{Settles, settled, settledLent}

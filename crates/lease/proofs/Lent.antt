@@ -12,12 +12,16 @@ use borrow.Author.Tests.{ltb-true, ltb-false, eqb-true, eqb-false}
 use Rattle.lists.proofs.Cases.{by-bool}
 use Rattle.lists.proofs.Machines.{simulates-every}
 use Rattle.numbers.specs.Number.{number, numbers, put, bytesOfAll, Bytes}
-use Rattle.numbers.proofs.Numbers.{length-numbers, numbers-put, number-bound, put-out, length-put, put-bytes, bytes-numbers, put-before, put-after}
+use Rattle.numbers.proofs.Numbers.{length-numbers, numbers-put, number-bound, put-out, length-put, put-bytes}
+use Rattle.numbers.proofs.Numbers.{bytes-numbers, put-before, put-after}
 use Rattle.answer.specs.Answer.{result, refused, Answer}
-use Rattle.lease.specs.Lease.{LeaseCall, hold, release, stop, addressOf, answerOf, leaves, ifAccepted, heldAfter, tableAnswer, tableAfter, tableOf, lentAnswer, lentAfter}
-use Rattle.lease.specs.History.{newTable, newBytes, tableOn, answersOn, lentOn, lentAnswersOn, Tokens, TokenFits, callsAt, answersAt, holder}
+use Rattle.lease.specs.Lease.{LeaseCall, hold, release, stop, addressOf, answerOf, leaves, ifAccepted, heldAfter}
+use Rattle.lease.specs.Lease.{tableAnswer, tableAfter, tableOf, lentAnswer, lentAfter}
+use Rattle.lease.specs.History.{newTable, newBytes, tableOn, answersOn, lentOn, lentAnswersOn, Tokens, TokenFits}
+use Rattle.lease.specs.History.{callsAt, answersAt, holder}
 use Rattle.lease.specs.Statements.{Sends}
-use Rattle.lease.proofs.LeaseLaws.{after-refused, stop-held, token-lent, lent-answer, lent-bytes, lent-size, keeps-table, keeps-lent}
+use Rattle.lease.proofs.LeaseLaws.{after-refused, stop-held, token-lent, lent-answer, lent-bytes, lent-size}
+use Rattle.lease.proofs.LeaseLaws.{keeps-table, keeps-lent}
 use Rattle.lease.proofs.HistoryLaws.{history}
 use Rattle.lease.proofs.Isolation.{isolation}
 use Rattle.lease.proofs.Stops.{stop-exactly, wrong-or-free}

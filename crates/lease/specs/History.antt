@@ -9,7 +9,8 @@ use lib.ListN.{replicate}
 use Rattle.lists.specs.Choice.{pick, Every}
 use Rattle.lists.specs.Machine.{run, leftAfter, only, answersOnly}
 use Rattle.answer.specs.Answer.{Answer}
-use Rattle.lease.specs.Lease.{LeaseCall, hold, release, stop, addressOf, tokenOf, inRange, tableAnswer, tableAfter, lentAnswer, lentAfter}
+use Rattle.lease.specs.Lease.{LeaseCall, hold, release, stop, addressOf, tokenOf, inRange, tableAnswer}
+use Rattle.lease.specs.Lease.{tableAfter, lentAnswer, lentAfter}
 
 -- ---- runs: the first call first
 

@@ -3,7 +3,8 @@ use mathlib.Core.Path.{_≡_, refl, sym, subst}
 use mathlib.Core.List.{List, [], _∷_, _++_}
 use native.Mathlib.Omega.{arith}
 use Prim.Native.Nat.{ℕ}
-use Rattle.framing.specs.Reference.{Call, byte, finish, Role, starts, stops, plain, Candidate, none, opened, byteAnswer, answerTo, candidateAfter}
+use Rattle.framing.specs.Reference.{Call, byte, finish, Role, starts, stops, plain, Candidate, none, opened, byteAnswer}
+use Rattle.framing.specs.Reference.{answerTo, candidateAfter}
 use Rattle.lists.specs.Choice.{Every}
 use Rattle.lists.specs.Machine.{run}
 use Rattle.framing.proofs.Restart.{as-new}

@@ -13,7 +13,8 @@ use Rattle.frame.specs.declared.Kind.{Kind}
 use Rattle.frame.specs.declared.Kind.the-variants.{Standard, Extended}
 use Rattle.line.specs.Outcome.{nothing, room}
 use Rattle.line.specs.Rowing.{rowing, rowingBounds}
-use Rattle.line.specs.Reader.{lentReader, reader, modeSeen, modeIn, seen, readerSeen, roleStep, turnOf, LentStepIs}
+use Rattle.line.specs.Reader.{lentReader, reader, modeSeen, modeIn, seen, readerSeen, roleStep, turnOf}
+use Rattle.line.specs.Reader.{LentStepIs}
 use Rattle.line.specs.Private.{withByte, isHeld}
 use Rattle.line.specs.declared.State.{State}
 use Rattle.line.specs.declared.LineReader.{LineReader}

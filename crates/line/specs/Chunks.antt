@@ -1,5 +1,5 @@
 -- A stream cut into chunks, each starting right after the last byte taken, beside its bytes fed singly.
-use mathlib.Core.List.{List, [], _∷_, _++_}
+use mathlib.Core.List.{List, [], _++_}
 use lib.ListN.{drop}
 use Prim.Native.Nat.{ℕ}
 use Rattle.lists.specs.Machine.{leftAfter}

@@ -1,5 +1,6 @@
-// Lists a trace: standard input, at most 4,294,967,295 bytes, as a line for each answer and the totals (document 01, "Listing").
-// Input is read and output is written in pieces of up to 65,536 bytes. What is written is what `trace` proves of any cutting.
+// Lists a trace: standard input, at most 4,294,967,295 bytes, as a line for each answer and the totals (document 01,
+// "Listing"). Input is read and output is written in pieces of up to 65,536 bytes. What is written is what `trace`
+// proves of any cutting.
 ghost use Prim.Native.Nat.{_≤_};
 ghost use lib.ListN.{length};
 ghost use Rattle.text.specs.Writing.{lineRoom};

@@ -14,7 +14,8 @@ use Rattle.lists.proofs.Splices.{length-splice, splice-next, set-splice}
 use Rattle.command.specs.Entries.{entry, items, entryBytes, Parsed, unsound, sound, parse, nthIn, Extent}
 use Rattle.command.specs.Answers.{counted}
 use Rattle.reply.specs.Status.{status, soundStatus, statusIn, statusMeans, StatusParts}
-use Rattle.reply.specs.Replies.{reply, headIn, afterStatus, replyIn, replyOutline, replyAnswer, itemOf, nthItem, statusDraft, withItem, afterReply, itemDraft, Reply}
+use Rattle.reply.specs.Replies.{reply, headIn, afterStatus, replyIn, replyOutline, replyAnswer, itemOf, nthItem}
+use Rattle.reply.specs.Replies.{statusDraft, withItem, afterReply, itemDraft, Reply}
 use Rattle.reply.specs.declared.status.StatusRead.{StatusRead}
 
 -- ---- the status at the head

@@ -16,7 +16,8 @@ ghost use Rattle.answer.specs.Answer.{result};
 ghost use Rattle.answer.specs.Draft.{draftAnswer, draftOut, writtenMeans};
 ghost use Rattle.command.specs.Answers.{foundMeans, partOf};
 ghost use Rattle.reply.specs.Status.{statusMeans, partsOf};
-ghost use Rattle.reply.specs.Replies.{headIn, replyIn, replyMeans, replyAnswer, nthItem, statusDraft, withItem, itemDraft, afterStatus};
+ghost use Rattle.reply.specs.Replies.{headIn, replyIn, replyMeans, replyAnswer, nthItem, statusDraft, withItem};
+ghost use Rattle.reply.specs.Replies.{itemDraft, afterStatus};
 ghost use Rattle.command.specs.Entries.{parse, items};
 
 // Item bytes below this have a count: every one.

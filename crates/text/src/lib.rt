@@ -11,7 +11,8 @@ ghost use Rattle.answer.specs.Refusals.{numberOf};
 ghost use Rattle.command.specs.Stop.{stopsWorkout};
 ghost use Rattle.line.specs.Outcome.{toldMeans, outcomeOf};
 ghost use Rattle.text.specs.Digits.{hex};
-ghost use Rattle.text.specs.Lines.{field, hexField, stopText, head, callLine, totals, refusedBody, standardBody, extendedBody};
+ghost use Rattle.text.specs.Lines.{field, hexField, stopText, head, callLine, totals, refusedBody, standardBody};
+ghost use Rattle.text.specs.Lines.{extendedBody};
 ghost use Rattle.text.specs.Writing.{Wrote, lineRoom, headRoom, bodyRoom, Puts};
 
 // The room that any line fits in. A line is written only where there is so much, so no line has to be measured first.

@@ -1,4 +1,5 @@
--- The listing of the functions themselves: any run of calls, known by nothing but what the contracts tell a caller, writes the text of the trace.
+-- The listing of the functions themselves: any run of calls, known by nothing but what the contracts tell a caller,
+-- writes the text of the trace.
 use mathlib.Core.Path.{_≡_, refl, subst}
 use mathlib.Core.List.{List, [], _++_}
 use Prim.Native.Nat.{ℕ, _≤_, _<_}
@@ -16,11 +17,14 @@ use Rattle.trace.proofs.new.Reads as new-reads
 use Rattle.trace.proofs.list.Reads as list-reads
 use Rattle.trace.proofs.finish.Reads as finish-reads
 
--- Calls of `list` in a row, each on the state that the last one left, lent a chunk at the front of the bytes that are left and any output.
+-- Calls of `list` in a row, each on the state that the last one left, lent a chunk at the front of the bytes that are
+-- left and any output.
 pub data Ran : Listing → (bytes written : List ℕ) → Listing → Type 0 where
   stopped : {s : Listing} → Ran s [] [] s
-  listed : {s s′ : Listing} {written : List ℕ} (κs : Lfts 2) (chunk chunk′ out out′ : RefT (List ℕ)) (rest : List ℕ) (r : Listed)
-      → list-reads.Learnt κs (s, (chunk, (out, tt))) r (s, (chunk′, (out′, tt))) → Ran (r .next) (drop (r .taken) (chunk .now) ++ rest) written s′
+  listed : {s s′ : Listing} {written : List ℕ} (κs : Lfts 2) (chunk chunk′ out out′ : RefT (List ℕ)) (rest : List ℕ)
+      (r : Listed)
+      → list-reads.Learnt κs (s, (chunk, (out, tt))) r (s, (chunk′, (out′, tt)))
+      → Ran (r .next) (drop (r .taken) (chunk .now) ++ rest) written s′
       → Ran s (chunk .now ++ rest) (take (r .wrote) (out′ .now) ++ written) s′
 
 ran : {s s′ : Listing} {bytes written : List ℕ} → Ran s bytes written s′ → Calls s bytes written s′
@@ -28,22 +32,26 @@ ran stopped = none
 ran (listed κs chunk chunk′ out out′ rest r l t) = call (chunk .now) rest (out .now) (out′ .now) r l (ran t)
 
 -- `new`, calls of `list` over the whole trace, and a `finish` with room.
-pub calls-write-text : (trace : List ℕ) → length trace ≤ longest → (s : Listing) → new-reads.Learnt tt tt s tt → (s′ : Listing) (before : List ℕ) → Ran s trace before s′
-    → (κs : Lfts 1) (out out′ : RefT (List ℕ)) (wrote : ℕ) → lastRoom ≤ length (out .now) → finish-reads.Learnt κs (s′, (out, tt)) wrote (s′, (out′, tt))
+pub calls-write-text : (trace : List ℕ) → length trace ≤ longest → (s : Listing) → new-reads.Learnt tt tt s tt
+    → (s′ : Listing) (before : List ℕ) → Ran s trace before s′
+    → (κs : Lfts 1) (out out′ : RefT (List ℕ)) (wrote : ℕ) → lastRoom ≤ length (out .now)
+    → finish-reads.Learnt κs (s′, (out, tt)) wrote (s′, (out′, tt))
     → before ++ take wrote (out′ .now) ≡ text trace
-calls-write-text trace h s n s′ before t κs out out′ wrote room e = writes-text trace (before ++ take wrote (out′ .now)) h (record {
-  state = s′;
-  before = before;
-  calls = subst (λ (u : Listing). Calls u trace before s′) n (ran t);
-  out = out .now;
-  out′ = out′ .now;
-  wrote = wrote;
-  room = room;
-  ends = e;
-  all = refl;
-})
+calls-write-text trace h s n s′ before t κs out out′ wrote room e =
+    writes-text trace (before ++ take wrote (out′ .now)) h (record {
+      state = s′;
+      before = before;
+      calls = subst (λ (u : Listing). Calls u trace before s′) n (ran t);
+      out = out .now;
+      out′ = out′ .now;
+      wrote = wrote;
+      room = room;
+      ends = e;
+      all = refl;
+    })
 
 -- A call of `list` with a byte to take and room for any line takes a byte.
-pub call-takes-some : (s : Listing) (κs : Lfts 2) (chunk chunk′ out out′ : RefT (List ℕ)) (r : Listed) → 0 < length (chunk .now) → lineRoom ≤ length (out .now)
+pub call-takes-some : (s : Listing) (κs : Lfts 2) (chunk chunk′ out out′ : RefT (List ℕ)) (r : Listed)
+    → 0 < length (chunk .now) → lineRoom ≤ length (out .now)
     → list-reads.Learnt κs (s, (chunk, (out, tt))) r (s, (chunk′, (out′, tt))) → 0 < r .taken
 call-takes-some s κs chunk chunk′ out out′ r h room l = takes-some s (chunk .now) (out .now) (out′ .now) r h room l

@@ -40,8 +40,10 @@ part-rest chunk i = take-all (length chunk - i) (drop i chunk) (omega (arith, le
 taken-stop : (t : Bool) (n i : ℕ) → t ≡ true → i + pick t 0 (1 + n) ≡ i
 taken-stop t n i e = rw e (omega arith)
 
-module _ (s₀ : Listing) (chunk out₀ : List ℕ) (s : Listing) (out : List ℕ) (at i : ℕ) (g : Going s₀ chunk out₀ s out at i) where
-  pub going-more : at ≤ length out₀ → lineRoom ≤ length out₀ - at → (bytes out′ : List ℕ) (r : Advanced) → Advances s (drop i chunk) bytes out at out′ r
+module _ (s₀ : Listing) (chunk out₀ : List ℕ) (s : Listing) (out : List ℕ) (at i : ℕ)
+    (g : Going s₀ chunk out₀ s out at i) where
+  pub going-more : at ≤ length out₀ → lineRoom ≤ length out₀ - at → (bytes out′ : List ℕ) (r : Advanced)
+      → Advances s (drop i chunk) bytes out at out′ r
       → Going s₀ chunk out₀ (listing bytes (r .tally)) out′ (r .at) (i + r .taken)
   going-more k room bytes out′ r t =
       let n : ℕ = r .taken in
@@ -54,7 +56,9 @@ module _ (s₀ : Listing) (chunk out₀ : List ℕ) (s : Listing) (out : List �
       ∙ ap (texts s₀) (sym e) in
       let m : length out₀ - at - length (t .text) ≡ length out₀ - r .at = omega (arith, t .wrote .ends) in
       record {
-        state = t .leads .state ∙ ap (λ (u : Listing). listingAfter u (take n (drop i chunk))) (g .state) ∙ sym (after-append s₀ (take i chunk) (take n (drop i chunk))) ∙ ap (listingAfter s₀) (sym e);
+        state =
+            t .leads .state ∙ ap (λ (u : Listing). listingAfter u (take n (drop i chunk))) (g .state)
+            ∙ sym (after-append s₀ (take i chunk) (take n (drop i chunk))) ∙ ap (listingAfter s₀) (sym e);
         wrote = wrote-as tx (next (g .wrote) (t .wrote) k);
         taken = g .taken
             ∙ ap (λ (x : ℕ). i + x) (t .leads .taken (length out₀ - at) room)
@@ -63,20 +67,35 @@ module _ (s₀ : Listing) (chunk out₀ : List ℕ) (s : Listing) (out : List �
             ∙ ap (λ (x : ℕ). i + n + takenOf s′ (drop (i + n) chunk) x) m;
       }
 
-  lists : i ≤ length chunk → at ≤ length out₀ → takenOf s₀ chunk (length out₀) ≡ i → (r : Listed) → r ≡ listedOf i at s → Lists s₀ chunk out₀ out r
+  lists : i ≤ length chunk → at ≤ length out₀ → takenOf s₀ chunk (length out₀) ≡ i → (r : Listed) → r ≡ listedOf i at s
+      → Lists s₀ chunk out₀ out r
   lists hi ha e r q =
-      let w : (at ≡ length (texts s₀ (take i chunk))) × (out ≡ texts s₀ (take i chunk) ++ drop at out₀) = wrote-first (g .wrote) in
-      subst (λ (u : Listed). Lists s₀ chunk out₀ out u) (sym q) (record { taken-is = sym e; next-is = g .state; wrote-is = w .0; out-is = w .1; taken-fits = hi; wrote-fits = ha })
+      let w : (at ≡ length (texts s₀ (take i chunk))) × (out ≡ texts s₀ (take i chunk) ++ drop at out₀) =
+      wrote-first (g .wrote) in
+      subst (λ (u : Listed). Lists s₀ chunk out₀ out u) (sym q)
+      (record {
+        taken-is = sym e;
+        next-is = g .state;
+        wrote-is = w .0;
+        out-is = w .1;
+        taken-fits = hi;
+        wrote-fits = ha;
+      })
 
-  pub going-stop : i < length chunk → at ≤ length out₀ → length out₀ - at < lineRoom → (r : Listed) → r ≡ listedOf i at s → Lists s₀ chunk out₀ out r
+  pub going-stop : i < length chunk → at ≤ length out₀ → length out₀ - at < lineRoom → (r : Listed)
+      → r ≡ listedOf i at s → Lists s₀ chunk out₀ out r
   going-stop h ha room r q =
       lists (omega arith) ha
       (g .taken
       ∙ ap (λ (l : List ℕ). i + takenOf s l (length out₀ - at)) (drop-cons chunk i 0 h)
-      ∙ taken-stop (ltb (length out₀ - at) lineRoom) (takenOf (nextOf s (getD chunk i 0)) (drop (suc i) chunk) (length out₀ - at - length (textOf s (getD chunk i 0)))) i (lt-ltb (length out₀ - at) lineRoom room))
+      ∙ taken-stop (ltb (length out₀ - at) lineRoom)
+      (takenOf (nextOf s (getD chunk i 0)) (drop (suc i) chunk) (length out₀ - at - length (textOf s (getD chunk i 0))))
+      i (lt-ltb (length out₀ - at) lineRoom room))
       r q
 
   pub going-end : i ≡ length chunk → at ≤ length out₀ → (r : Listed) → r ≡ listedOf i at s → Lists s₀ chunk out₀ out r
   going-end h ha r q =
       let z : i + 0 ≡ i = omega arith in
-      lists (omega arith) ha (g .taken ∙ ap (λ (l : List ℕ). i + takenOf s l (length out₀ - at)) (ap (λ (n : ℕ). drop n chunk) h ∙ drop-length chunk) ∙ z) r q
+      lists (omega arith) ha (g .taken
+      ∙ ap (λ (l : List ℕ). i + takenOf s l (length out₀ - at)) (ap (λ (n : ℕ). drop n chunk) h ∙ drop-length chunk)
+      ∙ z) r q

@@ -22,12 +22,14 @@ use Rattle.text.specs.Text.{frameOne, refusedOne}
 use Rattle.text.specs.Writing.{Wrote, lineRoom}
 use Rattle.text.proofs.Writing.{wrote-as}
 use Rattle.trace.specs.Private.{Leads, Advances, strayCount, listing}
-use Rattle.trace.specs.Machine.{frameCount, refusedCount, isOpen, add64, numberAfter, nextOf, textOf, texts, takenOf}
+use Rattle.trace.specs.Machine.{frameCount, refusedCount, isOpen, add64, numberAfter, nextOf, textOf, texts}
+use Rattle.trace.specs.Machine.{takenOf}
 use Rattle.trace.specs.declared.Listing.{Listing}
 use Rattle.trace.specs.declared.Tally.{Tally}
 use Rattle.trace.proofs.AnswerLaws.{frame-count, refused-count, add-none}
 use Rattle.trace.proofs.Counts.{open-is}
 use Rattle.trace.proofs.StrayLaws.{stray-count-is}
+use Rattle.answer.specs.Answer.{refused}
 
 -- ---- no byte, one byte, and one without a line before others
 
@@ -47,10 +49,13 @@ lead-one s b bytes = record {
   fits = omega arith;
   state = refl;
   text = sym (append-nil (textOf s b));
-  taken = λ room h. taken-more (ltb room lineRoom) (takenOf (nextOf s b) bytes (room - length (textOf s b))) (le-ltb room lineRoom h);
+  taken =
+      λ room h. taken-more (ltb room lineRoom) (takenOf (nextOf s b) bytes (room - length (textOf s b)))
+      (le-ltb room lineRoom h);
 }
 
-lead-on : (s : Listing) (b : ℕ) (bytes : List ℕ) (n : ℕ) (s′ : Listing) (w : List ℕ) → textOf s b ≡ [] → Leads (nextOf s b) bytes n s′ w → Leads s (b ∷ bytes) (1 + n) s′ w
+lead-on : (s : Listing) (b : ℕ) (bytes : List ℕ) (n : ℕ) (s′ : Listing) (w : List ℕ) → textOf s b ≡ []
+    → Leads (nextOf s b) bytes n s′ w → Leads s (b ∷ bytes) (1 + n) s′ w
 lead-on s b bytes n s′ w e l =
     let m : 1 + n ≡ suc n = omega arith in
     record {
@@ -59,7 +64,8 @@ lead-on s b bytes n s′ w e l =
       text = rw m (l .text ∙ ap (λ (x : List ℕ). x ++ texts (nextOf s b) (take n bytes)) (sym e));
       taken = λ room h.
           let z : room - 0 ≡ room = omega arith in
-          taken-more (ltb room lineRoom) (takenOf (nextOf s b) bytes (room - length (textOf s b))) (le-ltb room lineRoom h)
+          taken-more (ltb room lineRoom) (takenOf (nextOf s b) bytes (room - length (textOf s b)))
+          (le-ltb room lineRoom h)
           ∙ ap (λ (x : List ℕ). 1 + takenOf (nextOf s b) bytes (room - length x)) e
           ∙ ap (λ (k : ℕ). 1 + takenOf (nextOf s b) bytes k) z
           ∙ ap (λ (k : ℕ). 1 + k) (l .taken room h)
@@ -75,30 +81,57 @@ CountsFit s = (s .frames < 2 ^ 64) × (s .refused < 2 ^ 64) × (s .stray < 2 ^ 6
 
 -- The state after an answer and so many stray bytes, with the reader left.
 abbrev counting : Listing → Outcome → LineReader → ℕ → Listing
-counting s o r n = record { reader = r; frames = add64 (s .frames) (frameOne o); refused = add64 (s .refused) (refusedOne o); stray = add64 (s .stray) n }
+counting s o r n =
+    record {
+      reader = r;
+      frames = add64 (s .frames) (frameOne o);
+      refused = add64 (s .refused) (refusedOne o);
+      stray = add64 (s .stray) n;
+    }
 
 -- The first bytes, as many as are fed, take a state to the one that the answer gives, and their text is its line.
 abbrev LeadsTo : Listing → List ℕ → ChunkTurn → Type 0
 LeadsTo s bytes f =
-    Leads s bytes (f .taken) (counting s (f .answer) (f .next) (strays (isOpen (s .reader .state .mode)) (take (f .taken) bytes))) (callLine (numberAfter (s .frames) (s .refused)) (f .answer))
+    Leads s bytes (f .taken)
+    (counting s (f .answer) (f .next) (strays (isOpen (s .reader .state .mode)) (take (f .taken) bytes)))
+    (callLine (numberAfter (s .frames) (s .refused)) (f .answer))
 
 unanswered : (o : Outcome) → isAnswer o ≡ false → o ≡ nothing
 unanswered nothing e = refl
 unanswered (judged v) e = let z : _≡_ {A = ℕ} 0 1 = cc in absurd (omega arith)
 
 counting-none : (s : Listing) → CountsFit s → s ≡ counting s nothing (s .reader) 0
-counting-none s h = λ i. record { reader = s .reader; frames = add-none (s .frames) (h .0) i; refused = add-none (s .refused) (h .1) i; stray = add-none (s .stray) (h .2) i }
+counting-none s h =
+    λ i. record {
+      reader = s .reader;
+      frames = add-none (s .frames) (h .0) i;
+      refused = add-none (s .refused) (h .1) i;
+      stray = add-none (s .stray) (h .2) i;
+    }
 
 -- the state after a byte that is not answered
 abbrev quiet : Listing → ℕ → Listing
-quiet s b = record { reader = stepOf (s .reader) b .next; frames = s .frames; refused = s .refused; stray = add64 (s .stray) (strayAt (roleOf b) (isOpen (s .reader .state .mode))) }
+quiet s b =
+    record {
+      reader = stepOf (s .reader) b .next;
+      frames = s .frames;
+      refused = s .refused;
+      stray = add64 (s .stray) (strayAt (roleOf b) (isOpen (s .reader .state .mode)));
+    }
 
 quiet-next : (s : Listing) (b : ℕ) → CountsFit s → stepOf (s .reader) b .answer ≡ nothing → quiet s b ≡ nextOf s b
 unfolding nextOf
 quiet-next s b h e =
-    let f : s .frames ≡ add64 (s .frames) (frameOne (stepOf (s .reader) b .answer)) = add-none (s .frames) (h .0) ∙ ap (λ (o : Outcome). add64 (s .frames) (frameOne o)) (sym e) in
-    let r : s .refused ≡ add64 (s .refused) (refusedOne (stepOf (s .reader) b .answer)) = add-none (s .refused) (h .1) ∙ ap (λ (o : Outcome). add64 (s .refused) (refusedOne o)) (sym e) in
-    λ i. record { reader = stepOf (s .reader) b .next; frames = f i; refused = r i; stray = add64 (s .stray) (strayAt (roleOf b) (isOpen (s .reader .state .mode))) }
+    let f : s .frames ≡ add64 (s .frames) (frameOne (stepOf (s .reader) b .answer)) =
+    add-none (s .frames) (h .0) ∙ ap (λ (o : Outcome). add64 (s .frames) (frameOne o)) (sym e) in
+    let r : s .refused ≡ add64 (s .refused) (refusedOne (stepOf (s .reader) b .answer)) =
+    add-none (s .refused) (h .1) ∙ ap (λ (o : Outcome). add64 (s .refused) (refusedOne o)) (sym e) in
+    λ i. record {
+      reader = stepOf (s .reader) b .next;
+      frames = f i;
+      refused = r i;
+      stray = add64 (s .stray) (strayAt (roleOf b) (isOpen (s .reader .state .mode)));
+    }
 
 quiet-text : (s : Listing) (b : ℕ) → stepOf (s .reader) b .answer ≡ nothing → textOf s b ≡ []
 unfolding textOf
@@ -107,25 +140,38 @@ quiet-text s b e = ap (callLine (numberAfter (s .frames) (s .refused))) e
 add64-add64 : (a b c : ℕ) → add64 (add64 a b) c ≡ add64 a (b + c)
 add64-add64 a b c = omega arith
 
-first-leads : (s : Listing) (b : ℕ) (bytes : List ℕ) (f : ChunkTurn) (q : Bool) → CountsFit s → isAnswer (stepOf (s .reader) b .answer) ≡ q → LeadsTo (quiet s b) bytes f
-    → LeadsTo s (b ∷ bytes) (pick q (chunkTurn (stepOf (s .reader) b .answer) (stepOf (s .reader) b .next) 1) (laterBy 1 f))
+first-leads : (s : Listing) (b : ℕ) (bytes : List ℕ) (f : ChunkTurn) (q : Bool) → CountsFit s
+    → isAnswer (stepOf (s .reader) b .answer) ≡ q → LeadsTo (quiet s b) bytes f
+    → LeadsTo s (b ∷ bytes) (pick q (chunkTurn (stepOf (s .reader) b .answer) (stepOf (s .reader) b .next) 1)
+    (laterBy 1 f))
 unfolding nextOf textOf
 first-leads s b bytes f true h e l =
-    subst (λ (n : ℕ). Leads s (b ∷ bytes) 1 (counting s (stepOf (s .reader) b .answer) (stepOf (s .reader) b .next) n) (callLine (numberAfter (s .frames) (s .refused)) (stepOf (s .reader) b .answer)))
+    subst (λ (n : ℕ). Leads s (b ∷ bytes) 1 (counting s (stepOf (s .reader) b .answer) (stepOf (s .reader) b .next) n)
+    (callLine (numberAfter (s .frames) (s .refused)) (stepOf (s .reader) b .answer)))
     (sym (add-zero (strayAt (roleOf b) (isOpen (s .reader .state .mode))))) (lead-one s b bytes)
 first-leads s b bytes f false h e l =
     let u : Listing = quiet s b in
     let o : Bool = isOpen (s .reader .state .mode) in
     let a : stepOf (s .reader) b .answer ≡ nothing = unanswered (stepOf (s .reader) b .answer) e in
     let m : 1 + f .taken ≡ suc (f .taken) = omega arith in
-    let z : add64 (u .stray) (strays (isOpen (u .reader .state .mode)) (take (f .taken) bytes)) ≡ add64 (s .stray) (strays o (take (1 + f .taken) (b ∷ bytes))) =
+    let z : add64 (u .stray) (strays (isOpen (u .reader .state .mode)) (take (f .taken) bytes))
+    ≡ add64 (s .stray) (strays o (take (1 + f .taken) (b ∷ bytes))) =
     add64-add64 (s .stray) (strayAt (roleOf b) o) (strays (isOpen (u .reader .state .mode)) (take (f .taken) bytes))
-    ∙ ap (λ (t : Bool). add64 (s .stray) (strayAt (roleOf b) o + strays t (take (f .taken) bytes))) (open-is (s .reader) b)
+    ∙ ap (λ (t : Bool). add64 (s .stray) (strayAt (roleOf b) o + strays t (take (f .taken) bytes)))
+    (open-is (s .reader) b)
     ∙ ap (λ (n : ℕ). add64 (s .stray) (strays o (take n (b ∷ bytes)))) (sym m) in
     let w : List ℕ = callLine (numberAfter (s .frames) (s .refused)) (f .answer) in
-    subst (λ (n : ℕ). Leads s (b ∷ bytes) (1 + f .taken) (record { reader = f .next; frames = add64 (s .frames) (frameOne (f .answer)); refused = add64 (s .refused) (refusedOne (f .answer)); stray = n }) w) z
+    subst (λ (n : ℕ). Leads s (b ∷ bytes) (1 + f .taken)
+    (record {
+      reader = f .next;
+      frames = add64 (s .frames) (frameOne (f .answer));
+      refused = add64 (s .refused) (refusedOne (f .answer));
+      stray = n;
+    }) w) z
     (lead-on s b bytes (f .taken) _ w (quiet-text s b a)
-    (subst (λ (x : Listing). Leads x bytes (f .taken) (counting u (f .answer) (f .next) (strays (isOpen (u .reader .state .mode)) (take (f .taken) bytes))) w) (quiet-next s b h a) l))
+    (subst (λ (x : Listing). Leads x bytes (f .taken)
+    (counting u (f .answer) (f .next) (strays (isOpen (u .reader .state .mode)) (take (f .taken) bytes))) w)
+    (quiet-next s b h a) l))
 
 feed-leads : (s : Listing) (bytes : List ℕ) → CountsFit s → LeadsTo s bytes (feedOf (s .reader) bytes)
 unfolding feedOf
@@ -139,37 +185,52 @@ unfolding feedOf
 feed-some r [] h = absurd (omega arith)
 feed-some r (b ∷ bytes) h = by-answer (isAnswer (stepOf r b .answer)) (feedOf (stepOf r b .next) bytes)
   where
-    by-answer : (q : Bool) (f : ChunkTurn) → 0 < pick q (chunkTurn (stepOf r b .answer) (stepOf r b .next) 1) (laterBy 1 f) .taken
+    by-answer : (q : Bool) (f : ChunkTurn)
+        → 0 < pick q (chunkTurn (stepOf r b .answer) (stepOf r b .next) 1) (laterBy 1 f) .taken
     by-answer true f = omega arith
     by-answer false f = omega arith
 
 -- ---- a call on them
 
-module _ (bytes₀ : List ℕ) (t : Tally) (rest bytes : List ℕ) (f : ChunkStep) (g : ChunkStepIs bytes f (feedOf (lentReader bytes₀ (t .state)) rest)) (h : CountsFit (listing bytes₀ t)) where
+module _ (bytes₀ : List ℕ) (t : Tally) (rest bytes : List ℕ) (f : ChunkStep)
+    (g : ChunkStepIs bytes f (feedOf (lentReader bytes₀ (t .state)) rest)) (h : CountsFit (listing bytes₀ t)) where
   pub fed-fits : f .taken ≤ length rest
   fed-fits = omega (arith, g .taken-is, feed-leads (listing bytes₀ t) rest h .fits)
 
-  pub advances : (n x y z fc rc sc : ℕ) → n ≡ numberAfter (t .frames) (t .refused) → x ≡ add64 (t .frames) fc → fc ≡ frameCount (toldMeans (f .told))
-      → y ≡ add64 (t .refused) rc → rc ≡ refusedCount (toldMeans (f .told)) → z ≡ add64 (t .stray) sc → sc ≡ strayCount (isOpen (t .state .mode)) (take (f .taken) rest)
-      → {out out′ : List ℕ} {at end : ℕ} → Wrote out at (callLine n (outcomeOf (toldMeans (f .told)) bytes)) out′ end → end ≤ at + lineRoom
-      → Advances (listing bytes₀ t) rest bytes out at out′ (record { taken = f .taken; at = end; tally = record { state = f .state; frames = x; refused = y; stray = z } })
+  pub advances : (n x y z fc rc sc : ℕ) → n ≡ numberAfter (t .frames) (t .refused) → x ≡ add64 (t .frames) fc
+      → fc ≡ frameCount (toldMeans (f .told))
+      → y ≡ add64 (t .refused) rc → rc ≡ refusedCount (toldMeans (f .told)) → z ≡ add64 (t .stray) sc
+      → sc ≡ strayCount (isOpen (t .state .mode)) (take (f .taken) rest)
+      → {out out′ : List ℕ} {at end : ℕ} → Wrote out at (callLine n (outcomeOf (toldMeans (f .told)) bytes)) out′ end
+      → end ≤ at + lineRoom
+      → Advances (listing bytes₀ t) rest bytes out at out′
+      (record { taken = f .taken; at = end; tally = record { state = f .state; frames = x; refused = y; stray = z } })
   advances n x y z fc rc sc en ex efc ey erc ez esc p k =
       let s : Listing = listing bytes₀ t in
       let d : ChunkTurn = feedOf (s .reader) rest in
       let o : Outcome = d .answer in
       let l : LeadsTo s rest d = feed-leads s rest h in
-      let fr : add64 (t .frames) (frameOne o) ≡ x = sym (ex ∙ ap (add64 (t .frames)) (efc ∙ ap frameCount (g .told-is) ∙ frame-count o)) in
-      let re : add64 (t .refused) (refusedOne o) ≡ y = sym (ey ∙ ap (add64 (t .refused)) (erc ∙ ap refusedCount (g .told-is) ∙ refused-count o)) in
+      let fr : add64 (t .frames) (frameOne o) ≡ x =
+      sym (ex ∙ ap (add64 (t .frames)) (efc ∙ ap frameCount (g .told-is) ∙ frame-count o)) in
+      let re : add64 (t .refused) (refusedOne o) ≡ y =
+      sym (ey ∙ ap (add64 (t .refused)) (erc ∙ ap refusedCount (g .told-is) ∙ refused-count o)) in
       let st : add64 (t .stray) (strays (isOpen (t .state .mode)) (take (d .taken) rest)) ≡ z =
-      sym (ez ∙ ap (add64 (t .stray)) (esc ∙ ap (λ (i : ℕ). strayCount (isOpen (t .state .mode)) (take i rest)) (g .taken-is) ∙ sym (stray-count-is (s .reader) rest))) in
-      let next : counting s o (d .next) (strays (isOpen (t .state .mode)) (take (d .taken) rest)) ≡ listing bytes (record { state = f .state; frames = x; refused = y; stray = z }) =
+      sym (ez ∙ ap (add64 (t .stray))
+      (esc ∙ ap (λ (i : ℕ). strayCount (isOpen (t .state .mode)) (take i rest)) (g .taken-is)
+      ∙ sym (stray-count-is (s .reader) rest))) in
+      let next : counting s o (d .next) (strays (isOpen (t .state .mode)) (take (d .taken) rest))
+      ≡ listing bytes (record { state = f .state; frames = x; refused = y; stray = z }) =
       (λ i. record { reader = sym (g .next-is) i; frames = fr i; refused = re i; stray = st i }) in
       let w : List ℕ = callLine (numberAfter (t .frames) (t .refused)) o in
       record {
         text = w;
-        leads = subst (λ (i : ℕ). Leads s rest i (listing bytes (record { state = f .state; frames = x; refused = y; stray = z })) w) (sym (g .taken-is))
+        leads =
+            subst (λ (i : ℕ). Leads s rest i
+            (listing bytes (record { state = f .state; frames = x; refused = y; stray = z })) w) (sym (g .taken-is))
             (subst (λ (u : Listing). Leads s rest (d .taken) u w) next l);
         some = λ e. omega (arith, g .taken-is, feed-some (s .reader) rest e);
-        wrote = wrote-as (ap (λ (i : ℕ). callLine i (outcomeOf (toldMeans (f .told)) bytes)) en ∙ ap (callLine (numberAfter (t .frames) (t .refused))) (feeds-outcome bytes f (s .reader) rest g)) p;
+        wrote =
+            wrote-as (ap (λ (i : ℕ). callLine i (outcomeOf (toldMeans (f .told)) bytes)) en
+            ∙ ap (callLine (numberAfter (t .frames) (t .refused))) (feeds-outcome bytes f (s .reader) rest g)) p;
         within = k;
       }

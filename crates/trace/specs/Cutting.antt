@@ -9,12 +9,14 @@ use Rattle.trace.specs.Machine.{newListing, lastRoom, Lists, Ends}
 use Rattle.trace.specs.declared.Listing.{Listing}
 use Rattle.trace.specs.declared.Listed.{Listed}
 
--- Calls in a row, each on the state that the last one left: the bytes that are still to be taken, all that the calls write, and the state
--- left. Each call is lent a chunk at the front of those bytes and any output, and the next goes on after the last byte taken.
+-- Calls in a row, each on the state that the last one left: the bytes that are still to be taken, all that the calls
+-- write, and the state left. Each call is lent a chunk at the front of those bytes and any output, and the next goes on
+-- after the last byte taken.
 pub data Calls : Listing → (bytes written : List ℕ) → Listing → Type 0 where
   none : {s : Listing} → Calls s [] [] s
   call : {s s′ : Listing} {written : List ℕ} (chunk rest out out′ : List ℕ) (r : Listed) → Lists s chunk out out′ r
-      → Calls (r .next) (drop (r .taken) chunk ++ rest) written s′ → Calls s (chunk ++ rest) (take (r .wrote) out′ ++ written) s′
+      → Calls (r .next) (drop (r .taken) chunk ++ rest) written s′
+      → Calls s (chunk ++ rest) (take (r .wrote) out′ ++ written) s′
 
 -- A whole listing: calls from a new state over the whole trace, and a finish with room.
 pub record Session (trace written : List ℕ) : Type 0 where
@@ -38,4 +40,6 @@ WritesText = (trace written : List ℕ) → length trace ≤ longest → Session
 
 -- No call stands still: one with a byte to take and room for any line takes a byte.
 abbrev pub TakesSome : Type 0
-TakesSome = (s : Listing) (chunk out out′ : List ℕ) (r : Listed) → 0 < length chunk → lineRoom ≤ length out → Lists s chunk out out′ r → 0 < r .taken
+TakesSome =
+    (s : Listing) (chunk out out′ : List ℕ) (r : Listed) → 0 < length chunk → lineRoom ≤ length out
+    → Lists s chunk out out′ r → 0 < r .taken

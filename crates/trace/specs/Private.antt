@@ -1,4 +1,5 @@
--- Contracts of private functions, which no caller reads: how far a call on a chunk has come, and what bytes up to an answer add to it.
+-- Contracts of private functions, which no caller reads: how far a call on a chunk has come, and what bytes up to an
+-- answer add to it.
 use mathlib.Core.Path.{_≡_}
 use mathlib.Core.Bool.{Bool, true, false}
 use mathlib.Core.List.{List}
@@ -13,15 +14,18 @@ use Rattle.trace.specs.declared.Advanced.{Advanced}
 use Rattle.trace.specs.declared.Listed.{Listed}
 use Rattle.trace.specs.declared.Tally.{Tally}
 use Rattle.frame.specs.Flags.{isStart}
+use Rattle.answer.specs.Answer.{refused}
 
 -- A state whose array stands apart.
 abbrev pub listing : List ℕ → Tally → Listing
-listing bytes t = record { reader = lentReader bytes (t .state); frames = t .frames; refused = t .refused; stray = t .stray }
+listing bytes t =
+    record { reader = lentReader bytes (t .state); frames = t .frames; refused = t .refused; stray = t .stray }
 
 abbrev pub listedOf : (taken wrote : ℕ) → Listing → Listed
 listedOf taken wrote s = record { taken = taken; wrote = wrote; next = s }
 
--- From the state s₀ on, the bytes before the index i are taken, which leaves the state s, and their lines stand before the index at.
+-- From the state s₀ on, the bytes before the index i are taken, which leaves the state s, and their lines stand before
+-- the index at.
 pub record Going (s₀ : Listing) (chunk out₀ : List ℕ) (s : Listing) (out : List ℕ) (at i : ℕ) : Type 0 where
   pub state : s ≡ listingAfter s₀ (take i chunk)
   pub wrote : Wrote out₀ 0 (texts s₀ (take i chunk)) out at
@@ -44,7 +48,8 @@ pub record Advances (s : Listing) (rest bytes out : List ℕ) (at : ℕ) (out′
 
 -- ---- stray bytes
 
--- The stray bytes among those up to an answer: a candidate that is open ends only there, so they stand before the first start flag.
+-- The stray bytes among those up to an answer: a candidate that is open ends only there, so they stand before the first
+-- start flag.
 abbrev pub strayCount : (is-open : Bool) → List ℕ → ℕ
 strayCount true bytes = 0
 strayCount false bytes = countBefore isStart bytes

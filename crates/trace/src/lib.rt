@@ -57,7 +57,8 @@ pub fn new() -> Listing
     }
 }
 
-// Takes bytes of a chunk as long as there is room for any line. The array is copied once for a chunk, and lent for each answer.
+// Takes bytes of a chunk as long as there is room for any line. The array is copied once for a chunk, and lent for each
+// answer.
 pub fn list(s: Listing, chunk: &[u8], out: &mut [u8]) -> Listed
     ensures { λ r. ⌜ Lists s (now (chunk .entry)) (now (out .entry)) (now (out .exit)) r ⌝ }
 {
@@ -121,10 +122,12 @@ fn packed(taken: usize, wrote: usize, bytes: [u8; 118], t: Tally) -> Listed
     }
 }
 
-// Takes bytes up to the first that is answered, at least one, and writes its line at an index where there is room for any.
+// Takes bytes up to the first that is answered, at least one, and writes its line at an index where there is room for
+// any.
 fn advance(bytes: &mut [u8; 118], t: Tally, rest: &[u8], out: &mut [u8], at: usize) -> Advanced
     requires { ⌜ at + lineRoom ≤ length (now out) ⌝ }
-    ensures { λ r. ⌜ Advances (listing (now (bytes .entry)) t) (now (rest .entry)) (now (bytes .exit)) (now (out .entry)) at (now (out .exit)) r ⌝ }
+    ensures { λ r. ⌜ Advances (listing (now (bytes .entry)) t) (now (rest .entry)) (now (bytes .exit))
+        (now (out .entry)) at (now (out .exit)) r ⌝ }
 {
     let before = t.state;
     let mode = before.mode;
@@ -198,7 +201,8 @@ fn is_open(mode: Mode) -> bool
     }
 }
 
-// The stray bytes among those up to an answer. A candidate that is open ends only at the answer, so they stand before the first start flag.
+// The stray bytes among those up to an answer. A candidate that is open ends only at the answer, so they stand before
+// the first start flag.
 fn stray_count(mode: Mode, bytes: &[u8]) -> u64
     ensures { λ r. ⌜ r ≡ strayCount (isOpen mode) (now (bytes .entry)) ⌝ }
 {

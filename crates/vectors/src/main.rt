@@ -1,5 +1,6 @@
-// Runs the worked examples on standard input, at most 65,536 bytes, and prints a line for each. The head of `stdin` describes both.
-// What it prints is tested and not proved: it is compared with what a plain Rust program prints. The answers are those of the crates below.
+// Runs the worked examples on standard input, at most 65,536 bytes, and prints a line for each. The head of `stdin`
+// describes both. What it prints is tested and not proved: it is compared with what a plain Rust program prints. The
+// answers are those of the crates below.
 mod contents;
 mod leases;
 mod print;

@@ -16,7 +16,8 @@ use Rattle.answer.proofs.Drafts.{written-first}
 use Rattle.numbers.proofs.Numbers.{number-bytesOf}
 use Rattle.lists.proofs.Cases.{by-bool}
 use Rattle.workout.specs.Limits.{Limits, pm3Limits}
-use Rattle.workout.specs.Workout.{Programmed, distance, time, wattsOf, withinLimits, layout, distanceBytes, timeBytes, workoutBytes, Sendable}
+use Rattle.workout.specs.Workout.{Programmed, distance, time, wattsOf, withinLimits, layout, distanceBytes}
+use Rattle.workout.specs.Workout.{timeBytes, workoutBytes, Sendable}
 use Rattle.workout.specs.Form.{bytesAt, laidOut}
 use Rattle.workout.specs.Answers.{workoutAnswer, workoutDraft}
 use Rattle.workout.specs.Private.{limitedRead, distanceRead, timeRead}

@@ -15,9 +15,12 @@ use Rattle.answer.specs.Answer.{result, refused, Answer}
 use Rattle.lists.proofs.Cases.{by-bool, both-true}
 use Rattle.workout.specs.Limits.{Limits}
 use Rattle.workout.specs.Workout.{Programmed, distance, time, commandOf, layout, withinLimits}
-use Rattle.workout.specs.Form.{goalKindFor, goalKindIn, sameBytes, bytesAt, laidOut, unitKnown, clockRight, workoutAs, hasForm, inLimits}
+use Rattle.workout.specs.Form.{goalKindFor, goalKindIn, sameBytes, bytesAt, laidOut, unitKnown, clockRight}
+use Rattle.workout.specs.Form.{workoutAs, hasForm, inLimits}
 use Rattle.workout.specs.Answers.{workoutAnswer, workoutDraft}
-use Rattle.workout.specs.Conditions.{UnitKnown, Formed, WithinLimits, ClockRight, Limited, Readable, JudgedWorkout, formless, overLimit, readable, JudgedWriting, outside, noRoom, fits}
+use Rattle.workout.specs.Conditions.{UnitKnown, Formed, WithinLimits, ClockRight, Limited, Readable}
+use Rattle.workout.specs.Conditions.{JudgedWorkout, formless, overLimit, readable, JudgedWriting, outside, noRoom}
+use Rattle.workout.specs.Conditions.{fits}
 use Rattle.workout.specs.declared.layout.GoalKind.{GoalKind}
 use Rattle.workout.specs.declared.layout.GoalKind.the-variants.{Distance, Time}
 use Rattle.workout.proofs.SameLaws.{same-refl, same-true}

@@ -13,7 +13,8 @@ use Rattle.lists.proofs.Cases.{by-bool}
 use Rattle.lists.proofs.Splices.{copied-first}
 use Rattle.answer.proofs.Drafts.{Writes, writes-done}
 use Rattle.workout.specs.Limits.{Limits}
-use Rattle.workout.specs.Workout.{Programmed, distance, time, goalMeans, programmed, withinLimits, layout, distanceBytes, timeBytes, workoutBytes}
+use Rattle.workout.specs.Workout.{Programmed, distance, time, goalMeans, programmed, withinLimits, layout}
+use Rattle.workout.specs.Workout.{distanceBytes, timeBytes, workoutBytes}
 use Rattle.workout.specs.Answers.{workoutDraft}
 use Rattle.workout.specs.declared.Workout.{Workout}
 use Rattle.workout.specs.declared.Goal.{Goal}

@@ -4,7 +4,8 @@ use native.Mathlib.Omega.{arith}
 use lib.ListN.{length, take, drop, length-drop}
 use Rattle.lists.specs.Splice.{splice}
 use Rattle.frame.specs.Private.{headerKind, SoundAt}
-use Rattle.frame.proofs.VerdictLaws.{after-short, after-sum, after-sound, after-length, answer-refused, answer-no-room, answer-done, header-as, contents-of}
+use Rattle.frame.proofs.VerdictLaws.{after-short, after-sum, after-sound, after-length, answer-refused}
+use Rattle.frame.proofs.VerdictLaws.{answer-no-room, answer-done, header-as, contents-of}
 use Rattle.frame.proofs.ContentsLaws.{rest-first, copied-plain}
 use borrow.Author.Needs.{needs}
 use Rattle.frame.proofs.read_after.Statement.{statement}

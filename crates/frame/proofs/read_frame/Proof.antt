@@ -12,7 +12,8 @@ use Rattle.frame.specs.declared.candidate.Examined.{Examined}
 use Rattle.frame.specs.Verdict.{Verdict, verdict}
 use Rattle.answer.specs.Answer.{result}
 use Rattle.frame.specs.Answers.{readAnswer, readOut}
-use Rattle.frame.proofs.VerdictLaws.{bounded-no, bounded-long, bounded-judged, whole-judged, plain-whole, answer-refused, answer-no-room, answer-done, header-as, contents-of}
+use Rattle.frame.proofs.VerdictLaws.{bounded-no, bounded-long, bounded-judged, whole-judged, plain-whole}
+use Rattle.frame.proofs.VerdictLaws.{answer-refused, answer-no-room, answer-done, header-as, contents-of}
 use Rattle.frame.proofs.ContentsLaws.{rest-length, rest-first}
 use borrow.Author.Needs.{needs}
 use Rattle.frame.proofs.read_frame.Statement.{statement}

@@ -12,7 +12,8 @@ slice-relend-prefix-read : tie.Need-slice-relend-prefix-read
 slice-relend-prefix-read c = search needs
 
 slice-aggregate-read : tie.Need-slice-aggregate-read
-slice-aggregate-read c = sym (length-take-le (c .before .least .result) (c .before .before .before .args .input .now) (omega arith))
+slice-aggregate-read c =
+    sym (length-take-le (c .before .least .result) (c .before .before .before .args .input .now) (omega arith))
 
 read-requires : tie.Need-read-requires
 read-requires c κs = search needs

@@ -13,7 +13,8 @@ slice-reshare-prefix-write-all c = search needs
 
 slice-aggregate-write-all : tie.Need-slice-aggregate-write-all
 slice-aggregate-write-all c =
-    let f = c .before .before .before .finish in sym (length-take-le (f .result) (f .last .1 .0) (omega (arith, f .ensures .fits, f .kept .1 .0)))
+    let f = c .before .before .before .finish in
+    sym (length-take-le (f .result) (f .last .1 .0) (omega (arith, f .ensures .fits, f .kept .1 .0)))
 
 write-all-requires : tie.Need-write-all-requires
 write-all-requires c κs = search needs

@@ -30,32 +30,48 @@ list-requires : tie.Need-list-requires Inv-loop μ-loop
 list-requires c κs = tt
 
 slice-reshare-prefix-write-all : tie.Need-slice-reshare-prefix-write-all Inv-loop μ-loop
-slice-reshare-prefix-write-all c = let f = c .before .before .before .list in omega (arith, f .ensures .wrote-fits, f .kept .1 .1 .0)
+slice-reshare-prefix-write-all c =
+    let f = c .before .before .before .list in omega (arith, f .ensures .wrote-fits, f .kept .1 .1 .0)
 
 slice-aggregate-write-all : tie.Need-slice-aggregate-write-all Inv-loop μ-loop
 slice-aggregate-write-all c =
-    let f = c .before .before .before .before .list in sym (length-take-le (f .result .wrote) (f .last .1 .1 .0) (omega (arith, f .ensures .wrote-fits, f .kept .1 .1 .0)))
+    let f = c .before .before .before .before .list in
+    sym (length-take-le (f .result .wrote) (f .last .1 .1 .0) (omega (arith, f .ensures .wrote-fits, f .kept .1 .1 .0)))
 
 write-all-requires : tie.Need-write-all-requires Inv-loop μ-loop
 write-all-requires c κs = tt
 
 same-length : tie.Need-same-length Inv-loop μ-loop
-same-length c = c .before .before .before .before .before .before .list .kept .1 .1 .0 ∙ c .before .before .before .before .before .before .before .before .before .before .loop .inv .1
+same-length c =
+    c .before .before .before .before .before .before .list .kept .1 .1 .0
+    ∙ c .before .before .before .before .before .before .before .before .before .before .loop .inv .1
 
 returns : tie.Need-returns Inv-loop μ-loop
 returns c = tt
 
 -- a byte is taken, and no more than are left
 goes-on : (c : tie.Else1 Inv-loop μ-loop)
-    → (0 < c .before .before .before .before .before .before .list .result .taken) × (c .before .before .before .before .before .before .before .before .before .before .loop .i + c .before .before .before .before .before .before .list .result .taken ≤ length (c .before .before .before .before .before .before .before .before .before .before .before .before .before .args .chunk .now))
+    → (0 < c .before .before .before .before .before .before .list .result .taken)
+    × (c .before .before .before .before .before .before .before .before .before .before .loop .i + c .before .before
+    .before .before .before .before .list .result .taken ≤ length
+    (c .before .before .before .before .before .before .before .before .before .before .before .before .before .args
+    .chunk .now))
 goes-on c =
     let f = c .before .before .before .before .before .before .list in
     let l = c .before .before .before .before .before .before .before .before .before .before .loop in
-    let start = c .before .before .before .before .before .before .before .before .before .before .before .before .before in
+    let start = c .before .before .before .before .before .before .before .before .before .before .before .before
+    .before in
     let s = start .args .chunk .now in
     let left = length-take (length s - l .i) (drop (l .i) s) in
     let rest = length-drop (l .i) s in (
-      takes-some _ _ _ _ _ (omega (arith, left, rest, c .before .before .before .before .before .before .before .before .before .loop-test .taken)) (omega (arith, l .inv .1, start .pre)) (f .ensures),
+      takes-some _ _ _ _ _ (omega (
+        arith,
+        left,
+        rest,
+        c .before .before .before .before .before .before .before .before .before .loop-test
+            .taken,
+      ))
+          (omega (arith, l .inv .1, start .pre)) (f .ensures),
       omega (arith, f .ensures .taken-fits, l .inv .0, left, rest),
     )
 
@@ -66,7 +82,11 @@ loop-less : tie.Need-loop-less Inv-loop μ-loop
 loop-less c = omega (arith, goes-on c)
 
 loop-again : tie.Need-loop-again Inv-loop μ-loop
-loop-again c = (omega (arith, goes-on c), c .before .before .before .before .before .before .list .kept .1 .1 .0 ∙ c .before .before .before .before .before .before .before .before .before .before .loop .inv .1)
+loop-again c = (
+  omega (arith, goes-on c),
+  c .before .before .before .before .before .before .list .kept .1 .1 .0
+      ∙ c .before .before .before .before .before .before .before .before .before .before .loop .inv .1,
+)
 
 same-length-2 : tie.Need-same-length-2 Inv-loop μ-loop
 same-length-2 c = c .before .loop .inv .1

@@ -24,7 +24,9 @@ read-failed-requires : tie.Need-read-failed-requires Inv-loop μ-loop
 read-failed-requires c κs = tt
 
 same-length : tie.Need-same-length Inv-loop μ-loop
-same-length c = c .before .before .before .before .fetch .kept .0 ∙ c .before .before .before .before .before .before .before .loop .inv .0
+same-length c =
+    c .before .before .before .before .fetch .kept .0
+    ∙ c .before .before .before .before .before .before .before .loop .inv .0
 
 same-length-2 : tie.Need-same-length-2 Inv-loop μ-loop
 same-length-2 c = c .before .before .before .before .before .before .before .loop .inv .1
@@ -42,10 +44,16 @@ finish-requires : tie.Need-finish-requires Inv-loop μ-loop
 finish-requires c κs = tt
 
 same-length-3 : tie.Need-same-length-3 Inv-loop μ-loop
-same-length-3 c = c .before .before .before .before .before .before .before .before .before .before .before .fetch .kept .0 ∙ c .before .before .before .before .before .before .before .before .before .before .before .before .before .before .loop .inv .0
+same-length-3 c =
+    c .before .before .before .before .before .before .before .before .before .before .before .fetch .kept .0
+    ∙ c .before .before .before .before .before .before .before .before .before .before .before .before .before .before
+    .loop .inv .0
 
 same-length-4 : tie.Need-same-length-4 Inv-loop μ-loop
-same-length-4 c = c .before .before .finish .kept .1 .0 ∙ c .before .before .before .before .before .before .before .before .before .before .before .before .before .before .loop .inv .1
+same-length-4 c =
+    c .before .before .finish .kept .1 .0
+    ∙ c .before .before .before .before .before .before .before .before .before .before .before .before .before .before
+    .loop .inv .1
 
 returns-2 : tie.Need-returns-2 Inv-loop μ-loop
 returns-2 c = tt
@@ -55,19 +63,34 @@ slice-reshare-prefix-pump c = omega (arith, c .before .least .ensures .0, c .bef
 
 slice-aggregate-pump : tie.Need-slice-aggregate-pump Inv-loop μ-loop
 slice-aggregate-pump c =
-    sym (length-take-le (c .before .before .least .result) (c .before .before .before .before .before .before .before .before .fetch .last .0) (omega (arith, c .before .before .least .ensures .0, c .before .before .before .count .ensures .0)))
+    sym (length-take-le (c .before .before .least .result)
+    (c .before .before .before .before .before .before .before .before .fetch .last .0)
+    (omega (arith, c .before .before .least .ensures .0, c .before .before .before .count .ensures .0)))
 
 pump-requires : tie.Need-pump-requires Inv-loop μ-loop
-pump-requires c κs = omega (arith, c .before .before .before .before .before .before .before .before .before .before .before .before .loop .inv .1, c .before .before .before .before .before .before .before .before .before .before .before .before .before .before .before .before .pre)
+pump-requires c κs =
+    omega (
+      arith,
+      c .before .before .before .before .before .before .before .before .before .before .before .before
+          .loop .inv .1,
+      c .before .before .before .before .before .before .before .before .before .before .before .before
+          .before .before .before .before .pre,
+    )
 
 write-failed-requires : tie.Need-write-failed-requires Inv-loop μ-loop
 write-failed-requires c κs = tt
 
 same-length-5 : tie.Need-same-length-5 Inv-loop μ-loop
-same-length-5 c = c .before .before .before .before .before .before .before .before .before .before .before .before .before .before .before .fetch .kept .0 ∙ c .before .before .before .before .before .before .before .before .before .before .before .before .before .before .before .before .before .before .loop .inv .0
+same-length-5 c =
+    c .before .before .before .before .before .before .before .before .before .before .before .before .before .before
+    .before .fetch .kept .0 ∙ c .before .before .before .before .before .before .before .before .before .before .before
+    .before .before .before .before .before .before .before .loop .inv .0
 
 same-length-6 : tie.Need-same-length-6 Inv-loop μ-loop
-same-length-6 c = c .before .before .before .before .before .pump .kept .1 .1 .0 ∙ c .before .before .before .before .before .before .before .before .before .before .before .before .before .before .before .before .before .before .loop .inv .1
+same-length-6 c =
+    c .before .before .before .before .before .pump .kept .1 .1 .0
+    ∙ c .before .before .before .before .before .before .before .before .before .before .before .before .before .before
+    .before .before .before .before .loop .inv .1
 
 returns-3 : tie.Need-returns-3 Inv-loop μ-loop
 returns-3 c = tt
@@ -76,10 +99,24 @@ sub-left : tie.Need-sub-left Inv-loop μ-loop
 sub-left c = omega (arith, c .before .before .before .before .before .before .before .before .before .least .ensures .1)
 
 loop-less : tie.Need-loop-less Inv-loop μ-loop
-loop-less c = omega (arith, c .before .before .before .before .before .before .before .before .before .least .ensures .1, c .before .before .before .before .before .before .before .before .if2 .left)
+loop-less c =
+    omega (
+      arith,
+      c .before .before .before .before .before .before .before .before .before .least .ensures .1,
+      c .before .before .before .before .before .before .before .before .if2 .left,
+    )
 
 loop-again : tie.Need-loop-again Inv-loop μ-loop
-loop-again c = (c .before .before .before .before .before .before .before .before .before .before .before .before .before .before .before .fetch .kept .0 ∙ c .before .before .before .before .before .before .before .before .before .before .before .before .before .before .before .before .before .before .loop .inv .0, c .before .before .before .before .before .pump .kept .1 .1 .0 ∙ c .before .before .before .before .before .before .before .before .before .before .before .before .before .before .before .before .before .before .loop .inv .1)
+loop-again c = (
+  c .before .before .before .before .before .before .before .before .before .before .before .before .before .before
+      .before .fetch .kept .0 ∙ c .before .before .before .before .before .before .before .before .before .before
+      .before
+      .before .before .before .before .before .before .before .loop .inv .0,
+  c .before .before .before .before .before .pump .kept .1 .1 .0
+      ∙ c .before .before .before .before .before .before .before .before .before .before .before .before .before
+      .before
+      .before .before .before .before .loop .inv .1,
+)
 
 finish-requires-2 : tie.Need-finish-requires-2 Inv-loop μ-loop
 finish-requires-2 c κs = tt

@@ -17,7 +17,9 @@ slice-aggregate-stray-count : tie.Need-slice-aggregate-stray-count
 slice-aggregate-stray-count c =
     let start = c .before .before .before .before .before .before .before in
     let f = c .before .before .feed-in in
-    sym (length-take-le (f .result .taken) (start .args .rest .now) (fed-fits (start .args .bytes .now) (start .args .t) (start .args .rest .now) (f .last .0) (f .result) (f .ensures) (counted start)))
+    sym (length-take-le (f .result .taken) (start .args .rest .now)
+    (fed-fits (start .args .bytes .now) (start .args .t) (start .args .rest .now) (f .last .0) (f .result) (f .ensures)
+    (counted start)))
 
 stray-count-requires : tie.Need-stray-count-requires
 stray-count-requires c κs = search needs
@@ -54,8 +56,14 @@ returns c =
     let f = sc .before .before .before in
     let start = f .before .before .before .before .before in
     let w = p .put-answer .ensures .written (start .pre) in
-    advances (start .args .bytes .now) (start .args .t) (start .args .rest .now) (f .feed-in .last .0) (f .feed-in .result) (f .feed-in .ensures) (counted start) (n .number .result) (c .before .before .before .wrapping-add-u64 .result) (c .before .wrapping-add-u642 .result) (c .wrapping-add-u643 .result)
-    (c .before .before .before .before .frame-count .result) (c .before .before .refused-count .result) (sc .stray-count .result) (n .number .ensures) (c .before .before .before .wrapping-add-u64 .ensures) (c .before .before .before .before .frame-count .ensures) (c .before .wrapping-add-u642 .ensures) (c .before .before .refused-count .ensures)
+    advances (start .args .bytes .now) (start .args .t) (start .args .rest .now) (f .feed-in .last .0)
+    (f .feed-in .result) (f .feed-in .ensures) (counted start) (n .number .result)
+    (c .before .before .before .wrapping-add-u64 .result) (c .before .wrapping-add-u642 .result)
+    (c .wrapping-add-u643 .result)
+    (c .before .before .before .before .frame-count .result) (c .before .before .refused-count .result)
+    (sc .stray-count .result) (n .number .ensures) (c .before .before .before .wrapping-add-u64 .ensures)
+    (c .before .before .before .before .frame-count .ensures) (c .before .wrapping-add-u642 .ensures)
+    (c .before .before .refused-count .ensures)
     (c .wrapping-add-u643 .ensures) (sc .stray-count .ensures) (w .0) (w .1)
 
 pub advance-spec : {M : Type 1} → statement M

@@ -39,16 +39,30 @@ same-length c = search needs
 
 returns-2 : tie.Need-returns-2
 returns-2 c =
-    let s = c .before .before .before .before .before .before .before .before .before .before .before .before .before .before .before .before .before .before .before .before .args .s in
-    let room = c .before .before .before .before .before .before .before .before .before .before .before .before .before .before .before .before .before .before .if1 .left in
-    let m = c .before .before .before .before .before .before .before .before .before .before .before .before .before .before .finish-in in
+    let s = c .before .before .before .before .before .before .before .before .before .before .before .before .before
+    .before .before .before .before .before .before .before .args .s in
+    let room = c .before .before .before .before .before .before .before .before .before .before .before .before .before
+    .before .before .before .before .before .if1 .left in
+    let m = c .before .before .before .before .before .before .before .before .before .before .before .before .before
+    .before .finish-in in
     let n = c .before .before .before .before .before .before .before .before .before .before .before .before .number in
-    let p = c .before .before .before .before .before .before .before .before .before .before .put-answer .ensures .written (omega (arith, room)) in
+    let p = c .before .before .before .before .before .before .before .before .before .before .put-answer .ensures
+    .written (omega (arith, room)) in
     let f = c .before .before .before .before .before .before .wrapping-add-u64 in
     let r = c .before .before .before .before .wrapping-add-u642 in
-    let q = c .before .before .put-totals .ensures .written (omega (arith, room, p .1, c .before .before .before .before .before .before .before .before .before .before .put-answer .kept .1 .1 .1 .0)) in
-    ends-whole s (m .result) (n .result) (f .result) (r .result) (c .before .before .before .before .before .before .before .frame-count .result) (c .before .before .before .before .before .refused-count .result) (m .ensures (s .reader .bytes)) (n .ensures)
-    (f .ensures) (c .before .before .before .before .before .before .before .frame-count .ensures) (r .ensures) (c .before .before .before .before .before .refused-count .ensures) (p .0) (q .0) (omega (arith, room, p .1)) (omega (arith, room, p .1, q .1)) room
+    let q = c .before .before .put-totals .ensures .written
+    (omega (
+      arith,
+      room,
+      p .1,
+      c .before .before .before .before .before .before .before .before .before .before .put-answer .kept .1 .1 .1 .0,
+    )) in
+    ends-whole s (m .result) (n .result) (f .result) (r .result)
+    (c .before .before .before .before .before .before .before .frame-count .result)
+    (c .before .before .before .before .before .refused-count .result) (m .ensures (s .reader .bytes)) (n .ensures)
+    (f .ensures) (c .before .before .before .before .before .before .before .frame-count .ensures) (r .ensures)
+    (c .before .before .before .before .before .refused-count .ensures) (p .0) (q .0) (omega (arith, room, p .1))
+    (omega (arith, room, p .1, q .1)) room
 
 pub finish-spec : {M : Type 1} → statement M
 finish-spec =

@@ -11,7 +11,8 @@ use Rattle.trace.proofs.list.Tie as tie
 
 abbrev Inv-loop : tie.InvT-loop
 Inv-loop chunk out₀ bytes₀ tally₀ at₀ i₀ out bytes tally at i =
-    (i ≤ length chunk) × (length out ≡ length out₀) × (at ≤ length out₀) × Going (listing bytes₀ tally₀) chunk out₀ (listing bytes tally) out at i
+    (i ≤ length chunk) × (length out ≡ length out₀) × (at ≤ length out₀)
+    × Going (listing bytes₀ tally₀) chunk out₀ (listing bytes tally) out at i
 
 abbrev μ-loop : tie.MeasureT-loop
 μ-loop chunk out₀ bytes₀ tally₀ at₀ i₀ out bytes tally at i = length chunk - i
@@ -32,7 +33,9 @@ returns : tie.Need-returns Inv-loop μ-loop
 returns c =
     let a = c .before .before .before .before .before .before .before .before .before .args in
     let l = c .before .before .before .loop in
-    going-stop (a .s) (a .chunk .now) (a .out .now) (listing (l .bytes) (l .tally)) (l .out) (l .at) (l .i) (l .inv .3) (c .before .before .loop-test .taken) (l .inv .2) (omega (arith, c .before .if1 .taken, l .inv .1)) (c .packed .result) (c .packed .ensures)
+    going-stop (a .s) (a .chunk .now) (a .out .now) (listing (l .bytes) (l .tally)) (l .out) (l .at) (l .i) (l .inv .3)
+    (c .before .before .loop-test .taken) (l .inv .2) (omega (arith, c .before .if1 .taken, l .inv .1))
+    (c .packed .result) (c .packed .ensures)
 
 sub-advance : tie.Need-sub-advance Inv-loop μ-loop
 sub-advance c = search needs
@@ -44,19 +47,38 @@ part-advance-end : tie.Need-part-advance-end Inv-loop μ-loop
 part-advance-end c = search needs
 
 advance-requires : tie.Need-advance-requires Inv-loop μ-loop
-advance-requires c κs = let l = c .before .before .before .before .before .loop in omega (arith, c .before .before .before .if1 .left, l .inv .1, l .inv .2)
+advance-requires c κs =
+    let l = c .before .before .before .before .before .loop in
+    omega (arith, c .before .before .before .if1 .left, l .inv .1, l .inv .2)
 
 -- the bytes that are taken are the next of the chunk
 advanced : (c : tie.After-advance Inv-loop μ-loop)
-    → Advances (listing (c .before .before .before .before .before .before .loop .bytes) (c .before .before .before .before .before .before .loop .tally)) (drop (c .before .before .before .before .before .before .loop .i) (c .before .before .before .before .before .before .before .before .before .before .before .before .args .chunk .now)) (c .advance .last .0) (c .before .before .before .before .before .before .loop .out) (c .before .before .before .before .before .before .loop .at) (c .advance .last .1 .1 .1 .0) (c .advance .result)
+    → Advances (listing (c .before .before .before .before .before .before .loop .bytes)
+    (c .before .before .before .before .before .before .loop .tally))
+    (drop (c .before .before .before .before .before .before .loop .i)
+    (c .before .before .before .before .before .before .before .before .before .before .before .before .args .chunk
+    .now)) (c .advance .last .0) (c .before .before .before .before .before .before .loop .out)
+    (c .before .before .before .before .before .before .loop .at) (c .advance .last .1 .1 .1 .0) (c .advance .result)
 advanced c =
     let l = c .before .before .before .before .before .before .loop in
     let t = c .advance in
-    subst (λ (rest : List ℕ). Advances (listing (l .bytes) (l .tally)) rest (t .last .0) (l .out) (l .at) (t .last .1 .1 .1 .0) (t .result)) (part-rest _ (l .i)) (t .ensures)
+    subst (λ (rest : List ℕ). Advances (listing (l .bytes) (l .tally)) rest (t .last .0) (l .out) (l .at)
+    (t .last .1 .1 .1 .0) (t .result)) (part-rest _ (l .i)) (t .ensures)
 
 fits : (c : tie.After-advance Inv-loop μ-loop)
-    → c .before .before .before .before .before .before .loop .i + c .advance .result .taken ≤ length (c .before .before .before .before .before .before .before .before .before .before .before .before .args .chunk .now)
-fits c = let l = c .before .before .before .before .before .before .loop in omega (arith, l .inv .0, advanced c .leads .fits, length-drop (l .i) (c .before .before .before .before .before .before .before .before .before .before .before .before .args .chunk .now))
+    → c .before .before .before .before .before .before .loop .i + c .advance .result .taken ≤ length
+    (c .before .before .before .before .before .before .before .before .before .before .before .before .args .chunk
+    .now)
+fits c =
+    let l = c .before .before .before .before .before .before .loop in
+    omega (
+      arith,
+      l .inv .0,
+      advanced c .leads .fits,
+      length-drop (l .i)
+          (c .before .before .before .before .before .before .before .before .before .before .before .before .args
+          .chunk .now),
+    )
 
 add-i : tie.Need-add-i Inv-loop μ-loop
 add-i c = record { fits = omega (arith, fits (c .before .before .before .before)) }
@@ -65,7 +87,8 @@ loop-less : tie.Need-loop-less Inv-loop μ-loop
 loop-less c =
     let t = c .before .before .before .before in
     let l = t .before .before .before .before .before .before .loop in
-    let chunk = t .before .before .before .before .before .before .before .before .before .before .before .before .args .chunk .now in
+    let chunk = t .before .before .before .before .before .before .before .before .before .before .before .before .args
+    .chunk .now in
     let below = t .before .before .before .before .before .loop-test .taken in
     omega (arith, below, fits t, advanced t .some (omega (arith, below, length-drop (l .i) chunk)))
 
@@ -78,7 +101,9 @@ loop-again c =
       fits t,
       t .advance .kept .1 .1 .1 .0 ∙ l .inv .1,
       omega (arith, advanced t .within, room, l .inv .1, l .inv .2),
-      going-more (a .s) (a .chunk .now) (a .out .now) (listing (l .bytes) (l .tally)) (l .out) (l .at) (l .i) (l .inv .3) (l .inv .2) (omega (arith, room, l .inv .1)) (t .advance .last .0) (t .advance .last .1 .1 .1 .0) (t .advance .result) (advanced t),
+      going-more (a .s) (a .chunk .now) (a .out .now) (listing (l .bytes) (l .tally)) (l .out) (l .at) (l .i)
+          (l .inv .3) (l .inv .2) (omega (arith, room, l .inv .1)) (t .advance .last .0) (t .advance .last .1 .1 .1 .0)
+          (t .advance .result) (advanced t),
     )
 
 packed-requires-2 : tie.Need-packed-requires-2 Inv-loop μ-loop
@@ -91,7 +116,8 @@ returns-2 : tie.Need-returns-2 Inv-loop μ-loop
 returns-2 c =
     let a = c .before .before .before .before .before .before .before .before .args in
     let l = c .before .before .loop in
-    going-end (a .s) (a .chunk .now) (a .out .now) (listing (l .bytes) (l .tally)) (l .out) (l .at) (l .i) (l .inv .3) (omega (arith, c .before .loop-test .left, l .inv .0)) (l .inv .2) (c .packed2 .result) (c .packed2 .ensures)
+    going-end (a .s) (a .chunk .now) (a .out .now) (listing (l .bytes) (l .tally)) (l .out) (l .at) (l .i) (l .inv .3)
+    (omega (arith, c .before .loop-test .left, l .inv .0)) (l .inv .2) (c .packed2 .result) (c .packed2 .ensures)
 
 pub list-spec : {M : Type 1} → statement M
 list-spec =

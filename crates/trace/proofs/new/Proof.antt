@@ -3,6 +3,7 @@ use Rattle.line.specs.declared.LineReader.{LineReader}
 use borrow.Author.Needs.{needs}
 use Rattle.trace.proofs.new.Statement.{statement}
 use Rattle.trace.proofs.new.Tie as tie
+use Rattle.answer.specs.Answer.{refused}
 
 new-requires : tie.Need-new-requires
 new-requires c κs = search needs

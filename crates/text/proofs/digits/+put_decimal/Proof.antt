@@ -4,7 +4,8 @@ use Prim.Native.Nat.{_+_, _/_, _≤_}
 use native.Mathlib.Omega.{arith}
 use lib.ListN.{length-set}
 use Rattle.text.proofs.Writing.{wrote-as}
-use Rattle.text.proofs.DigitLaws.{decimal-pair, length-small, length-pair, length-hundreds, wrote-small, wrote-hundreds}
+use Rattle.text.proofs.DigitLaws.{decimal-pair, length-small, length-pair, length-hundreds, wrote-small}
+use Rattle.text.proofs.DigitLaws.{wrote-hundreds}
 use Prim.Native.Nat.{ℕ, _<_}
 use borrow.Fn.Kinds.{In}
 use borrow.Fn.PlainCycle.{Measures, is, falls, and}

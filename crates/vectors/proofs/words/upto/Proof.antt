@@ -10,7 +10,8 @@ index-of-requires c κs = search needs
 
 slice-aggregate-result : tie.Need-slice-aggregate-result
 slice-aggregate-result c =
-    sym (length-take-le (c .before .index-of .result) (c .before .before .before .args .s .now) (c .before .index-of .ensures))
+    sym (length-take-le (c .before .index-of .result) (c .before .before .before .args .s .now)
+    (c .before .index-of .ensures))
 
 returns : tie.Need-returns
 returns c =
