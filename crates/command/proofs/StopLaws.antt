@@ -34,18 +34,20 @@ module _ (p : Entry → Bool) where
   unfolding foundSoFar
   found-broken t q e = ap (foundSoFar t) (sym e)
 
-  either-way : (t u v : Bool) → pick (pick t true u) true v ≡ pick t true (pick u true v)
-  either-way true u v = refl
-  either-way false u v = refl
-
-  pub found-more : (t u v : Bool) (e : Entry) (q r : Parsed) → q ≡ withEntry e r → v ≡ p e → u ≡ pick t true v
-      → foundSoFar u r ≡ foundSoFar t q
+  -- an entry more, one that passes or one that does not
+  pub found-here : (t : Bool) (e : Entry) (q r : Parsed) → q ≡ withEntry e r → p e ≡ true
+      → foundSoFar true r ≡ foundSoFar t q
   unfolding foundSoFar anyOf withEntry
-  found-more t u v e q unsound h k g = ap (foundSoFar t) (sym h)
-  found-more t u v e q (sound es) h k g =
-      ap (λ (x : Bool). pick x true (anyOf p es)) (g ∙ ap (pick t true) k)
-      ∙ either-way t (p e) (anyOf p es)
-      ∙ ap (foundSoFar t) (sym h)
+  found-here t e q unsound h y = ap (foundSoFar t) (sym h)
+  found-here true e q (sound es) h y = ap (foundSoFar true) (sym h)
+  found-here false e q (sound es) h y = sym (simp y) ∙ ap (foundSoFar false) (sym h)
+
+  pub found-later : (t : Bool) (e : Entry) (q r : Parsed) → q ≡ withEntry e r → p e ≡ false
+      → foundSoFar t r ≡ foundSoFar t q
+  unfolding foundSoFar anyOf withEntry
+  found-later t e q unsound h n = ap (foundSoFar t) (sym h)
+  found-later t e q (sound es) h n =
+      ap (λ (x : Bool). pick t true (pick x true (anyOf p es))) (sym n) ∙ ap (foundSoFar t) (sym h)
 
 -- ---- data 01 02
 

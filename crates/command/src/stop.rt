@@ -3,9 +3,7 @@ use crate::entries;
 use crate::entries::Cursor;
 use crate::entries::Step;
 ghost use mathlib.Core.Path.{_≡_};
-ghost use mathlib.Core.Bool.{true};
 ghost use lib.ListN.{take, drop};
-ghost use Rattle.lists.specs.Choice.{pick};
 ghost use Rattle.command.specs.Entries.{commands, entry, parse};
 ghost use Rattle.command.specs.Stop.{anyIn, isOneTwo, stopsWorkout};
 ghost use Rattle.command.specs.Private.{passes};
@@ -53,7 +51,9 @@ fn holds(sought: Sought, list: &[u8]) -> bool
                 len,
                 next,
             } => {
-                is_found = either(is_found, is_sought(sought, byte, list, start, len));
+                if is_sought(sought, byte, list, start, len) {
+                    is_found = true;
+                }
                 cursor = next;
             }
         }
@@ -96,13 +96,4 @@ fn is_one_two(s: &[u8]) -> bool
         return false;
     }
     true
-}
-
-fn either(a: bool, b: bool) -> bool
-    ensures { λ r. ⌜ r ≡ pick a true b ⌝ }
-{
-    if a {
-        return true;
-    }
-    b
 }

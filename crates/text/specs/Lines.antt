@@ -1,4 +1,5 @@
--- The lines of a listing (document 01, "Listing"): one for each answer, and one of totals.
+-- The lines of a listing (document 01, "Listing"): one for each answer, and one of totals. The line of an answer is a
+-- head, with its number, and a body.
 use mathlib.Core.Bool.{Bool, true, false}
 use mathlib.Core.List.{List, [], _∷_, _++_}
 use Prim.Native.Nat.{ℕ}
@@ -31,7 +32,7 @@ abbrev pub stopText : Bool → List ℕ
 stopText true = ascii " stop=yes\n"
 stopText false = ascii " stop=no\n"
 
--- ---- a line: a head with its number, and a body
+-- ---- the line of an answer
 
 abbrev pub head : (n : ℕ) → List ℕ
 head n = field (ascii "n=") n

@@ -14,7 +14,7 @@ pub record Wrote (out : List ℕ) (at : ℕ) (w out′ : List ℕ) (end : ℕ) :
 abbrev pub lineRoom : ℕ
 lineRoom = 96
 
--- The room in which a head fits, and what it leaves for a body.
+-- The room in which a head fits, `n=` and 20 digits, and what it leaves for a body.
 abbrev pub headRoom : ℕ
 headRoom = 22
 

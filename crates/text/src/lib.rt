@@ -78,7 +78,7 @@ fn put_told(told: Told, contents: &[u8], n: u64, out: &mut [u8], at: usize) -> u
     }
 }
 
-// The head of a line, and then the three bodies.
+// The head of a line: its number.
 fn put_head(n: u64, out: &mut [u8], at: usize) -> usize
     requires { ⌜ at + headRoom ≤ length (now out) ⌝ }
     ensures { λ r. ⌜ Wrote (now (out .entry)) at (head n) (now (out .exit)) r ⌝ }
@@ -87,6 +87,7 @@ fn put_head(n: u64, out: &mut [u8], at: usize) -> usize
     put_field(b"n=", n, out, at)
 }
 
+// The bodies: of a refusal, of a standard frame, of an extended frame.
 fn put_refused(why: Refusal, out: &mut [u8], at: usize) -> usize
     requires { ⌜ at + bodyRoom ≤ length (now out) ⌝ }
     ensures { λ r. ⌜ Wrote (now (out .entry)) at (refusedBody (numberOf why)) (now (out .exit)) r ⌝ }

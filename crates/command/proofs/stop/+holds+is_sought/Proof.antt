@@ -1,6 +1,6 @@
 -- The loop over a list, and the test for its entries, which calls the loop again at a wrapper's list.
 use borrow.Author.Needs.{needs}
-use mathlib.Core.Path.{_≡_, ap, _∙_}
+use mathlib.Core.Path.{_≡_, sym, ap, _∙_}
 use mathlib.Core.List.{List}
 use Prim.Native.Nat.{ℕ, _+_, _-_, _*_, _<_}
 use native.Mathlib.Omega.{arith}
@@ -15,10 +15,9 @@ use Rattle.command.specs.declared.entries.Step.the-variants.{End, Broken
 use Rattle.command.specs.declared.stop.Sought.{Sought}
 use Rattle.command.specs.declared.stop.Sought.the-variants.{Wrapper, Terminate}
 use Rattle.command.proofs.EntryLaws.{told, told-stands}
-use Rattle.command.proofs.StopLaws.{foundSoFar, found-start, found-end, found-broken, found-more}
+use Rattle.command.proofs.StopLaws.{foundSoFar, found-start, found-end, found-broken, found-here, found-later}
 use Rattle.command.proofs.entries.Cursor.step.Reads as step-reads
 use Rattle.command.proofs.entries.part.Reads as part-reads
-use Rattle.command.proofs.stop.either.Reads as either-reads
 use Rattle.command.proofs.stop.is_one_two.Reads as is-one-two-reads
 use Rattle.command.proofs.stop.holds.Reads as holds
 use Rattle.command.proofs.stop.holds.Kinds as holds-kinds
@@ -56,8 +55,6 @@ in-holds t = (
   step-reads.Learnt,
   and 1 is-sought-kinds.ps (falls 1 is-sought-kinds.ps _<_ μ-is-sought t) is-sought.Pre,
   is-sought.Post,
-  either-reads.Asked,
-  either-reads.Learnt,
 )
 
 abbrev in-is-sought : ℕ → is-sought-lts.Claims
@@ -108,9 +105,23 @@ module _ (t : ℕ) where
   loop-again c =
       let k = c .before .before .before in
       let l = k .before .before .before .loop in
-      found-more (passes (k .before .before .before .before .before .args .sought)) (l .is-found) _ _ _ _ _
+      found-here (passes (k .before .before .before .before .before .args .sought)) (l .is-found) _ _ _
       (told _ _ (l .cursor .at) (k .before .before .step .ensures) _ (k .step2 .given .1))
-      (c .before .is-sought .ensures) (c .either .ensures)
+      (sym (c .before .is-sought .ensures) ∙ c .if1 .taken)
+      ∙ l .inv
+
+  loop-less-2 : holds-lts.Need-loop-less-2 (in-holds t) (holds-at t) holds.Post Inv-loop μ-loop
+  loop-less-2 c =
+      let k = c .before .before .before in
+      omega (arith, told-stands _ _ _ (k .before .before .step .ensures) _ _ _ _ (k .step2 .given .1))
+
+  loop-again-2 : holds-lts.Need-loop-again-2 (in-holds t) (holds-at t) holds.Post Inv-loop μ-loop
+  loop-again-2 c =
+      let k = c .before .before .before in
+      let l = k .before .before .before .loop in
+      found-later (passes (k .before .before .before .before .before .args .sought)) (l .is-found) _ _ _
+      (told _ _ (l .cursor .at) (k .before .before .step .ensures) _ (k .step2 .given .1))
+      (sym (c .before .is-sought .ensures) ∙ c .if1 .left)
       ∙ l .inv
 
   -- ---- the test
@@ -146,7 +157,7 @@ pub +holds+is-sought-spec : {M : Type 1} → statement M
     close μ-holds μ-is-sought
     (λ t. holds-lts.spec (in-holds t) (holds-at t) holds.Post Inv-loop μ-loop
     (loop-holds t) (λ c κs. search needs) (λ c. search needs) (returns t) (λ c. search needs) (returns-2 t)
-    (λ c. search needs) (is-sought-requires t) (λ c κs. search needs) (loop-less t) (loop-again t))
+    (λ c. search needs) (is-sought-requires t) (loop-less t) (loop-again t) (loop-less-2 t) (loop-again-2 t))
     (λ t. is-sought-lts.spec (in-is-sought t) (is-sought-at t) is-sought.Post
     (λ c. search needs) (no-wrapper t) (λ c κs. search needs) (holds-requires t) (λ c. search needs) (no-terminate t)
     (λ c κs. search needs) (λ c κs. search needs) (in-wrapper t) (terminate t))
