@@ -10,7 +10,8 @@ use borrow.Author.Tests.{ltb-false}
 use Rattle.lists.proofs.Cases.{by-bool}
 use Rattle.answer.specs.Refusals.{numberOf}
 use Rattle.answer.specs.declared.Refusal.{Refusal}
-use Rattle.command.specs.Entries.{Entry, commands, entryBytes, listBytes, WellFormed, AllWellFormed, Parsed, unsound, sound, parse, headOf, found, nthOf, nthIn, Extent}
+use Rattle.command.specs.Entries.{Entry, commands, entryBytes, listBytes, WellFormed, AllWellFormed, Parsed}
+use Rattle.command.specs.Entries.{unsound, sound, parse, headOf, found, nthOf, nthIn, Extent}
 use Rattle.answer.specs.Answer.{Answer, result, refused}
 use Rattle.command.specs.Answers.{foundMeans}
 use Rattle.command.specs.Traversal.{commandAt, indexPast, indexAfter}
@@ -33,7 +34,8 @@ refused-from s at k h n = case (parse commands (drop at s) 0) h
     case (sound []) e = e
     case (sound (x ∷ es)) e = let w : _≡_ {A = ℕ} 0 1 = cc in absurd (omega arith)
 
-width-of : (e : Entry) → WellFormed commands e → headOf commands (e .byte) + length (e .body) ≡ length (entryBytes commands e)
+width-of : (e : Entry) → WellFormed commands e
+    → headOf commands (e .byte) + length (e .body) ≡ length (entryBytes commands e)
 unfolding entryBytes
 width-of e f =
     by-bool (ltb (e .byte) commands)
@@ -49,8 +51,12 @@ one-past s at e es h =
     let p : indexAfter s at ≡ at + length (entryBytes commands e) =
     ap (λ (x : Parsed). indexPast at (nthIn commands at x 0)) h ∙ omega (arith, width-of e (m .1 .0)) in
     let d : drop (at + length (entryBytes commands e)) s ≡ listBytes commands es =
-    sym (drop-drop (length (entryBytes commands e)) at s) ∙ ap (drop (length (entryBytes commands e))) (sym (m .0)) ∙ drop-append-seam (entryBytes commands e) (listBytes commands es) in
-    (p, ap (λ (n : ℕ). parse commands (drop n s) 0) p ∙ ap (λ (l : List ℕ). parse commands l 0) d ∙ parse-wire commands es (m .1 .1))
+    sym (drop-drop (length (entryBytes commands e)) at s) ∙ ap (drop (length (entryBytes commands e))) (sym (m .0))
+    ∙ drop-append-seam (entryBytes commands e) (listBytes commands es) in (
+      p,
+      ap (λ (n : ℕ). parse commands (drop n s) 0) p ∙ ap (λ (l : List ℕ). parse commands l 0) d
+          ∙ parse-wire commands es (m .1 .1),
+    )
 
 -- a command further on from an index is that one from the next index
 pub next-from : (s : List ℕ) (at n : ℕ) → nthFrom s (indexAfter s at) n ≡ nthFrom s at (suc n)
@@ -61,14 +67,17 @@ next-from s at n = case (parse commands (drop at s) 0) refl
     here m = nthIn commands at (parse commands (drop at s) 0) m
 
     stays : (k : ℕ) → here 0 ≡ refused k → nthFrom s (indexPast at (here 0)) n ≡ here (suc n)
-    stays k e = ap (λ (a : Answer Extent). nthFrom s (indexPast at a) n) e ∙ refused-from s at k e n ∙ sym (refused-from s at k e (suc n))
+    stays k e =
+        ap (λ (a : Answer Extent). nthFrom s (indexPast at a) n) e ∙ refused-from s at k e n
+        ∙ sym (refused-from s at k e (suc n))
 
     case : (p : Parsed) → parse commands (drop at s) 0 ≡ p → nthFrom s (indexPast at (here 0)) n ≡ here (suc n)
     case unsound e = stays 7 (ap (λ (x : Parsed). nthIn commands at x 0) e)
     case (sound []) e = stays 15 (ap (λ (x : Parsed). nthIn commands at x 0) e)
     case (sound (x ∷ es)) e =
         let o = one-past s at x es e in
-        ap (λ (q : Parsed). nthIn commands (indexPast at (here 0)) q n) (o .1) ∙ ap (λ (m : ℕ). nthOf commands m es n) (o .0)
+        ap (λ (q : Parsed). nthIn commands (indexPast at (here 0)) q n) (o .1)
+        ∙ ap (λ (m : ℕ). nthOf commands m es n) (o .0)
         ∙ sym (ap (λ (q : Parsed). nthIn commands at q (suc n)) e)
 
 -- ---- what a call that answers the command at an index, and the match on it, tell
@@ -91,7 +100,8 @@ module _ (s : List ℕ) (at : ℕ) (f : Found) (d : foundMeans f ≡ commandAt s
   pub from-refused : (n : ℕ) (r : Refusal) → f ≡ Refused r → refused (numberOf r) ≡ nthFrom s at n
   from-refused n r e = sym (refused-from s at (numberOf r) (sym d ∙ ap foundMeans e) n)
 
-pub from-next : (s : List ℕ) (at n next : ℕ) → next ≡ indexAfter s at → (n ≡ 0 → ⊥) → nthFrom s next (n - 1) ≡ nthFrom s at n
+pub from-next : (s : List ℕ) (at n next : ℕ) → next ≡ indexAfter s at → (n ≡ 0 → ⊥)
+    → nthFrom s next (n - 1) ≡ nthFrom s at n
 from-next s at n next e z =
     let one : suc (n - 1) ≡ n = omega arith in
     ap (λ (x : ℕ). nthFrom s x (n - 1)) e ∙ next-from s at (n - 1) ∙ ap (nthFrom s at) one

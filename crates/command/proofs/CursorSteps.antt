@@ -9,7 +9,8 @@ use lib.ListN.{length, take, drop, length-append, length-drop, drop-of-length-le
 use lib.Seq.{take-take, drop-drop, length-take-le}
 use denote.Ref.{RefT, now}
 use Rattle.lists.specs.Choice.{pick}
-use Rattle.command.specs.Entries.{Entry, commands, entryBytes, listBytes, Parsed, unsound, sound, parse, found, nthOf, nthIn, Extent}
+use Rattle.command.specs.Entries.{Entry, commands, entryBytes, listBytes, Parsed, unsound, sound, parse, found}
+use Rattle.command.specs.Entries.{nthOf, nthIn, Extent}
 use Rattle.answer.specs.Answer.{Answer, result, refused}
 use Rattle.command.specs.Answers.{partOf}
 use Rattle.command.specs.Commands.{isWrapper, nthCommand, shifted, inside, nthInside}
@@ -44,23 +45,31 @@ unfolding indexOf listBytes
 index-from s at [] rest h = sym (add-zero at)
 index-from s at (e ∷ before) rest h =
     let o = one-past s at e (before ++ rest) h in
-    index-from s (indexAfter s at) before rest (o .1) ∙ omega (arith, o .0, length-append (entryBytes commands e) (listBytes commands before))
+    index-from s (indexAfter s at) before rest (o .1)
+    ∙ omega (arith, o .0, length-append (entryBytes commands e) (listBytes commands before))
 
 -- Moved past the first commands of a sound list, a new cursor stands after their bytes.
-pub kth-index : (s : List ℕ) (before rest : List Entry) → parse commands s 0 ≡ sound (before ++ rest) → indexOf s (length before) 0 ≡ length (listBytes commands before)
+pub kth-index : (s : List ℕ) (before rest : List Entry) → parse commands s 0 ≡ sound (before ++ rest)
+    → indexOf s (length before) 0 ≡ length (listBytes commands before)
 kth-index s before rest h = index-from s 0 before rest h ∙ omega arith
 
 moves-add : (s : List ℕ) (j k at : ℕ) → indexOf s (j + k) at ≡ indexOf s k (indexOf s j at)
 unfolding indexOf
 moves-add s zero k at = let z : 0 + k ≡ k = omega arith in ap (λ (n : ℕ). indexOf s n at) z
-moves-add s (suc j) k at = let z : suc j + k ≡ suc (j + k) = omega arith in ap (λ (n : ℕ). indexOf s n at) z ∙ moves-add s j k (indexAfter s at)
+moves-add s (suc j) k at =
+    let z : suc j + k ≡ suc (j + k) = omega arith in
+    ap (λ (n : ℕ). indexOf s n at) z ∙ moves-add s j k (indexAfter s at)
 
--- Any row of cursors of which the first is as `new` ensures and each other as `advanced` ensures of the one before: the k-th answers as the call with n = k does.
+-- Any row of cursors of which the first is as `new` ensures and each other as `advanced` ensures of the one before: the
+-- k-th answers as the call with n = k does.
 pub run-answers : (s : RefT (List ℕ)) (row : ℕ → CommandCursor) → (row 0 .contents ≡ s) × (row 0 .at ≡ 0)
-    → ((k : ℕ) → (row (suc k) .contents ≡ row k .contents) × (row (suc k) .at ≡ indexAfter (now (row k .contents)) (row k .at)))
+    → ((k : ℕ) → (row (suc k) .contents ≡ row k .contents)
+    × (row (suc k) .at ≡ indexAfter (now (row k .contents)) (row k .at)))
     → (k : ℕ) → commandAt (now (row k .contents)) (row k .at) ≡ nthCommand (now s) k
 unfolding indexOf
-run-answers s row first next k = let r = stands k in ap (λ (c : RefT (List ℕ)). commandAt (now c) (row k .at)) (r .0) ∙ ap (commandAt (now s)) (r .1) ∙ kth-step (now s) k
+run-answers s row first next k =
+    let r = stands k in ap (λ (c : RefT (List ℕ)). commandAt (now c) (row k .at)) (r .0) ∙ ap (commandAt (now s)) (r .1)
+    ∙ kth-step (now s) k
   where
     stands : (k : ℕ) → (row k .contents ≡ s) × (row k .at ≡ indexOf (now s) k 0)
     stands zero = first
@@ -85,25 +94,31 @@ pub none-past-end : (s : List ℕ) (at : ℕ) → length s ≤ at → commandAt 
 unfolding commandAt nthIn nthOf parse
 none-past-end s at h = ap (λ (l : List ℕ). nthIn commands at (parse commands l 0) 0) (drop-of-length-le s h)
 
--- Moved past the last command of a sound list, a new cursor stands at the end and answers 15, however often it is moved.
-pub end-always : (s : List ℕ) (es : List Entry) → parse commands s 0 ≡ sound es → (k : ℕ) → (indexOf s (length es + k) 0 ≡ length s) × (commandAt s (indexOf s (length es + k) 0) ≡ refused 15)
+-- Moved past the last command of a sound list, a new cursor stands at the end and answers 15, however often it is
+-- moved.
+pub end-always : (s : List ℕ) (es : List Entry) → parse commands s 0 ≡ sound es → (k : ℕ)
+    → (indexOf s (length es + k) 0 ≡ length s) × (commandAt s (indexOf s (length es + k) 0) ≡ refused 15)
 end-always s es h k =
     let w = ap length (sound-exactly commands s es .0 h .0) in
     let last = kth-index s es [] (h ∙ ap sound (sym (append-nil es))) ∙ w in
     let none = none-past-end s (length s) (omega arith) in
-    let stands : indexOf s (length es + k) 0 ≡ length s = moves-add s (length es) k 0 ∙ ap (indexOf s k) last ∙ refused-stays s (length s) 15 none k in
+    let stands : indexOf s (length es + k) 0 ≡ length s =
+    moves-add s (length es) k 0 ∙ ap (indexOf s k) last ∙ refused-stays s (length s) 15 none k in
     (stands, ap (commandAt s) stands ∙ none)
 
 -- On an unsound list a new cursor answers 7 and stays at the start, however often it is moved.
-pub unsound-always : (s : List ℕ) → parse commands s 0 ≡ unsound → (k : ℕ) → (indexOf s k 0 ≡ 0) × (commandAt s (indexOf s k 0) ≡ refused 7)
+pub unsound-always : (s : List ℕ) → parse commands s 0 ≡ unsound → (k : ℕ)
+    → (indexOf s k 0 ≡ 0) × (commandAt s (indexOf s k 0) ≡ refused 7)
 unfolding nthCommand nthIn indexOf
 unsound-always s h k =
-    let seven : (n : ℕ) → commandAt s (indexOf s n 0) ≡ refused 7 = λ n. kth-step s n ∙ ap (λ (p : Parsed). nthIn commands 0 p n) h in
+    let seven : (n : ℕ) → commandAt s (indexOf s n 0) ≡ refused 7 =
+    λ n. kth-step s n ∙ ap (λ (p : Parsed). nthIn commands 0 p n) h in
     (refused-stays s 0 7 (seven 0) k, seven k)
 
 -- ---- in a wrapper
 
--- A new cursor on a wrapper's data answers as the call inside the wrapper does, with indices that count from the data's start.
+-- A new cursor on a wrapper's data answers as the call inside the wrapper does, with indices that count from the data's
+-- start.
 pub kth-inside : (s : List ℕ) (w k b start len : ℕ) → nthCommand s w ≡ result (found b start len) → isWrapper b ≡ true
     → nthInside s w k ≡ shifted start (commandAt (partOf s (nthCommand s w)) (indexOf (partOf s (nthCommand s w)) k 0))
 unfolding nthInside inside
@@ -120,18 +135,23 @@ part-of-part (suc at) l zero s h = absurd (omega arith)
 part-of-part (suc at) l (suc len) [] h = refl
 part-of-part (suc at) l (suc len) (x ∷ s) h = part-of-part at l len s (omega arith)
 
-part-shifted : (s : List ℕ) (start len : ℕ) → start + len ≤ length s → (part : List ℕ) → part ≡ take len (drop start s) → (a : Answer Extent) → InContents part a → partOf part a ≡ partOf s (shifted start a)
+part-shifted : (s : List ℕ) (start len : ℕ) → start + len ≤ length s → (part : List ℕ) → part ≡ take len (drop start s)
+    → (a : Answer Extent) → InContents part a → partOf part a ≡ partOf s (shifted start a)
 part-shifted s start len h part d (refused k) w = refl
 part-shifted s start len h part d (result (found b at l)) w =
     let n : length part ≡ len = ap length d ∙ length-take-le len (drop start s) (omega (arith, length-drop start s)) in
-    ap (λ (x : List ℕ). take l (drop at x)) d ∙ part-of-part at l len (drop start s) (omega arith) ∙ ap (take l) (drop-drop at start s)
+    ap (λ (x : List ℕ). take l (drop at x)) d ∙ part-of-part at l len (drop start s) (omega arith)
+    ∙ ap (take l) (drop-drop at start s)
 
 -- Its data is that call's data, the same part of the whole contents.
-pub kth-inside-data : (s : List ℕ) (w k b start len : ℕ) → nthCommand s w ≡ result (found b start len) → isWrapper b ≡ true
-    → partOf (partOf s (nthCommand s w)) (commandAt (partOf s (nthCommand s w)) (indexOf (partOf s (nthCommand s w)) k 0)) ≡ partOf s (nthInside s w k)
+pub kth-inside-data : (s : List ℕ) (w k b start len : ℕ) → nthCommand s w ≡ result (found b start len)
+    → isWrapper b ≡ true
+    → partOf (partOf s (nthCommand s w))
+    (commandAt (partOf s (nthCommand s w)) (indexOf (partOf s (nthCommand s w)) k 0)) ≡ partOf s (nthInside s w k)
 kth-inside-data s w k b start len e y =
     let part = partOf s (nthCommand s w) in
     let answer = commandAt part (indexOf part k 0) in
     let fits : start + len ≤ length s = subst (InContents s) e (within-command s w) in
-    part-shifted s start len fits part (ap (partOf s) e) answer (subst (InContents part) (sym (kth-step part k)) (within-command part k))
+    part-shifted s start len fits part (ap (partOf s) e) answer
+    (subst (InContents part) (sym (kth-step part k)) (within-command part k))
     ∙ sym (ap (partOf s) (kth-inside s w k b start len e y))

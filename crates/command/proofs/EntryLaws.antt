@@ -12,7 +12,8 @@ use lib.Seq.{drop-cons, drop-drop, length-take-le, take-all, take-nil}
 use borrow.Author.Tests.{ltb-true, ltb-false, leb-true, leb-false}
 use Rattle.lists.specs.Choice.{pick}
 use Rattle.lists.proofs.Cases.{by-bool}
-use Rattle.command.specs.Entries.{Entry, entry, entryBytes, Parsed, unsound, sound, withEntry, parse, parseCounted, headOf, found, nthOf, nthIn, Extent}
+use Rattle.command.specs.Entries.{Entry, entry, entryBytes, Parsed, unsound, sound, withEntry, parse}
+use Rattle.command.specs.Entries.{parseCounted, headOf, found, nthOf, nthIn, Extent}
 use Rattle.answer.specs.Answer.{Answer, result, refused, through}
 use Rattle.command.specs.Answers.{counted}
 use Rattle.command.specs.Steps.{cursor, stepAt}
@@ -41,24 +42,32 @@ skip-beyond limit (suc k) (x ∷ s) h = skip-beyond limit k s (omega arith)
 abbrev pub parseAfter : ℕ → List ℕ → Step → Parsed
 parseAfter limit s End = sound []
 parseAfter limit s Broken = unsound
-parseAfter limit s (At b start len next) = withEntry (entry b (take len (drop start s))) (parse limit (drop (next .at) s) 0)
+parseAfter limit s (At b start len next) =
+    withEntry (entry b (take len (drop start s))) (parse limit (drop (next .at) s) 0)
 
 counted-at : (limit b : ℕ) (s : List ℕ) (at : ℕ)
     → parseCounted limit (drop (at + 1) s) b
-    ≡ parseAfter limit s (pick (ltb (at + 1) (length s)) (pick (leb (getD s (at + 1) 0) (length s - (at + 2))) (At b (at + 2) (getD s (at + 1) 0) (cursor (at + 2 + getD s (at + 1) 0))) Broken) Broken)
+    ≡ parseAfter limit s (pick (ltb (at + 1) (length s))
+    (pick (leb (getD s (at + 1) 0) (length s - (at + 2)))
+    (At b (at + 2) (getD s (at + 1) 0) (cursor (at + 2 + getD s (at + 1) 0))) Broken) Broken)
 unfolding parse withEntry
 counted-at limit b s at =
     by-bool (ltb (at + 1) (length s))
     (λ y. let two : suc (at + 1) ≡ at + 2 = omega arith in
     let n = getD s (at + 1) 0 in
-    let front : drop (at + 1) s ≡ n ∷ drop (at + 2) s = drop-cons s (at + 1) 0 (ltb-true _ _ y) ∙ ap (λ (k : ℕ). n ∷ drop k s) two in
+    let front : drop (at + 1) s ≡ n ∷ drop (at + 2) s =
+    drop-cons s (at + 1) 0 (ltb-true _ _ y) ∙ ap (λ (k : ℕ). n ∷ drop k s) two in
     ap (λ (l : List ℕ). parseCounted limit l b) front
     ∙ by-bool (leb n (length s - (at + 2)))
-    (λ z. let fits : n ≤ length (drop (at + 2) s) = omega (arith, length-drop (at + 2) s, leb-true n (length s - (at + 2)) z) in
-    ap (withEntry (entry b (take n (drop (at + 2) s)))) (skip-within limit n (drop (at + 2) s) fits ∙ ap (λ (l : List ℕ). parse limit l 0) (drop-drop n (at + 2) s))
+    (λ z. let fits : n ≤ length (drop (at + 2) s) =
+    omega (arith, length-drop (at + 2) s, leb-true n (length s - (at + 2)) z) in
+    ap (withEntry (entry b (take n (drop (at + 2) s))))
+    (skip-within limit n (drop (at + 2) s) fits ∙ ap (λ (l : List ℕ). parse limit l 0) (drop-drop n (at + 2) s))
     ∙ sym (simp (y, z)))
-    (λ z. let over : length (drop (at + 2) s) < n = omega (arith, length-drop (at + 2) s, leb-false n (length s - (at + 2)) z) in
-    ap (withEntry (entry b (take n (drop (at + 2) s)))) (skip-beyond limit n (drop (at + 2) s) over) ∙ sym (simp (y, z))))
+    (λ z. let over : length (drop (at + 2) s) < n =
+    omega (arith, length-drop (at + 2) s, leb-false n (length s - (at + 2)) z) in
+    ap (withEntry (entry b (take n (drop (at + 2) s)))) (skip-beyond limit n (drop (at + 2) s) over)
+    ∙ sym (simp (y, z))))
     (λ y. ap (λ (l : List ℕ). parseCounted limit l b) (drop-of-length-le s (ltb-false _ _ y)) ∙ sym (simp y))
 
 -- the bytes from an index on are what stands there, and then the bytes after it
@@ -67,7 +76,8 @@ unfolding parse withEntry stepAt
 entry-step limit s at =
     by-bool (ltb at (length s))
     (λ y. let b = getD s at 0 in
-    let front : drop at s ≡ b ∷ drop (at + 1) s = drop-cons s at 0 (ltb-true _ _ y) ∙ ap (λ (k : ℕ). b ∷ drop k s) (sym (add-one at)) in
+    let front : drop at s ≡ b ∷ drop (at + 1) s =
+    drop-cons s at 0 (ltb-true _ _ y) ∙ ap (λ (k : ℕ). b ∷ drop k s) (sym (add-one at)) in
     ap (λ (l : List ℕ). parse limit l 0) front
     ∙ by-bool (ltb b limit)
     (λ z. (simp z) ∙ counted-at limit b s at ∙ sym (simp (y, z)))
@@ -82,7 +92,8 @@ pub record EntryStands (limit : ℕ) (s : List ℕ) (at b start len next : ℕ) 
   pub bare : ltb b limit ≡ false → len ≡ 0
   pub past : at < start
 
-stands : (limit : ℕ) (s : List ℕ) (at b start len : ℕ) (next : Cursor) → stepAt limit s at ≡ At b start len next → EntryStands limit s at b start len (next .at)
+stands : (limit : ℕ) (s : List ℕ) (at b start len : ℕ) (next : Cursor) → stepAt limit s at ≡ At b start len next
+    → EntryStands limit s at b start len (next .at)
 unfolding stepAt
 stands limit s at b start len next e =
     let c = getD s at 0 in
@@ -100,9 +111,17 @@ stands limit s at b start len next e =
     let t : ltb b limit ≡ true = ap (λ (x : ℕ). ltb x limit) (sym eb) ∙ z in
     let i = ltb-true (at + 1) (length s) u in
     let j = leb-true n (length s - (at + 2)) v in
-    record { head = simp t (sym es); ends = omega arith; fits = omega arith; bare = λ f. absurd (true≢false (sym t ∙ f)); past = omega arith })
-    (λ v. let q : Broken ≡ At b start len next = simp (y, z, u, v) at e in let w : _≡_ {A = ℕ} 0 1 = cc in absurd (omega arith)))
-    (λ u. let q : Broken ≡ At b start len next = simp (y, z, u) at e in let w : _≡_ {A = ℕ} 0 1 = cc in absurd (omega arith)))
+    record {
+      head = simp t (sym es);
+      ends = omega arith;
+      fits = omega arith;
+      bare = λ f. absurd (true≢false (sym t ∙ f));
+      past = omega arith;
+    })
+    (λ v. let q : Broken ≡ At b start len next = simp (y, z, u, v) at e in let w : _≡_ {A = ℕ} 0 1 = cc in
+    absurd (omega arith)))
+    (λ u. let q : Broken ≡ At b start len next = simp (y, z, u) at e in let w : _≡_ {A = ℕ} 0 1 = cc in
+    absurd (omega arith)))
     (λ z. let q : At c (at + 1) 0 (cursor (at + 1)) ≡ At b start len next = simp (y, z) at e in
     let eb : c ≡ b = cc in
     let es : at + 1 ≡ start = cc in
@@ -120,7 +139,8 @@ module _ (limit : ℕ) (s : List ℕ) (at : ℕ) {x : Step} (p : x ≡ stepAt li
   pub told : (y : Step) → x ≡ y → parse limit (drop at s) 0 ≡ parseAfter limit s y
   told y q = entry-step limit s at ∙ ap (parseAfter limit s) (sym p ∙ q)
 
-  pub told-stands : (b start len : ℕ) (next : Cursor) → x ≡ At b start len next → EntryStands limit s at b start len (next .at)
+  pub told-stands : (b start len : ℕ) (next : Cursor) → x ≡ At b start len next
+      → EntryStands limit s at b start len (next .at)
   told-stands b start len next q = stands limit s at b start len next (sym p ∙ q)
 
 -- ---- counting
@@ -146,7 +166,8 @@ unfolding counted withEntry
 count-put n e unsound = refl
 count-put n e (sound es) = ap result (omega arith)
 
-pub count-more : (n : ℕ) (p : Parsed) (e : Entry) (q : Parsed) → p ≡ withEntry e q → countedPlus (n + 1) (counted q) ≡ countedPlus n (counted p)
+pub count-more : (n : ℕ) (p : Parsed) (e : Entry) (q : Parsed) → p ≡ withEntry e q
+    → countedPlus (n + 1) (counted q) ≡ countedPlus n (counted p)
 count-more n p e q h = sym (ap (λ (x : Parsed). countedPlus n (counted x)) h ∙ count-put n e q)
 
 pub sound-unsound : (p : Parsed) (a : Answer Extent) → counted p ≡ refused 7 → refused 7 ≡ ifSound p a
@@ -180,31 +201,38 @@ module _ {limit : ℕ} {s : List ℕ} {at b start len next : ℕ} (t : EntryStan
       let l = data-length in
       by-bool (ltb b limit)
       (λ y. let h : start ≡ at + 2 = simp y at (t .head) in simp y (omega (arith, t .ends)))
-      (λ y. let h : start ≡ at + 1 = simp y at (t .head) in let z : len ≡ 0 = t .bare y in simp y (omega (arith, t .ends)))
+      (λ y. let h : start ≡ at + 1 = simp y at (t .head) in let z : len ≡ 0 = t .bare y in
+      simp y (omega (arith, t .ends)))
 
-  pub nth-found : (p q : Parsed) (n : ℕ) → p ≡ withEntry (entry b (take len (drop start s))) q → n ≡ 0 → ifSound q (result (found b start len)) ≡ nthIn limit at p n
+  pub nth-found : (p q : Parsed) (n : ℕ) → p ≡ withEntry (entry b (take len (drop start s))) q → n ≡ 0
+      → ifSound q (result (found b start len)) ≡ nthIn limit at p n
   unfolding withEntry nthIn nthOf ifSound
   nth-found p unsound n e z = sym (ap (λ (x : Parsed). nthIn limit at x n) e)
   nth-found p (sound es) n e z =
-      ap (λ (x : ℕ). result (found b x len)) (t .head) ∙ ap (λ (x : ℕ). result (found b (at + headOf limit b) x)) (sym data-length)
+      ap (λ (x : ℕ). result (found b x len)) (t .head)
+      ∙ ap (λ (x : ℕ). result (found b (at + headOf limit b) x)) (sym data-length)
       ∙ sym (ap (λ (x : Parsed). nthIn limit at x n) e ∙ ap (nthOf limit at (entry b (take len (drop start s)) ∷ es)) z)
 
-  pub nth-more : (p q : Parsed) (n : ℕ) → p ≡ withEntry (entry b (take len (drop start s))) q → (n ≡ 0 → ⊥) → nthIn limit next q (n - 1) ≡ nthIn limit at p n
+  pub nth-more : (p q : Parsed) (n : ℕ) → p ≡ withEntry (entry b (take len (drop start s))) q → (n ≡ 0 → ⊥)
+      → nthIn limit next q (n - 1) ≡ nthIn limit at p n
   unfolding withEntry nthIn nthOf
   nth-more p unsound n e z = sym (ap (λ (x : Parsed). nthIn limit at x n) e)
   nth-more p (sound es) zero e z = absurd (z refl)
   nth-more p (sound es) (suc n) e z =
       let one : suc n - 1 ≡ n = omega arith in
-      ap (nthOf limit next es) one ∙ ap (λ (x : ℕ). nthOf limit x es n) (sym width) ∙ sym (ap (λ (x : Parsed). nthIn limit at x (suc n)) e)
+      ap (nthOf limit next es) one ∙ ap (λ (x : ℕ). nthOf limit x es n) (sym width)
+      ∙ sym (ap (λ (x : Parsed). nthIn limit at x (suc n)) e)
 
 -- ---- a part of a list, as far as the list goes
 
 pub part-past : (s : List ℕ) (start len : ℕ) → length s ≤ start → [] ≡ take len (drop start s)
 part-past s start len h = sym (ap (take len) (drop-of-length-le s h) ∙ take-nil len)
 
-pub part-rest : (s : List ℕ) (start len : ℕ) → length s - start ≤ len → take (length s - start) (drop start s) ≡ take len (drop start s)
+pub part-rest : (s : List ℕ) (start len : ℕ) → length s - start ≤ len
+    → take (length s - start) (drop start s) ≡ take len (drop start s)
 part-rest s start len h =
-    let l = length-drop start s in take-all (length s - start) (drop start s) (omega arith) ∙ sym (take-all len (drop start s) (omega arith))
+    let l = length-drop start s in
+    take-all (length s - start) (drop start s) (omega arith) ∙ sym (take-all len (drop start s) (omega arith))
 
 pub part-whole : (s : List ℕ) (start len : ℕ) → take (start + len - start) (drop start s) ≡ take len (drop start s)
 part-whole s start len = let n : start + len - start ≡ len = omega arith in ap (λ (k : ℕ). take k (drop start s)) n

@@ -1,5 +1,6 @@
--- What the proofs by hand over a command cursor share: the struct's type and values, a cursor taken apart for a covered function, and one made of a slice and an index.
--- A `&[u8]` and the struct are Copy: what they own is had twice, and one of the two is kept whole for the exit.
+-- What the proofs by hand over a command cursor share: the struct's type and values, a cursor taken apart for a covered
+-- function, and one made of a slice and an index. A `&[u8]` and the struct are Copy: what they own is had twice, and
+-- one of the two is kept whole for the exit.
 use mathlib.Core.Path.{_≡_, refl}
 use Prim.Native.Nat.{ℕ, _<_, _^_}
 use mathlib.Core.List.{[], _∷_, List}
@@ -12,7 +13,8 @@ use base.Fml.{Lft, Share, Fml, ftrue, flft}
 use prog.Wp.{Heap}
 use ghost.Atoms.{Atoms}
 use contract.Lifetimes.{Lfts}
-use types.Kit.{Given, ‵, _⊛_, given, ⋆, _$_, _∵_, !, qed, move, drop, use1, split, join, learn, fsplit, fjoin, frame, done}
+use types.Kit.{Given, ‵, _⊛_, given, ⋆, _$_, _∵_, !, qed, move, drop, use1, split, join, learn, fsplit, fjoin, frame}
+use types.Kit.{done}
 use denote.RattleType.{RattleType, owns}
 use denote.Laws.{Is}
 use denote.Plain.{uint-makes}
@@ -71,11 +73,15 @@ module _ {M : Type 1} (𝓤 : URA M) (H : Heap 𝓤) (A : Atoms 𝓤) (W : Given
   opened d fits =
       qed W ((‵ (flft κ q) ⊛ ‵ ftrue) ∷ ‵ (owns (B (κ, tt) ∷ []) (d, tt) (mach d ∷ [], tt)) ∷ []) ∵
       move ! (1 ∷ []) $ fsplit ! $ move ! (1 ∷ []) $ drop ! $
-      use1 W (‵ (Own κ d) ⊛ ‵ (Own κ d)) (LL.copy (D κ) (T′.the-copy (namedLft 1 0 tt (κ, tt))) 𝓤 H A W .twice d (mach d ∷ [])) $ split ! $
-      use1 W (given (mach d ∷ [] ≡ mach d ∷ []) (‵ (all-own (D κ .parts) (L κ) (parts κ d)))) (own-open 𝓤 H A W (D κ) (L κ) (parts κ d) (mach d)) $ learn ! (λ _.
-      use1 W (‵ (ownAt (D κ .parts) (L κ) 0 (d .contents)) ⊛ ‵ (rest (D κ .parts) (L κ) 0 (parts κ d))) (own-out 𝓤 H A W (D κ .parts) (L κ) 0 (parts κ d)) $ split ! $
+      use1 W (‵ (Own κ d) ⊛ ‵ (Own κ d))
+      (LL.copy (D κ) (T′.the-copy (namedLft 1 0 tt (κ, tt))) 𝓤 H A W .twice d (mach d ∷ [])) $ split ! $
+      use1 W (given (mach d ∷ [] ≡ mach d ∷ []) (‵ (all-own (D κ .parts) (L κ) (parts κ d))))
+      (own-open 𝓤 H A W (D κ) (L κ) (parts κ d) (mach d)) $ learn ! (λ _.
+      use1 W (‵ (ownAt (D κ .parts) (L κ) 0 (d .contents)) ⊛ ‵ (rest (D κ .parts) (L κ) 0 (parts κ d)))
+      (own-out 𝓤 H A W (D κ .parts) (L κ) 0 (parts κ d)) $ split ! $
       -- [what contents owns; what at owns; what the struct owns; the token]
-      move ! (1 ∷ []) $ drop ! $ nothing ! $ owned ! usize (Is usize) (uint-makes 𝓤 H A W w64) (d .at) _ (refl, fits) $ fjoin ! $ move ! (1 ∷ 0 ∷ []) $ fjoin ! $
+      move ! (1 ∷ []) $ drop ! $ nothing ! $ owned ! usize (Is usize) (uint-makes 𝓤 H A W w64) (d .at) _
+      (refl, fits) $ fjoin ! $ move ! (1 ∷ 0 ∷ []) $ fjoin ! $
       move ! (2 ∷ 0 ∷ []) $ join ! $ frame ! $ done !)
 
   -- what a slice owns gives what a cursor of it owns, and is kept
@@ -84,6 +90,8 @@ module _ {M : Type 1} (𝓤 : URA M) (H : Heap 𝓤) (A : Atoms 𝓤) (W : Given
       (⋆ 𝓤 H A (‵ (Own κ (record { contents = s; at = n })) ∷ ‵ (ShrSlice (named 0) κ u8 .own s (slice s ∷ [])) ∷ []))
   made s n fits =
       qed W (‵ (ShrSlice (named 0) κ u8 .own s (slice s ∷ [])) ∷ []) ∵
-      use1 W (‵ (ShrSlice (named 0) κ u8 .own s (slice s ∷ [])) ⊛ ‵ (ShrSlice (named 0) κ u8 .own s (slice s ∷ []))) (shr-slice-copy 𝓤 H A W (named 0) κ u8 .twice s (slice s ∷ [])) $ split ! $
-      nothing ! $ owned ! usize (Is usize) (uint-makes 𝓤 H A W w64) n _ (refl, fits) $ fjoin ! $ move ! (1 ∷ 0 ∷ []) $ fjoin ! $
+      use1 W (‵ (ShrSlice (named 0) κ u8 .own s (slice s ∷ [])) ⊛ ‵ (ShrSlice (named 0) κ u8 .own s (slice s ∷ [])))
+      (shr-slice-copy 𝓤 H A W (named 0) κ u8 .twice s (slice s ∷ [])) $ split ! $
+      nothing ! $ owned ! usize (Is usize) (uint-makes 𝓤 H A W w64) n _ (refl, fits) $ fjoin ! $ move !
+      (1 ∷ 0 ∷ []) $ fjoin ! $
       use1 W (‵ (Own κ (record { contents = s; at = n }))) (own-shut 𝓤 H A W (D κ) (L κ) (s, (n, tt))) $ done !

@@ -9,10 +9,12 @@ use lib.ListN.{length, take, drop, length-append, take-append-drop}
 use lib.Seq.{length-take-le, take-append-seam, drop-append-seam}
 use borrow.Author.Tests.{ltb-false, le-ltb}
 use Rattle.lists.proofs.Cases.{by-bool}
-use Rattle.command.specs.Entries.{Entry, entry, entryBytes, listBytes, WellFormed, AllWellFormed, Parsed, unsound, sound, withEntry, parse}
+use Rattle.command.specs.Entries.{Entry, entry, entryBytes, listBytes, WellFormed, AllWellFormed, Parsed, unsound}
+use Rattle.command.specs.Entries.{sound, withEntry, parse}
 use Rattle.command.proofs.EntryLaws.{skip-within}
 
-put-inv : (e : Entry) (p : Parsed) (es : List Entry) → withEntry e p ≡ sound es → (fs : List Entry) × (p ≡ sound fs) × (es ≡ e ∷ fs)
+put-inv : (e : Entry) (p : Parsed) (es : List Entry) → withEntry e p ≡ sound es
+    → (fs : List Entry) × (p ≡ sound fs) × (es ≡ e ∷ fs)
 unfolding withEntry
 put-inv e unsound es h = let w : _≡_ {A = ℕ} 0 1 = cc in absurd (omega arith)
 put-inv e (sound fs) es h = let q : es ≡ e ∷ fs = cc in (fs, refl, q)
@@ -21,17 +23,20 @@ put-inv e (sound fs) es h = let q : es ≡ e ∷ fs = cc in (fs, refl, q)
 abbrev Means : (limit : ℕ) → List ℕ → ℕ → List Entry → Type 0
 Means limit s k es = (k ≤ length s) × (listBytes limit es ≡ drop k s) × AllWellFormed limit es
 
-counted-means : (limit b n : ℕ) (s : List ℕ) → ltb b limit ≡ true → (fs es : List Entry) → Means limit s n fs → es ≡ entry b (take n s) ∷ fs
+counted-means : (limit b n : ℕ) (s : List ℕ) → ltb b limit ≡ true → (fs es : List Entry) → Means limit s n fs
+    → es ≡ entry b (take n s) ∷ fs
     → (listBytes limit es ≡ b ∷ n ∷ s) × AllWellFormed limit es
 unfolding listBytes entryBytes AllWellFormed
 counted-means limit b n s y fs es m q =
     let l : length (take n s) ≡ n = length-take-le n s (m .0) in
     let w : listBytes limit (entry b (take n s) ∷ fs) ≡ b ∷ n ∷ s =
-    (simp (y, l)) ∙ ap (λ (x : List ℕ). b ∷ n ∷ take n s ++ x) (m .1) ∙ ap (λ (x : List ℕ). b ∷ n ∷ x) (take-append-drop n s) in
+    (simp (y, l)) ∙ ap (λ (x : List ℕ). b ∷ n ∷ take n s ++ x) (m .1)
+    ∙ ap (λ (x : List ℕ). b ∷ n ∷ x) (take-append-drop n s) in
     let formed : WellFormed limit (entry b (take n s)) = λ h. absurd (true≢false (sym y ∙ le-ltb b limit h)) in
     (ap (listBytes limit) q ∙ w, subst (AllWellFormed limit) (sym q) (formed, m .2))
 
-short-means : (limit b : ℕ) (s : List ℕ) → ltb b limit ≡ false → (fs es : List Entry) → Means limit s 0 fs → es ≡ entry b [] ∷ fs
+short-means : (limit b : ℕ) (s : List ℕ) → ltb b limit ≡ false → (fs es : List Entry) → Means limit s 0 fs
+    → es ≡ entry b [] ∷ fs
     → (listBytes limit es ≡ b ∷ s) × AllWellFormed limit es
 unfolding listBytes entryBytes AllWellFormed
 short-means limit b s y fs es m q =
@@ -41,20 +46,24 @@ short-means limit b s y fs es m q =
 
 pub parse-means : (limit : ℕ) (s : List ℕ) (k : ℕ) (es : List Entry) → parse limit s k ≡ sound es → Means limit s k es
 unfolding parse listBytes AllWellFormed
-parse-means limit [] zero es h = let q : es ≡ [] = cc in (omega arith, ap (listBytes limit) q, subst (AllWellFormed limit) (sym q) tt)
+parse-means limit [] zero es h =
+    let q : es ≡ [] = cc in (omega arith, ap (listBytes limit) q, subst (AllWellFormed limit) (sym q) tt)
 parse-means limit [] (suc k) es h = let w : _≡_ {A = ℕ} 0 1 = cc in absurd (omega arith)
 parse-means limit (x ∷ s) (suc k) es h = let m = parse-means limit s k es h in (omega arith, m .1, m .2)
 parse-means limit (b ∷ []) zero es h =
     by-bool (ltb b limit)
     (λ y. let q : unsound ≡ sound es = simp y at h in let w : _≡_ {A = ℕ} 0 1 = cc in absurd (omega arith))
     (λ y. let p = put-inv (entry b []) (parse limit [] 0) es (simp y at h) in
-    let m = short-means limit b [] y (p .0) es (parse-means limit [] zero (p .0) (p .1)) (p .2) in (omega arith, m .0, m .1))
+    let m = short-means limit b [] y (p .0) es (parse-means limit [] zero (p .0) (p .1)) (p .2) in
+    (omega arith, m .0, m .1))
 parse-means limit (b ∷ n ∷ s) zero es h =
     by-bool (ltb b limit)
     (λ y. let p = put-inv (entry b (take n s)) (parse limit s n) es (simp y at h) in
-    let m = counted-means limit b n s y (p .0) es (parse-means limit s n (p .0) (p .1)) (p .2) in (omega arith, m .0, m .1))
+    let m = counted-means limit b n s y (p .0) es (parse-means limit s n (p .0) (p .1)) (p .2) in
+    (omega arith, m .0, m .1))
     (λ y. let p = put-inv (entry b []) (parse limit (n ∷ s) 0) es (simp y at h) in
-    let m = short-means limit b (n ∷ s) y (p .0) es (parse-means limit (n ∷ s) zero (p .0) (p .1)) (p .2) in (omega arith, m .0, m .1))
+    let m = short-means limit b (n ∷ s) y (p .0) es (parse-means limit (n ∷ s) zero (p .0) (p .1)) (p .2) in
+    (omega arith, m .0, m .1))
 
 -- The bytes of well-formed entries are parsed as those entries.
 pub parse-wire : (limit : ℕ) (es : List Entry) → AllWellFormed limit es → parse limit (listBytes limit es) 0 ≡ sound es
@@ -64,15 +73,19 @@ parse-wire limit (e ∷ es) f =
     by-bool (ltb (e .byte) limit)
     (λ y. let rest = listBytes limit es in
     let n = length (e .body) in
-    (simp y) ∙ ap (λ (x : List ℕ). withEntry (entry (e .byte) x) (parse limit (e .body ++ rest) n)) (take-append-seam (e .body) rest)
+    (simp y) ∙ ap (λ (x : List ℕ). withEntry (entry (e .byte) x) (parse limit (e .body ++ rest) n))
+    (take-append-seam (e .body) rest)
     ∙ ap (withEntry e) (skip-within limit n (e .body ++ rest) (omega (arith, length-append (e .body) rest))
     ∙ ap (λ (x : List ℕ). parse limit x 0) (drop-append-seam (e .body) rest) ∙ parse-wire limit es (f .1)))
     (λ y. let q : e .body ≡ [] = f .0 (ltb-false (e .byte) limit y) in
-    (simp y) ∙ ap (λ (x : List ℕ). withEntry (entry (e .byte) x) (parse limit (listBytes limit es) 0)) (sym q) ∙ ap (withEntry e) (parse-wire limit es (f .1)))
+    (simp y) ∙ ap (λ (x : List ℕ). withEntry (entry (e .byte) x) (parse limit (listBytes limit es) 0)) (sym q)
+    ∙ ap (withEntry e) (parse-wire limit es (f .1)))
 
--- Bytes are sound, as a list of entries, exactly when they are the bytes of those entries, each well formed, one after the other.
+-- Bytes are sound, as a list of entries, exactly when they are the bytes of those entries, each well formed, one after
+-- the other.
 pub sound-exactly : (limit : ℕ) (s : List ℕ) (es : List Entry)
-    → (parse limit s 0 ≡ sound es → (listBytes limit es ≡ s) × AllWellFormed limit es) × ((listBytes limit es ≡ s) × AllWellFormed limit es → parse limit s 0 ≡ sound es)
+    → (parse limit s 0 ≡ sound es → (listBytes limit es ≡ s) × AllWellFormed limit es)
+    × ((listBytes limit es ≡ s) × AllWellFormed limit es → parse limit s 0 ≡ sound es)
 sound-exactly limit s es = (
   (λ h. let m = parse-means limit s 0 es h in (m .1, m .2)),
   (λ w. ap (λ (x : List ℕ). parse limit x 0) (sym (w .0)) ∙ parse-wire limit es (w .1)),

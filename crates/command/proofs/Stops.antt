@@ -9,7 +9,8 @@ use borrow.Author.Tests.{eq-eqb, eqb-true}
 use Rattle.lists.specs.Choice.{pick}
 use Rattle.lists.proofs.Cases.{by-bool, both-true}
 use Rattle.command.specs.Entries.{Entry, commands, Parsed, unsound, sound, parse}
-use Rattle.command.specs.Stop.{anyOf, anyIn, isOneTwo, terminates, stopsWithin, stopsWorkout, Among, first, later, StopsWorkout}
+use Rattle.command.specs.Stop.{anyOf, anyIn, isOneTwo, terminates, stopsWithin, stopsWorkout, Among, first, later}
+use Rattle.command.specs.Stop.{StopsWorkout}
 
 -- ---- an entry that passes a test
 

@@ -5,7 +5,7 @@ use mathlib.Core.Path.{_≡_}
 use mathlib.Core.List.{List, [], _∷_, _++_}
 use lib.Dec.{ltb}
 use lib.ListN.{length, take}
-use Rattle.lists.specs.Choice.{pick}
+use Rattle.lists.specs.Choice.{pick, Every}
 use Rattle.answer.specs.Answer.{Answer, result, refused}
 
 pub record Entry : Type 0 where
@@ -37,8 +37,7 @@ abbrev pub WellFormed : ℕ → Entry → Type 0
 WellFormed limit e = limit ≤ e .byte → e .body ≡ []
 
 unfoldable pub AllWellFormed : ℕ → List Entry → Type 0
-AllWellFormed limit [] = Unit {0}
-AllWellFormed limit (e ∷ es) = WellFormed limit e × AllWellFormed limit es
+AllWellFormed limit es = Every (WellFormed limit) es
 
 -- What bytes are as a list of entries: unsound where a count is missing or goes beyond the end.
 pub data Parsed : Type 0 where

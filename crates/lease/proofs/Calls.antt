@@ -51,8 +51,8 @@ pub data Called : LeaseTable → LeaseCall → Answer (List ℕ) → LeaseTable 
       → Called t (stop a u (length (out .now))) (stopTold (writtenMeans r) (out′ .now)) t
 
 -- A table that `new` gave.
-abbrev pub New : LeaseTable → Type 0
-New t = new-reads.Learnt tt tt t tt
+abbrev pub Made : LeaseTable → Type 0
+Made t = new-reads.Learnt tt tt t tt
 
 -- A call on a table is answered, and leaves the table, as the definitions say.
 called : (t t′ : LeaseTable) (c : LeaseCall) (x : Answer (List ℕ)) → Called t c x t′
@@ -67,7 +67,7 @@ called t t′ c x (stopped {a = a} {u = u} r κs out out′ e) = (
 
 -- Every run of `new`, `hold`, `release` and `stop` is answered as the definitions say, and leaves the table that they
 -- say.
-pub table-calls : {cs : List LeaseCall} {rs : List (Answer (List ℕ))} (k : Answered Called New cs rs)
+pub table-calls : {cs : List LeaseCall} {rs : List (Answer (List ℕ))} (k : Answered Called Made cs rs)
     → (rs ≡ answersOn newTable cs) × (k .last .tokens ≡ tableOn newTable cs)
 table-calls {cs} k =
     let r = ran-run Called tableAnswer tableAfter (λ (t : LeaseTable). t .tokens) called (k .ran) in (
@@ -130,8 +130,8 @@ alike a cs ds rs ss e f q = ap (answersAt a cs) e ∙ isolation a cs ds q ∙ sy
 
 -- Two runs on new tables that agree on one address's calls, with the lengths of their outputs, give that address equal
 -- answers.
-pub table-isolated : (a : ℕ) (cs ds : List LeaseCall) (rs ss : List (Answer (List ℕ))) → Answered Called New cs rs
-    → Answered Called New ds ss → callsAt a cs ≡ callsAt a ds → answersAt a cs rs ≡ answersAt a ds ss
+pub table-isolated : (a : ℕ) (cs ds : List LeaseCall) (rs ss : List (Answer (List ℕ))) → Answered Called Made cs rs
+    → Answered Called Made ds ss → callsAt a cs ≡ callsAt a ds → answersAt a cs rs ≡ answersAt a ds ss
 table-isolated a cs ds rs ss k l q = alike a cs ds rs ss (table-calls k .0) (table-calls l .0) q
 
 -- Two runs on the bytes of new tables that agree on one address's calls, with the lengths of their outputs, give that

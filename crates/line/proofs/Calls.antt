@@ -18,10 +18,11 @@ use Rattle.frame.specs.Verdict.{judge}
 use Rattle.frame.specs.Answers.{standardOutline, extendedOutline, judgeAnswer, frameRead}
 use Rattle.frame.specs.declared.Kind.{Kind}
 use Rattle.frame.proofs.ContentsLaws.{left-whole}
-use Rattle.line.specs.Outcome.{Outcome, judged, Summary, silent, tells, toldMeans, summaryOf, outcomeOf}
+use Rattle.line.specs.Outcome.{Outcome, judged, Summary, silent, tells, summaryOf, outcomeOf}
 use Rattle.line.specs.Outcome.{contentsBeside}
 use Rattle.line.specs.Rowing.{rowing, rowingBounds}
 use Rattle.line.specs.Reader.{ReaderTurn, lentReader, newReader, modeSeen, seen, roleStep, turnOf, outcomeAt}
+use Rattle.line.specs.Reader.{outcomeIn, lentOutcome}
 use Rattle.line.specs.Reader.{nextAfter, LentStepIs, StepIs}
 use Rattle.line.specs.declared.State.{State}
 use Rattle.line.specs.declared.LineReader.{LineReader}
@@ -72,20 +73,12 @@ beside-whole (tells (result (standardOutline len))) bytes = refl
 beside-whole (tells (result (extendedOutline to from len))) bytes = refl
 beside-whole (tells (refused n)) bytes = refl
 
--- The outcome that an answer by value holds.
-abbrev pub outcomeIn : Stepped → Outcome
-outcomeIn s = outcomeOf (toldMeans (s .answer .told)) (s .answer .contents)
-
 steps-outcome : (s : Stepped) (r : LineReader) (c : Call) → StepIs s (turnOf r c) → outcomeIn s ≡ outcomeAt r c
 steps-outcome s r c k =
     ap (λ (h : Summary). outcomeOf h (s .answer .contents)) (k .told-is)
     ∙ ap (outcomeOf (summaryOf (outcomeAt r c))) (k .contents-is)
     ∙ beside-whole (summaryOf (outcomeAt r c)) (nextAfter r c .bytes)
     ∙ call-whole r c
-
--- The outcome that an answer over a lent array and that array hold.
-abbrev pub lentOutcome : LentStep → List ℕ → Outcome
-lentOutcome s bytes = outcomeOf (toldMeans (s .told)) bytes
 
 pub lent-outcome : (bytes : List ℕ) (s : LentStep) (r : LineReader) (c : Call) → LentStepIs bytes s (turnOf r c)
     → lentOutcome s bytes ≡ outcomeAt r c

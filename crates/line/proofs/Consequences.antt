@@ -5,14 +5,13 @@ use native.Mathlib.Omega.{arith}
 use Prim.Native.Nat.{ℕ}
 use Rattle.framing.specs.Reference.{Call, byte, finish, Role, starts, stops, plain, Candidate, none, opened, byteAnswer}
 use Rattle.framing.specs.Reference.{answerTo, candidateAfter}
-use Rattle.lists.specs.Choice.{Every}
 use Rattle.lists.specs.Machine.{run}
 use Rattle.framing.proofs.Restart.{as-new}
 use Rattle.frame.specs.Verdict.{Verdict, verdict}
 use Rattle.answer.specs.Answer.{refused}
 use Rattle.frame.specs.Conditions.{Judged, truncated, long, badEscape, short, badSum, sound}
 use Rattle.frame.proofs.Table.{verdict-by-table}
-use Rattle.line.specs.Outcome.{Outcome, nothing, judged}
+use Rattle.line.specs.Outcome.{nothing, judged, Not1, Never1}
 use Rattle.frame.specs.Flags.{stopFlag, roleOf}
 use Rattle.line.specs.Rowing.{rowing}
 use Rattle.line.specs.Reader.{readerAnswers}
@@ -27,12 +26,6 @@ pub as-new-after-finish : (calls rest : List Call)
 as-new-after-finish = as-new rowing finish (λ k. refl) readerAnswers (reader-follows .same)
 
 -- ---- never 1
-
-abbrev pub Not1 : Outcome → Type 0
-Not1 o = o ≡ judged (refused 1) → ⊥
-
-abbrev pub Never1 : List Outcome → Type 0
-Never1 answers = Every Not1 answers
 
 other : (n : ℕ) → (n ≡ 1 → ⊥) → Not1 (judged (refused n))
 other n k e = let q : n ≡ 1 = cc in k q

@@ -1,7 +1,9 @@
 -- What a call on a line reader is answered with: document 01, "The line".
+use mathlib.Core.Path.{_≡_}
 use mathlib.Core.List.{List, [], _∷_}
 use Prim.Native.Nat.{ℕ, _≤_}
 use lib.ListN.{replicate}
+use Rattle.lists.specs.Choice.{Every}
 use Rattle.answer.specs.Answer.{Answer, result, refused}
 use Rattle.answer.specs.Refusals.{numberOf}
 use Rattle.frame.specs.Verdict.{Verdict}
@@ -23,6 +25,13 @@ withAnswer (judged v) answers = v ∷ answers
 abbrev pub answersIn : List Outcome → List Verdict
 answersIn [] = []
 answersIn (o ∷ outcomes) = withAnswer o (answersIn outcomes)
+
+-- No outcome is refusal 1, which a line reader never answers.
+abbrev pub Not1 : Outcome → Type 0
+Not1 o = o ≡ judged (refused 1) → ⊥
+
+abbrev pub Never1 : List Outcome → Type 0
+Never1 outcomes = Every Not1 outcomes
 
 -- An outcome without the contents: what the enum `Told` holds.
 pub data Summary : Type 0 where

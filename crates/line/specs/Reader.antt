@@ -8,7 +8,7 @@ use Rattle.framing.specs.Bounded.{BoundedMode, outside, inside, overlong, Bound
 use Rattle.frame.specs.Flags.{roleOf}
 use Rattle.frame.specs.declared.Kind.{Kind}
 use Rattle.frame.specs.declared.Kind.the-variants.{Standard, Extended}
-use Rattle.line.specs.Outcome.{Outcome, toldMeans, summaryOf, contentsBeside, zeros}
+use Rattle.line.specs.Outcome.{Outcome, toldMeans, summaryOf, outcomeOf, contentsBeside, zeros}
 use Rattle.line.specs.Rowing.{rowing, rowingBounds}
 use Rattle.line.specs.declared.Mode.{Mode}
 use Rattle.line.specs.declared.Mode.the-variants.{Outside, InStandard, InExtended, Overlong}
@@ -94,3 +94,13 @@ pub record StepIs (s : Stepped) (t : ReaderTurn) : Type 0 where
   pub told-is : toldMeans (s .answer .told) ≡ summaryOf (t .answer)
   pub contents-is : s .answer .contents ≡ contentsBeside (summaryOf (t .answer)) (t .next .bytes)
   pub next-is : s .next ≡ t .next
+
+-- ---- what a caller has of an answer
+
+-- The outcome that an answer by value holds.
+abbrev pub outcomeIn : Stepped → Outcome
+outcomeIn s = outcomeOf (toldMeans (s .answer .told)) (s .answer .contents)
+
+-- The outcome that an answer over a lent array and that array hold.
+abbrev pub lentOutcome : LentStep → List ℕ → Outcome
+lentOutcome s bytes = outcomeOf (toldMeans (s .told)) bytes

@@ -15,6 +15,7 @@ use Rattle.command.specs.Answers.{partOf}
 use Rattle.command.proofs.Extents.{parse-last, nth-earlier, data-at}
 use Rattle.reply.specs.Status.{status, soundStatus, statusIn, StatusParts}
 use Rattle.reply.specs.Replies.{reply, headIn, afterStatus, replyIn, itemOf, nthItem, statusDraft, withItem}
+use Rattle.reply.specs.Replies.{writeAll, ItemBytes}
 use Rattle.reply.specs.Replies.{afterReply, itemDraft, Reply}
 
 -- a reply's bytes are a status byte and sound items
@@ -110,18 +111,6 @@ item-data-is w t p x before e rest h =
     ∙ data-at items (m .0 ∷ []) (m .1) before e rest (m .4)
 
 -- ---- a list of items, written one by one
-
-abbrev pub withNext : Draft → Entry → Draft
-withNext (refused k) e = refused k
-withNext (result w) e = itemDraft w (e .byte) (e .body)
-
-unfoldable pub writeAll : Draft → List Entry → Draft
-writeAll d [] = d
-writeAll d (e ∷ es) = writeAll (withNext d e) es
-
-unfoldable pub ItemBytes : List Entry → Type 0
-ItemBytes [] = Unit {0}
-ItemBytes (e ∷ es) = (e .byte < 256) × ItemBytes es
 
 refused-stays : (k : ℕ) (es : List Entry) → writeAll (refused k) es ≡ refused k
 unfolding writeAll

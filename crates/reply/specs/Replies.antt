@@ -1,10 +1,11 @@
 -- Replies: what contents are as a reply, and what is written (document 01, "Commands and replies").
-use Prim.Native.Nat.{ℕ}
+use Prim.Native.Nat.{ℕ, _<_}
 use mathlib.Core.Bool.{Bool}
 use mathlib.Core.List.{List, [], _∷_, _++_}
 use lib.Dec.{leb}
 use lib.ListN.{length, drop}
-use Rattle.lists.specs.Choice.{pick}
+use Rattle.lists.specs.Choice.{pick, Every}
+use Rattle.lists.specs.Machine.{leftAfter}
 use Rattle.answer.specs.Answer.{Answer, result, refused}
 use Rattle.answer.specs.Draft.{Draft}
 use Rattle.answer.specs.Refusals.{numberOf}
@@ -75,3 +76,18 @@ afterReply (result (reply t p s es)) d = d
 -- The contents so far with one item more, put last: 4, 8, 7, 2.
 unfoldable pub itemDraft : List ℕ → ℕ → List ℕ → Draft
 itemDraft s b d = afterReply (replyIn s) (withItem s b d)
+
+-- ---- a list of items, written one by one
+
+-- One item more after a reply that was written; a refusal stays.
+abbrev pub withNext : Draft → Entry → Draft
+withNext (refused k) e = refused k
+withNext (result w) e = itemDraft w (e .byte) (e .body)
+
+-- Items written one after the other, each from what the last writing gave.
+unfoldable pub writeAll : Draft → List Entry → Draft
+writeAll d es = leftAfter withNext d es
+
+-- Every item's byte is a byte.
+unfoldable pub ItemBytes : List Entry → Type 0
+ItemBytes es = Every (λ e. e .byte < 256) es

@@ -9,29 +9,16 @@ use lib.ListN.{length}
 use borrow.Author.Tests.{ltb-true, ltb-false}
 use Rattle.lists.proofs.Cases.{by-bool}
 use Rattle.text.specs.Digits.{decimal}
+use Rattle.text.specs.Spelling.{spells, AllDigits, first, Spelt}
 use Rattle.text.proofs.DigitLaws.{last-digit, tenth, decimal-small, decimal-large, length-small, length-large}
-
--- The number that digits spell, after a number that was read before them.
-abbrev pub spells : ℕ → List ℕ → ℕ
-spells n [] = n
-spells n (d ∷ ds) = spells (n * 10 + (d - 48)) ds
-
--- Every one is a digit 0 to 9.
-abbrev pub Digits : List ℕ → Type 0
-Digits [] = Unit {0}
-Digits (d ∷ ds) = (48 ≤ d) × (d ≤ 57) × Digits ds
-
-abbrev pub first : List ℕ → ℕ
-first [] = 0
-first (d ∷ ds) = d
 
 spells-last : (n : ℕ) (ds : List ℕ) (d : ℕ) → spells n (ds ++ d ∷ []) ≡ spells n ds * 10 + (d - 48)
 spells-last n [] d = refl
 spells-last n (e ∷ ds) d = spells-last (n * 10 + (e - 48)) ds d
 
-digits-last : (ds : List ℕ) (d : ℕ) → Digits ds → 48 ≤ d → d ≤ 57 → Digits (ds ++ d ∷ [])
-digits-last [] d p h g = (h, g, tt)
-digits-last (e ∷ ds) d p h g = (p .0, p .1, digits-last ds d (p .2) h g)
+digits-last : (ds : List ℕ) (d : ℕ) → AllDigits ds → 48 ≤ d → d ≤ 57 → AllDigits (ds ++ d ∷ [])
+digits-last [] d p h g = ((h, g), tt)
+digits-last (e ∷ ds) d p h g = (p .0, digits-last ds d (p .1) h g)
 
 first-append : (ds : List ℕ) (d : ℕ) → 0 < length ds → first (ds ++ d ∷ []) ≡ first ds
 first-append [] d h = absurd (omega arith)
@@ -42,19 +29,13 @@ some n =
     by-bool (ltb n 10) (λ y. omega (arith, length-small n (ltb-true n 10 y)))
     (λ m. omega (arith, length-large n (ltb-false n 10 m)))
 
--- What holds of the digits of a number.
-pub record Spelt (n : ℕ) : Type 0 where
-  pub spelling : spells 0 (decimal n) ≡ n
-  pub digits : Digits (decimal n)
-  pub no-leading-zero : first (decimal n) ≡ 48 → n ≡ 0
-
 below : (k n : ℕ) → n < k → Spelt n
 below zero n h = absurd (omega arith)
 below (suc k) n h = by-bool (ltb n 10)
     (λ y. let g : n < 10 = ltb-true n 10 y in
     record {
       spelling = ap (spells 0) (decimal-small n g) ∙ omega arith;
-      digits = rw (decimal-small n g) (omega arith, omega arith, tt);
+      digits = rw (decimal-small n g) ((omega arith, omega arith), tt);
       no-leading-zero = λ e. omega (arith, ap first (decimal-small n g), e);
     })
     (λ m. let g : 10 ≤ n = ltb-false n 10 m in

@@ -1,4 +1,5 @@
 pub mod Digits
+pub mod Spelling
 pub mod Lines
 pub mod Strays
 pub mod Text

@@ -19,21 +19,21 @@ use Rattle.trace.proofs.finish.Reads as finish-reads
 
 -- Calls of `list` in a row, each on the state that the last one left, lent a chunk at the front of the bytes that are
 -- left and any output.
-pub data Ran : Listing → (bytes written : List ℕ) → Listing → Type 0 where
-  stopped : {s : Listing} → Ran s [] [] s
+pub data ListCalls : Listing → (bytes written : List ℕ) → Listing → Type 0 where
+  stopped : {s : Listing} → ListCalls s [] [] s
   listed : {s s′ : Listing} {written : List ℕ} (κs : Lfts 2) (chunk chunk′ out out′ : RefT (List ℕ)) (rest : List ℕ)
       (r : Listed)
       → list-reads.Learnt κs (s, (chunk, (out, tt))) r (s, (chunk′, (out′, tt)))
-      → Ran (r .next) (drop (r .taken) (chunk .now) ++ rest) written s′
-      → Ran s (chunk .now ++ rest) (take (r .wrote) (out′ .now) ++ written) s′
+      → ListCalls (r .next) (drop (r .taken) (chunk .now) ++ rest) written s′
+      → ListCalls s (chunk .now ++ rest) (take (r .wrote) (out′ .now) ++ written) s′
 
-ran : {s s′ : Listing} {bytes written : List ℕ} → Ran s bytes written s′ → Calls s bytes written s′
+ran : {s s′ : Listing} {bytes written : List ℕ} → ListCalls s bytes written s′ → Calls s bytes written s′
 ran stopped = none
 ran (listed κs chunk chunk′ out out′ rest r l t) = call (chunk .now) rest (out .now) (out′ .now) r l (ran t)
 
 -- `new`, calls of `list` over the whole trace, and a `finish` with room.
 pub calls-write-text : (trace : List ℕ) → length trace ≤ longest → (s : Listing) → new-reads.Learnt tt tt s tt
-    → (s′ : Listing) (before : List ℕ) → Ran s trace before s′
+    → (s′ : Listing) (before : List ℕ) → ListCalls s trace before s′
     → (κs : Lfts 1) (out out′ : RefT (List ℕ)) (wrote : ℕ) → lastRoom ≤ length (out .now)
     → finish-reads.Learnt κs (s′, (out, tt)) wrote (s′, (out′, tt))
     → before ++ take wrote (out′ .now) ≡ text trace

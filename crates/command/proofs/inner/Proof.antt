@@ -14,15 +14,22 @@ nth-requires : tie.Need-nth-requires
 nth-requires c κs = search needs
 
 shift-requires : tie.Need-shift-requires
-shift-requires c κs = let s = c .before .before .before .before .before in inner-fits (s .args .contents .now) (s .args .start) (s .args .len) (s .args .n) (s .pre) (omega arith) _ (c .before .part .ensures) _ (c .nth .ensures)
+shift-requires c κs =
+    let s = c .before .before .before .before .before in
+    inner-fits (s .args .contents .now) (s .args .start) (s .args .len) (s .args .n) (s .pre) (omega arith) _
+    (c .before .part .ensures) _ (c .nth .ensures)
 
 returns : tie.Need-returns
 returns c =
     let a = c .before .before .before .before .before .before .args in
-    inner-is (a .contents .now) (a .byte) (a .start) (a .len) (a .n) (c .before .before .before .before .is-wrapper .ensures) (c .before .before .before .if1 .taken) (c .before .before .part .ensures) _ (c .before .nth .ensures) (c .shift .ensures)
+    inner-is (a .contents .now) (a .byte) (a .start) (a .len) (a .n)
+    (c .before .before .before .before .is-wrapper .ensures) (c .before .before .before .if1 .taken)
+    (c .before .before .part .ensures) _ (c .before .nth .ensures) (c .shift .ensures)
 
 returns-2 : tie.Need-returns-2
-returns-2 c = let a = c .before .before .before .args in inner-none (a .contents .now) (a .byte) (a .start) (a .len) (a .n) (c .before .is-wrapper .ensures) (c .if1 .left)
+returns-2 c =
+    let a = c .before .before .before .args in
+    inner-none (a .contents .now) (a .byte) (a .start) (a .len) (a .n) (c .before .is-wrapper .ensures) (c .if1 .left)
 
 pub inner-spec : {M : Type 1} → statement M
 inner-spec =

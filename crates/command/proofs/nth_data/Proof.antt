@@ -11,7 +11,8 @@ found-part-requires : tie.Need-found-part-requires
 found-part-requires c κs = search needs
 
 returns : tie.Need-returns
-returns c = c .found-part .ensures ∙ ap (partOf (c .before .before .before .args .contents .now)) (c .before .nth .ensures)
+returns c =
+    c .found-part .ensures ∙ ap (partOf (c .before .before .before .args .contents .now)) (c .before .nth .ensures)
 
 pub nth-data-spec : {M : Type 1} → statement M
 nth-data-spec = tie.close (tie.spec nth-requires found-part-requires returns)

@@ -11,7 +11,9 @@ found-part-requires : tie.Need-found-part-requires
 found-part-requires c κs = search needs
 
 returns : tie.Need-returns
-returns c = c .found-part .ensures ∙ ap (partOf (c .before .before .before .args .contents .now)) (c .before .nth-inside .ensures)
+returns c =
+    c .found-part .ensures ∙ ap (partOf (c .before .before .before .args .contents .now))
+    (c .before .nth-inside .ensures)
 
 pub nth-inside-data-spec : {M : Type 1} → statement M
 nth-inside-data-spec = tie.close (tie.spec nth-inside-requires found-part-requires returns)

@@ -8,7 +8,9 @@ enum-known-found : tie.Need-enum-known-found
 enum-known-found c = search needs
 
 add-t8 : tie.Need-add-t8
-add-t8 c = let s = c .before .before .before in omega (arith, shift-fits (s .args .by) (s .args .found) _ _ _ (c .before .found .given .1) (s .pre))
+add-t8 c =
+    let s = c .before .before .before in
+    omega (arith, shift-fits (s .args .by) (s .args .found) _ _ _ (c .before .found .given .1) (s .pre))
 
 enum-known-found-2 : tie.Need-enum-known-found-2
 enum-known-found-2 c = search needs

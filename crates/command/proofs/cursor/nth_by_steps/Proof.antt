@@ -25,7 +25,8 @@ returns : tie.Need-returns Inv-loop μ-loop
 returns c =
     let k = c .before .before .before .before in
     let l = k .before in
-    from-found (l .before .before .args .contents .now) (l .loop .at) _ (k .step-from .ensures .0) (l .loop .left) (c .before .before .found .given .1) (c .if1 .taken) ∙ l .loop .inv
+    from-found (l .before .before .args .contents .now) (l .loop .at) _ (k .step-from .ensures .0) (l .loop .left)
+    (c .before .before .found .given .1) (c .if1 .taken) ∙ l .loop .inv
 
 sub-left : tie.Need-sub-left Inv-loop μ-loop
 sub-left c = search needs
@@ -37,7 +38,8 @@ loop-again : tie.Need-loop-again Inv-loop μ-loop
 loop-again c =
     let k = c .before .before .before .before in
     let l = k .before in
-    from-next (l .before .before .args .contents .now) (l .loop .at) (l .loop .left) _ (k .step-from .ensures .1) (c .if1 .left) ∙ l .loop .inv
+    from-next (l .before .before .args .contents .now) (l .loop .at) (l .loop .left) _ (k .step-from .ensures .1)
+    (c .if1 .left) ∙ l .loop .inv
 
 enum-known-found-2 : tie.Need-enum-known-found-2 Inv-loop μ-loop
 enum-known-found-2 c = search needs
@@ -46,7 +48,8 @@ returns-2 : tie.Need-returns-2 Inv-loop μ-loop
 returns-2 c =
     let k = c .before .before .before in
     let l = k .before in
-    from-refused (l .before .before .args .contents .now) (l .loop .at) _ (k .step-from .ensures .0) (l .loop .left) _ (c .before .found2 .given .1) ∙ l .loop .inv
+    from-refused (l .before .before .args .contents .now) (l .loop .at) _ (k .step-from .ensures .0) (l .loop .left) _
+    (c .before .found2 .given .1) ∙ l .loop .inv
 
 pub nth-by-steps-spec : {M : Type 1} → statement M
 nth-by-steps-spec =

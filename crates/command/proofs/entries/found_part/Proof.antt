@@ -17,7 +17,9 @@ slice-aggregate-result : tie.Need-slice-aggregate-result
 slice-aggregate-result c = search needs
 
 returns : tie.Need-returns
-returns c = c .part .ensures ∙ part-is (c .before .before .before .before .before .args .s .now) _ _ _ _ (c .before .before .found .given .1)
+returns c =
+    c .part .ensures ∙ part-is (c .before .before .before .before .before .args .s .now) _ _ _ _
+    (c .before .before .found .given .1)
 
 returns-2 : tie.Need-returns-2
 returns-2 c = search needs

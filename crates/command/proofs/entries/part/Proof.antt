@@ -22,7 +22,8 @@ part-result-end : tie.Need-part-result-end
 part-result-end c = search needs
 
 returns-2 : tie.Need-returns-2
-returns-2 c = let a = c .before .before .before .args in part-rest (a .s .now) (a .start) (a .len) (c .before .if2 .taken)
+returns-2 c =
+    let a = c .before .before .before .args in part-rest (a .s .now) (a .start) (a .len) (c .before .if2 .taken)
 
 add-result : tie.Need-add-result
 add-result c = search needs

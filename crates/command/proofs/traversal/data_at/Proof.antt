@@ -11,7 +11,9 @@ found-part-requires : tie.Need-found-part-requires
 found-part-requires c κs = search needs
 
 returns : tie.Need-returns
-returns c = c .found-part .ensures ∙ ap (partOf (c .before .before .before .args .contents .now)) (c .before .command-at .ensures)
+returns c =
+    c .found-part .ensures ∙ ap (partOf (c .before .before .before .args .contents .now))
+    (c .before .command-at .ensures)
 
 pub data-at-spec : {M : Type 1} → statement M
 data-at-spec = tie.close (tie.spec command-at-requires found-part-requires returns)

@@ -11,16 +11,27 @@ enum-known-found : tie.Need-enum-known-found
 enum-known-found c = search needs
 
 add-result : tie.Need-add-result
-add-result c = let a = c .before .before .before .before .before .args in omega (arith, after-found (a .contents .now) (a .at) _ (c .before .before .before .command-at .ensures) _ _ _ (c .before .found .given .1) .0)
+add-result c =
+    let a = c .before .before .before .before .before .args in
+    omega (
+      arith,
+      after-found (a .contents .now) (a .at) _ (c .before .before .before .command-at .ensures) _ _ _
+          (c .before .found .given .1) .0,
+    )
 
 enum-told : tie.Need-enum-told
 enum-told c = search needs
 
 returns : tie.Need-returns
-returns c = let a = c .before .before .before .before .before .args in after-found (a .contents .now) (a .at) _ (c .before .before .before .command-at .ensures) _ _ _ (c .before .found .given .1) .1
+returns c =
+    let a = c .before .before .before .before .before .args in
+    after-found (a .contents .now) (a .at) _ (c .before .before .before .command-at .ensures) _ _ _
+    (c .before .found .given .1) .1
 
 returns-2 : tie.Need-returns-2
-returns-2 c = let a = c .before .before .before .before .args in after-refused (a .contents .now) (a .at) _ (c .before .before .command-at .ensures) _ (c .enum-told .given .1)
+returns-2 c =
+    let a = c .before .before .before .before .args in
+    after-refused (a .contents .now) (a .at) _ (c .before .before .command-at .ensures) _ (c .enum-told .given .1)
 
 pub index-after-spec : {M : Type 1} → statement M
 index-after-spec =

@@ -36,5 +36,8 @@ command-spec 𝓤 H 𝓜 𝓖 𝓡 =
     let W = givenOf 𝓤 H 𝓜 𝓖 in
     entered 𝓤 H (tripleOf 𝓤 H (𝓖 .A) here.signature (here.spec 𝓤 H (𝓖 .A) (𝓜 .mem) (𝓡 .run)))
     (tables 𝓤 H 𝓜 𝓡 code.env .C) (tables 𝓤 H 𝓜 𝓡 code.env .Λ) #here code.function (code.unfolded 𝓤 H 𝓜 𝓡)
-    (thin-meets answer Says 𝓤 H (𝓖 .A) W #callee S′.mir (λ κ r u is. EL.lawful S.the-type S′.the-laws 𝓤 H (𝓖 .A) W tt .typed r _ is .0) (tablesOf 𝓤 H 𝓜 (tables 𝓤 H 𝓜 𝓡 code.env))
-    (cited 𝓤 H (OnIndex answer Says 𝓤 H (𝓖 .A)) 𝓜 𝓡 code.env #callee symbol.routine code.calls-command·traversal·command-at (proved.met 𝓤 H 𝓜 𝓖 𝓡)))
+    (thin-meets answer Says 𝓤 H (𝓖 .A) W #callee S′.mir
+    (λ κ r u is. EL.lawful S.the-type S′.the-laws 𝓤 H (𝓖 .A) W tt .typed r _ is .0)
+    (tablesOf 𝓤 H 𝓜 (tables 𝓤 H 𝓜 𝓡 code.env))
+    (cited 𝓤 H (OnIndex answer Says 𝓤 H (𝓖 .A)) 𝓜 𝓡 code.env #callee symbol.routine
+    code.calls-command·traversal·command-at (proved.met 𝓤 H 𝓜 𝓖 𝓡)))

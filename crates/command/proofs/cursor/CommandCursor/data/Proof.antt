@@ -35,5 +35,8 @@ data-spec 𝓤 H 𝓜 𝓖 𝓡 =
     let W = givenOf 𝓤 H 𝓜 𝓖 in
     entered 𝓤 H (tripleOf 𝓤 H (𝓖 .A) here.signature (here.spec 𝓤 H (𝓖 .A) (𝓜 .mem) (𝓡 .run)))
     (tables 𝓤 H 𝓜 𝓡 code.env .C) (tables 𝓤 H 𝓜 𝓡 code.env .Λ) #here code.function (code.unfolded 𝓤 H 𝓜 𝓡)
-    (thin-meets answer Says 𝓤 H (𝓖 .A) W #callee (sliceTy (tyRef (named 0) imm (tyInt w8))) (λ κ r u is. shr-slice-lawful 𝓤 H (𝓖 .A) W (named 0) κ u8 .typed r _ is .0) (tablesOf 𝓤 H 𝓜 (tables 𝓤 H 𝓜 𝓡 code.env))
-    (cited 𝓤 H (OnIndex answer Says 𝓤 H (𝓖 .A)) 𝓜 𝓡 code.env #callee symbol.routine code.calls-command·traversal·data-at (proved.met 𝓤 H 𝓜 𝓖 𝓡)))
+    (thin-meets answer Says 𝓤 H (𝓖 .A) W #callee (sliceTy (tyRef (named 0) imm (tyInt w8)))
+    (λ κ r u is. shr-slice-lawful 𝓤 H (𝓖 .A) W (named 0) κ u8 .typed r _ is .0)
+    (tablesOf 𝓤 H 𝓜 (tables 𝓤 H 𝓜 𝓡 code.env))
+    (cited 𝓤 H (OnIndex answer Says 𝓤 H (𝓖 .A)) 𝓜 𝓡 code.env #callee symbol.routine code.calls-command·traversal·data-at
+    (proved.met 𝓤 H 𝓜 𝓖 𝓡)))

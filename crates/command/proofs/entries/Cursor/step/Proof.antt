@@ -31,7 +31,13 @@ add-if3 c = search needs
 
 returns-3 : tie.Need-returns-3
 unfolding stepAt
-returns-3 c = simp (lt-ltb _ _ (c .before .before .before .if1 .left), lt-ltb _ _ (c .before .if2 .left), le-ltb _ _ (c .if3 .taken))
+returns-3 c =
+    simp (
+      lt-ltb _ _ (c .before .before .before .if1 .left),
+      lt-ltb _ _ (c .before .if2 .left),
+      le-ltb _ _
+          (c .if3 .taken),
+    )
 
 add-len : tie.Need-add-len
 add-len c = search needs
@@ -40,7 +46,8 @@ shared-slice-read-len : tie.Need-shared-slice-read-len
 shared-slice-read-len c = search needs
 
 cast-len : tie.Need-cast-len
-cast-len c = omega (arith, c .shared-slice-known2 .given (c .before .before .before .before .before .args .self .at + 1))
+cast-len c =
+    omega (arith, c .shared-slice-known2 .given (c .before .before .before .before .before .args .self .at + 1))
 
 add-start : tie.Need-add-start
 add-start c = search needs
@@ -50,14 +57,28 @@ sub-if4 c = search needs
 
 returns-4 : tie.Need-returns-4
 unfolding stepAt
-returns-4 c = simp (lt-ltb _ _ (c .before .before .before .before .before .if1 .left), lt-ltb _ _ (c .before .before .before .if2 .left), lt-ltb _ _ (c .before .before .if3 .left), lt-leb _ _ (c .if4 .taken))
+returns-4 c =
+    simp (
+      lt-ltb _ _ (c .before .before .before .before .before .if1 .left),
+      lt-ltb _ _
+          (c .before .before .before .if2 .left),
+      lt-ltb _ _ (c .before .before .if3 .left),
+      lt-leb _ _ (c .if4 .taken),
+    )
 
 add-t15 : tie.Need-add-t15
 add-t15 c = search needs
 
 returns-5 : tie.Need-returns-5
 unfolding stepAt
-returns-5 c = simp (lt-ltb _ _ (c .before .before .before .before .before .if1 .left), lt-ltb _ _ (c .before .before .before .if2 .left), lt-ltb _ _ (c .before .before .if3 .left), le-leb _ _ (c .if4 .left))
+returns-5 c =
+    simp (
+      lt-ltb _ _ (c .before .before .before .before .before .if1 .left),
+      lt-ltb _ _
+          (c .before .before .before .if2 .left),
+      lt-ltb _ _ (c .before .before .if3 .left),
+      le-leb _ _ (c .if4 .left),
+    )
 
 pub step-spec : {M : Type 1} → statement M
 step-spec =
