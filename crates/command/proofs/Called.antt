@@ -67,8 +67,8 @@ module _ (res : Slot 1) (Says : (κs : Lfts 1) → RefT (List ℕ) → ℕ → r
   -- `&mut`, so nothing is said of last values.
   module _ {M : Type 1} (𝓤 : URA M) (H : Heap 𝓤) (A : Atoms 𝓤) (W : Given 𝓤 H A) (κ : Lft) (q : Share)
       (d : CommandCursor) where
-    abbrev pub Told : res .row (κ, tt) .Denot → Type 0
-    Told r = Says (κ, tt) (d .contents) (d .at) r
+    abbrev pub CallTold : res .row (κ, tt) .Denot → Type 0
+    CallTold r = Says (κ, tt) (d .contents) (d .at) r
 
     abbrev pub to-index : OnIndex 𝓤 H A .Ghost
     to-index = (((κ, tt), (q, tt), tt, (d .contents, (d .at, tt)), passed (d .contents) (d .at)), tt)
@@ -86,10 +86,10 @@ module _ (res : Slot 1) (Says : (κs : Lfts 1) → RefT (List ℕ) → ℕ → r
         (1 ∷ 0 ∷ []) $ join ! $ frame ! $ done !
 
     pub told-index : (r : res .row (κ, tt) .Denot)
-        → ent 𝓤 (ensured 𝓤 H A Under (under 𝓤) (κ, tt) (d .contents, (d .at, tt)) tt r) (fact 𝓤 (Told r))
+        → ent 𝓤 (ensured 𝓤 H A Under (under 𝓤) (κ, tt) (d .contents, (d .at, tt)) tt r) (fact 𝓤 (CallTold r))
     told-index r =
-        exE 𝓤 _ (λ ws. snd∗ 𝓤 (sem 𝓤 H A (lasts Under (κ, tt) (d .contents, (d .at, tt)) ws)) (fact 𝓤 (Told r)))
+        exE 𝓤 _ (λ ws. snd∗ 𝓤 (sem 𝓤 H A (lasts Under (κ, tt) (d .contents, (d .at, tt)) ws)) (fact 𝓤 (CallTold r)))
 
     pub told-cursor : (r : res .row (κ, tt) .Denot)
-        → ent 𝓤 (ensured 𝓤 H A Over (over 𝓤) (κ, tt) (d, tt) tt r) (fact 𝓤 (Told r))
-    told-cursor r = exE 𝓤 _ (λ ws. snd∗ 𝓤 (sem 𝓤 H A (lasts Over (κ, tt) (d, tt) ws)) (fact 𝓤 (Told r)))
+        → ent 𝓤 (ensured 𝓤 H A Over (over 𝓤) (κ, tt) (d, tt) tt r) (fact 𝓤 (CallTold r))
+    told-cursor r = exE 𝓤 _ (λ ws. snd∗ 𝓤 (sem 𝓤 H A (lasts Over (κ, tt) (d, tt) ws)) (fact 𝓤 (CallTold r)))

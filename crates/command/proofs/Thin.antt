@@ -65,8 +65,8 @@ module _ (res : Slot 1) (Says : (κs : Lfts 1) → RefT (List ℕ) → ℕ → r
       abbrev R : RattleType
       R = res .row (κ, tt)
 
-      abbrev Told : R .Denot → Type 0
-      Told r = Says (κ, tt) (d .contents) (d .at) r
+      abbrev CallTold : R .Denot → Type 0
+      CallTold r = Says (κ, tt) (d .contents) (d .at) r
 
       abbrev to : OnIndex res Says 𝓤 H A .Ghost
       to = to-index res Says 𝓤 H A W κ q d
@@ -76,7 +76,7 @@ module _ (res : Slot 1) (Says : (κs : Lfts 1) → RefT (List ℕ) → ℕ → r
           walkOf 𝓤 H A (Over res Says) stayed (over res Says 𝓤) .post
           (((κ, tt), (q, tt), tt, (d, tt), (mach d ∷ [], tt)), tt)
 
-      exits : (r : R .Denot) (u : Val) → Told r
+      exits : (r : R .Denot) (u : Val) → CallTold r
           → ent 𝓤 (⋆ 𝓤 H A (‵ (R .own r (u ∷ [])) ∷ (‵ (flft κ q) ⊛ ‵ ftrue) ∷ ‵ (Own κ d) ∷ [])) (Post u)
       exits r u e =
           qed W (‵ (R .own r (u ∷ [])) ∷ (‵ (flft κ q) ⊛ ‵ ftrue) ∷ ‵ (Own κ d) ∷ []) ∵
@@ -108,8 +108,9 @@ module _ (res : Slot 1) (Says : (κs : Lfts 1) → RefT (List ℕ) → ℕ → r
             use1 W (later (some (λ (r : R .Denot). ((‵ (flft κ q) ⊛ ‵ ftrue) ⊛ ‵ (R .own r (u ∷ []))) ⊛ raw
             (ensured 𝓤 H A (Under res Says) (under res Says 𝓤) (κ, tt) (d .contents, (d .at, tt)) tt r))))
             (id⊢ 𝓤 _) $ await ! tt $ pick ! (λ r.
-            split ! $ move ! (1 ∷ []) $ use1 W (raw (fact 𝓤 (Told r))) (told-index res Says 𝓤 H A W κ q d r) $ heard !
-            (Told r) (λ e. split ! $ move ! (1 ∷ []) $
+            split ! $ move ! (1 ∷ []) $ use1 W (raw (fact 𝓤 (CallTold r)))
+            (told-index res Says 𝓤 H A W κ q d r) $ heard !
+            (CallTold r) (λ e. split ! $ move ! (1 ∷ []) $
             -- [the answer; the token; what the cursor owns; _3; …; _2; …; _1; …; room for _0; …]
             peeks ! R (Is R) (shows 𝓤 H A R) r (u ∷ []) (λ is.
             land ! (from ! (stop !)) (init ! 9 refl (typed κ r u is)) $

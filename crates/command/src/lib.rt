@@ -84,13 +84,13 @@ fn inner(contents: &[u8], byte: u8, start: usize, len: usize, n: usize) -> Found
     if is_wrapper(byte) {
         let list = entries::part(contents, start, len);
         let found = nth(list, n);
-        return shift(start, found);
+        return reindex(start, found);
     }
     Found::Refused(Refusal::Absent)
 }
 
 // An answer about a part that starts at an index of the whole, as one about the whole.
-fn shift(by: usize, found: Found) -> Found
+fn reindex(by: usize, found: Found) -> Found
     requires { ⌜ IndexFits by (foundMeans found) ⌝ }
     ensures { λ r. ⌜ foundMeans r ≡ shifted by (foundMeans found) ⌝ }
 {

@@ -27,18 +27,18 @@ afterNext s Bad = badEscape
 afterNext s (Byte b n) = prepend b (unstuff false (drop n s))
 
 module _ (s : List ℕ) (at : ℕ) where
-  abbrev Goal : Type 0
-  Goal = unstuff false (drop at s) ≡ afterNext s (nextAt s at)
+  abbrev ScanGoal : Type 0
+  ScanGoal = unstuff false (drop at s) ≡ afterNext s (nextAt s at)
 
-  next-end : length s ≤ at → Goal
+  next-end : length s ≤ at → ScanGoal
   unfolding nextAt unstuff afterNext
   next-end h = simp (drop-of-length-le s {i = at} h, le-ltb at (length s) h)
 
-  next-plain : at < length s → (getD s at 0 ≡ 0xF3 → ⊥) → Goal
+  next-plain : at < length s → (getD s at 0 ≡ 0xF3 → ⊥) → ScanGoal
   unfolding nextAt unstuff afterNext
   next-plain h n = simp (drop-cons s at 0 h, lt-ltb at (length s) h, ne-eqb (getD s at 0) 0xF3 n, add-one)
 
-  next-last : at < length s → getD s at 0 ≡ 0xF3 → length s ≤ at + 1 → Goal
+  next-last : at < length s → getD s at 0 ≡ 0xF3 → length s ≤ at + 1 → ScanGoal
   unfolding nextAt unstuff afterNext
   next-last h e k =
       simp (
@@ -50,7 +50,7 @@ module _ (s : List ℕ) (at : ℕ) where
         drop-of-length-le s {i = suc at} (omega arith),
       )
 
-  next-bad : at < length s → getD s at 0 ≡ 0xF3 → at + 1 < length s → 3 < getD s (at + 1) 0 → Goal
+  next-bad : at < length s → getD s at 0 ≡ 0xF3 → at + 1 < length s → 3 < getD s (at + 1) 0 → ScanGoal
   unfolding nextAt unstuff afterNext
   next-bad h e k b =
       simp (
@@ -62,7 +62,7 @@ module _ (s : List ℕ) (at : ℕ) where
             (getD s (at + 1) 0) 3 b,
       )
 
-  next-escape : at < length s → getD s at 0 ≡ 0xF3 → at + 1 < length s → getD s (at + 1) 0 ≤ 3 → Goal
+  next-escape : at < length s → getD s at 0 ≡ 0xF3 → at + 1 < length s → getD s (at + 1) 0 ≤ 3 → ScanGoal
   unfolding nextAt unstuff afterNext
   next-escape h e k b =
       simp (
@@ -74,7 +74,7 @@ module _ (s : List ℕ) (at : ℕ) where
             (getD s (at + 1) 0) 3 b,
       )
 
-  pub unstuff-next : Goal
+  pub unstuff-next : ScanGoal
   unstuff-next =
       by-bool (ltb at (length s))
       (λ y. let h = ltb-true at (length s) y in

@@ -19,7 +19,7 @@ use Rattle.framing.specs.Reference.{opened, Protocol, byteAnswer, byteAf
 use Rattle.framing.specs.Reference.{Reference}
 use Rattle.framing.specs.Demand3.{Follows, Demand3}
 use Rattle.framing.specs.Bounded.{BoundedMode, outside, inside, overlong, BoundedReader, bounded, Bounds, Suits}
-use Rattle.framing.specs.Bounded.{truncatedIn, terminatedIn, leftIn, grownIn, byteTurn, boundedTurn}
+use Rattle.framing.specs.Bounded.{truncatedIn, terminatedIn, leftByStop, grownIn, byteTurn, boundedTurn}
 use Rattle.framing.proofs.Restart.{follows, demand3-of}
 
 -- bytes that are no flags, and one more
@@ -30,7 +30,7 @@ more-free role (x ∷ body) b f e = (f .0, more-free role body b (f .1) e)
 
 module _ {K A : Type 0} (P : Protocol A) (B : Bounds K A) (suits : Suits P B) where
   -- the decoder's candidate is of a kind, with these bytes after its start flag
-  record Holds (kind : K) (body : List ℕ) (k : Candidate) : Type 0 where
+  record HoldsBody (kind : K) (body : List ℕ) (k : Candidate) : Type 0 where
     pub flag : ℕ
     pub starting : P .role flag ≡ starts
     pub opens : B .kind flag ≡ kind
@@ -39,8 +39,8 @@ module _ {K A : Type 0} (P : Protocol A) (B : Bounds K A) (suits : Suits P B) wh
 
   abbrev StandsAt : BoundedMode K → List ℕ → ℕ → Candidate → Type 0
   StandsAt outside bytes len k = k ≡ none
-  StandsAt (inside kind) bytes len k = (len ≤ B .room) × Holds kind (take len bytes) k
-  StandsAt overlong bytes len k = (kind : K) × (body : List ℕ) × (B .room < length body) × Holds kind body k
+  StandsAt (inside kind) bytes len k = (len ≤ B .room) × HoldsBody kind (take len bytes) k
+  StandsAt overlong bytes len k = (kind : K) × (body : List ℕ) × (B .room < length body) × HoldsBody kind body k
 
   abbrev StandsFor : BoundedReader K → Candidate → Type 0
   StandsFor r k = (length (r .bytes) ≡ B .room) × StandsAt (r .mode) (r .bytes) (r .len) k
@@ -69,15 +69,15 @@ module _ {K A : Type 0} (P : Protocol A) (B : Bounds K A) (suits : Suits P B) wh
       rw (h .holds) (sym (suits .too-long (h .flag) (s .1) b (h .starting) (h .flag-free) e (s .2)))
 
   kept-at : (m : BoundedMode K) (bytes : List ℕ) (len : ℕ) → length bytes ≡ B .room
-      → length (leftIn P B m bytes len) ≡ B .room
+      → length (leftByStop P B m bytes len) ≡ B .room
   kept-at outside bytes len e = e
   kept-at (inside kind) bytes len e = suits .kept kind len bytes e
   kept-at overlong bytes len e = e
 
   -- ---- any other byte
 
-  grows : (kind : K) (body : List ℕ) (k : Candidate) (b : ℕ) → P .role b ≡ plain → Holds kind body k
-      → Holds kind (body ++ b ∷ []) (byteAfter P plain k b)
+  grows : (kind : K) (body : List ℕ) (k : Candidate) (b : ℕ) → P .role b ≡ plain → HoldsBody kind body k
+      → HoldsBody kind (body ++ b ∷ []) (byteAfter P plain k b)
   grows kind body k b e h = record {
     flag = h .flag;
     starting = h .starting;
@@ -100,7 +100,7 @@ module _ {K A : Type 0} (P : Protocol A) (B : Bounds K A) (suits : Suits P B) wh
           let f : take len bytes ++ b ∷ [] ≡ take (len + 1) (set bytes len b) =
           rw (add-one, take-suc-set bytes len b (omega arith)) in
           let g = grows kind (take len bytes) k b q (s .1) in
-          (simp length-set e, (omega arith, subst (λ (x : List ℕ). Holds kind x (byteAfter P plain k b)) f g))
+          (simp length-set e, (omega arith, subst (λ (x : List ℕ). HoldsBody kind x (byteAfter P plain k b)) f g))
       by-room false y =
           let l : B .room ≤ len = ltb-false len (B .room) y in
           let u : length (take len bytes) ≡ len = length-take-le len bytes (omega (arith, s .0)) in (
@@ -125,7 +125,7 @@ module _ {K A : Type 0} (P : Protocol A) (B : Bounds K A) (suits : Suits P B) wh
   byte-at : (r : BoundedReader K) (k : Candidate) (b : ℕ) → StandsFor r k → (ρ : Role) → P .role b ≡ ρ
       → Agrees (byteTurn P B ρ r b) ρ k b
   byte-at r k b s starts e =
-      let begins : Holds (B .kind b) [] (opened (b ∷ [])) =
+      let begins : HoldsBody (B .kind b) [] (opened (b ∷ [])) =
       record { flag = b; starting = e; opens = refl; holds = refl; flag-free = tt } in
       (truncated-at (r .mode) (r .bytes) (r .len) k b (s .1) .0, (s .0, (omega arith, begins)))
   byte-at r k b s stops e = (

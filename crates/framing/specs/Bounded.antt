@@ -59,10 +59,10 @@ module _ {K A : Type 0} (P : Protocol A) (B : Bounds K A) where
   terminatedIn overlong bytes len = B .long
 
   -- The array afterwards.
-  abbrev pub leftIn : BoundedMode K → (bytes : List ℕ) → (len : ℕ) → List ℕ
-  leftIn outside bytes len = bytes
-  leftIn (inside kind) bytes len = B .left (B .judge kind (take len bytes)) bytes
-  leftIn overlong bytes len = bytes
+  abbrev pub leftByStop : BoundedMode K → (bytes : List ℕ) → (len : ℕ) → List ℕ
+  leftByStop outside bytes len = bytes
+  leftByStop (inside kind) bytes len = B .left (B .judge kind (take len bytes)) bytes
+  leftByStop overlong bytes len = bytes
 
   -- Any other byte: an open candidate has one byte more, or is over-long where there is no room for it.
   abbrev pub grownIn : BoundedMode K → (bytes : List ℕ) → (len b : ℕ) → BoundedReader K
@@ -75,7 +75,7 @@ module _ {K A : Type 0} (P : Protocol A) (B : Bounds K A) where
   abbrev pub byteTurn : Role → BoundedReader K → ℕ → Turn (BoundedReader K) A
   byteTurn starts r b = turn (truncatedIn (r .mode)) (bounded (r .bytes) 0 (inside (B .kind b)))
   byteTurn stops r b =
-      turn (terminatedIn (r .mode) (r .bytes) (r .len)) (bounded (leftIn (r .mode) (r .bytes) (r .len)) 0 outside)
+      turn (terminatedIn (r .mode) (r .bytes) (r .len)) (bounded (leftByStop (r .mode) (r .bytes) (r .len)) 0 outside)
   byteTurn plain r b = turn (P .nothing) (grownIn (r .mode) (r .bytes) (r .len) b)
 
   -- A call.

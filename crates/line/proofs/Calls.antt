@@ -10,7 +10,7 @@ use Rattle.answer.specs.Answer.{result, refused}
 use Rattle.lists.specs.Machine.{Answered}
 use Rattle.framing.specs.Reference.{Call, byte, finish, Role, starts, stops, plain}
 use Rattle.framing.specs.Demand3.{Demand3}
-use Rattle.framing.specs.Bounded.{BoundedMode, outside, inside, overlong, truncatedIn, terminatedIn, leftIn}
+use Rattle.framing.specs.Bounded.{BoundedMode, outside, inside, overlong, truncatedIn, terminatedIn, leftByStop}
 use Rattle.framing.specs.Bounded.{boundedTurn}
 use Rattle.framing.proofs.Bounded.{bounded-demand-3}
 use Rattle.frame.specs.Flags.{roleOf}
@@ -18,12 +18,10 @@ use Rattle.frame.specs.Verdict.{judge}
 use Rattle.frame.specs.Answers.{standardOutline, extendedOutline, judgeAnswer, frameRead}
 use Rattle.frame.specs.declared.Kind.{Kind}
 use Rattle.frame.proofs.ContentsLaws.{left-whole}
-use Rattle.line.specs.Outcome.{Outcome, judged, Summary, silent, tells, summaryOf, outcomeOf}
-use Rattle.line.specs.Outcome.{contentsBeside}
+use Rattle.line.specs.Outcome.{Outcome, judged, Summary, silent, tells, summaryOf, outcomeOf, contentsBeside}
 use Rattle.line.specs.Rowing.{rowing, rowingBounds}
 use Rattle.line.specs.Reader.{ReaderTurn, lentReader, newReader, modeSeen, seen, roleStep, turnOf, outcomeAt}
-use Rattle.line.specs.Reader.{outcomeIn, lentOutcome}
-use Rattle.line.specs.Reader.{nextAfter, LentStepIs, StepIs}
+use Rattle.line.specs.Reader.{outcomeIn, lentOutcome, nextAfter, LentStepIs, StepIs}
 use Rattle.line.specs.declared.State.{State}
 use Rattle.line.specs.declared.LineReader.{LineReader}
 use Rattle.line.specs.declared.LentStep.{LentStep}
@@ -46,7 +44,7 @@ truncated-whole (inside kind) bytes = refl
 truncated-whole overlong bytes = refl
 
 terminated-whole : (m : BoundedMode Kind) (bytes : List ℕ) (len : ℕ)
-    → outcomeOf (summaryOf (terminatedIn rowing rowingBounds m bytes len)) (leftIn rowing rowingBounds m bytes len)
+    → outcomeOf (summaryOf (terminatedIn rowing rowingBounds m bytes len)) (leftByStop rowing rowingBounds m bytes len)
     ≡ terminatedIn rowing rowingBounds m bytes len
 unfolding judgeAnswer frameRead
 terminated-whole outside bytes len = refl

@@ -11,7 +11,7 @@ ghost use mathlib.Core.List.{List};
 ghost use Prim.Native.Nat.{ℕ};
 ghost use Rattle.lists.specs.Machine.{turn};
 ghost use Rattle.framing.specs.Reference.{stops, plain};
-ghost use Rattle.framing.specs.Bounded.{truncatedIn, terminatedIn, leftIn};
+ghost use Rattle.framing.specs.Bounded.{truncatedIn, terminatedIn, leftByStop};
 ghost use Rattle.frame.specs.Answers.{readMeans};
 ghost use Rattle.line.specs.Outcome.{toldMeans, tells, summaryOf, nothing, contentsBeside};
 ghost use Rattle.line.specs.Rowing.{rowing, rowingBounds};
@@ -242,7 +242,7 @@ fn stop(bytes: &mut [u8; 118], state: State) -> LentStep
 fn terminated(bytes: &mut [u8; 118], len: usize, mode: Mode) -> Told
     ensures { λ r. ⌜ toldMeans r ≡ summaryOf
         (terminatedIn rowing rowingBounds (modeSeen mode) (now (bytes .entry)) len) ⌝ }
-    ensures { λ r. ⌜ now (bytes .exit) ≡ leftIn rowing rowingBounds (modeSeen mode) (now (bytes .entry)) len ⌝ }
+    ensures { λ r. ⌜ now (bytes .exit) ≡ leftByStop rowing rowingBounds (modeSeen mode) (now (bytes .entry)) len ⌝ }
 {
     match mode {
         Mode::Outside => Told::Nothing,

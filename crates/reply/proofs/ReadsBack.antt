@@ -15,8 +15,7 @@ use Rattle.command.specs.Answers.{partOf}
 use Rattle.command.proofs.Extents.{parse-last, nth-earlier, data-at}
 use Rattle.reply.specs.Status.{status, soundStatus, statusIn, StatusParts}
 use Rattle.reply.specs.Replies.{reply, headIn, afterStatus, replyIn, itemOf, nthItem, statusDraft, withItem}
-use Rattle.reply.specs.Replies.{writeAll, ItemBytes}
-use Rattle.reply.specs.Replies.{afterReply, itemDraft, Reply}
+use Rattle.reply.specs.Replies.{writeAll, ItemBytes, afterReply, itemDraft, Reply}
 
 -- a reply's bytes are a status byte and sound items
 pub reply-means : (w : List ℕ) (t : Bool) (p s : ℕ) (es : List Entry) → replyIn w ≡ result (reply t p s es)

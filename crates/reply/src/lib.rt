@@ -27,7 +27,7 @@ const COUNTED: usize = 0x100;
 const ITEMS: usize = 1;
 
 // The longest contents of a reply that is written.
-const CONTENTS_LIMIT: usize = 117;
+const REPLY_LIMIT: usize = 117;
 
 // The longest data of an item.
 const DATA_LIMIT: usize = 255;
@@ -138,11 +138,11 @@ fn put_item(prior: &[u8], byte: u8, body: &[u8], out: &mut [u8]) -> Written
     if DATA_LIMIT < n {
         return Written::Refused(Refusal::BadCount);
     }
-    if CONTENTS_LIMIT < k {
+    if REPLY_LIMIT < k {
         return Written::Refused(Refusal::TooLong);
     }
     let end = k + 2 + n;
-    if CONTENTS_LIMIT < end {
+    if REPLY_LIMIT < end {
         return Written::Refused(Refusal::TooLong);
     }
     if out.len() < end {

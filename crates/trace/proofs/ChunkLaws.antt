@@ -34,8 +34,8 @@ going-start s chunk out =
     record { state = refl; wrote = wrote-nothing out 0; taken = rw z (omega arith) }
 
 -- the part of a chunk from an index on, as the code takes it
-pub part-rest : (chunk : List ℕ) (i : ℕ) → take (length chunk - i) (drop i chunk) ≡ drop i chunk
-part-rest chunk i = take-all (length chunk - i) (drop i chunk) (omega (arith, length-drop i chunk))
+pub rest-part : (chunk : List ℕ) (i : ℕ) → take (length chunk - i) (drop i chunk) ≡ drop i chunk
+rest-part chunk i = take-all (length chunk - i) (drop i chunk) (omega (arith, length-drop i chunk))
 
 taken-stop : (t : Bool) (n i : ℕ) → t ≡ true → i + pick t 0 (1 + n) ≡ i
 taken-stop t n i e = rw e (omega arith)

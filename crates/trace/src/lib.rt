@@ -75,14 +75,14 @@ pub fn list(s: Listing, chunk: &[u8], out: &mut [u8]) -> Listed
     let mut i: usize = 0;
     while i < chunk.len() {
         if out.len() - at < text::LINE_ROOM {
-            return packed(i, at, bytes, tally);
+            return listing_of(i, at, bytes, tally);
         }
         let t = advance(&mut bytes, tally, &chunk[i..], out, at);
         tally = t.tally;
         at = t.at;
         i += t.taken;
     }
-    packed(i, at, bytes, tally)
+    listing_of(i, at, bytes, tally)
 }
 
 // Ends the trace: writes the line of a candidate that is open, and the totals, and answers how many bytes it wrote. It
@@ -100,13 +100,13 @@ pub fn finish(s: Listing, out: &mut [u8]) -> usize
     let state = reader.state;
     let step = line::finish_in(state);
     let told = step.told;
-    let at = text::put_answer(told, &bytes, number(frames, refused), out, 0);
+    let at = text::put_answer(told, &bytes, next_number(frames, refused), out, 0);
     let all_frames = std::num::wrapping_add_u64(frames, frame_count(told));
     let all_refused = std::num::wrapping_add_u64(refused, refused_count(told));
     text::put_totals(all_frames, all_refused, s.stray, out, at)
 }
 
-fn packed(taken: usize, wrote: usize, bytes: [u8; 118], t: Tally) -> Listed
+fn listing_of(taken: usize, wrote: usize, bytes: [u8; 118], t: Tally) -> Listed
     ensures { λ r. ⌜ r ≡ listedOf taken wrote (listing bytes t) ⌝ }
 {
     let state = t.state;
@@ -138,7 +138,7 @@ fn advance(bytes: &mut [u8; 118], t: Tally, rest: &[u8], out: &mut [u8], at: usi
     let told = fed.told;
     let state = fed.state;
     let stray = stray_count(mode, &rest[..taken]);
-    let end = text::put_answer(told, bytes, number(frames, refused), out, at);
+    let end = text::put_answer(told, bytes, next_number(frames, refused), out, at);
     Advanced {
         taken,
         at: end,
@@ -152,7 +152,7 @@ fn advance(bytes: &mut [u8; 118], t: Tally, rest: &[u8], out: &mut [u8], at: usi
 }
 
 // The number of the next answer.
-fn number(frames: u64, refused: u64) -> u64
+fn next_number(frames: u64, refused: u64) -> u64
     ensures { λ r. ⌜ r ≡ numberAfter frames refused ⌝ }
 {
     let told = std::num::wrapping_add_u64(frames, refused);

@@ -13,8 +13,8 @@ part-requires c κs = search needs
 nth-requires : tie.Need-nth-requires
 nth-requires c κs = search needs
 
-shift-requires : tie.Need-shift-requires
-shift-requires c κs =
+reindex-requires : tie.Need-reindex-requires
+reindex-requires c κs =
     let s = c .before .before .before .before .before in
     inner-fits (s .args .contents .now) (s .args .start) (s .args .len) (s .args .n) (s .pre) (omega arith) _
     (c .before .part .ensures) _ (c .nth .ensures)
@@ -24,7 +24,7 @@ returns c =
     let a = c .before .before .before .before .before .before .args in
     inner-is (a .contents .now) (a .byte) (a .start) (a .len) (a .n)
     (c .before .before .before .before .is-wrapper .ensures) (c .before .before .before .if1 .taken)
-    (c .before .before .part .ensures) _ (c .before .nth .ensures) (c .shift .ensures)
+    (c .before .before .part .ensures) _ (c .before .nth .ensures) (c .reindex .ensures)
 
 returns-2 : tie.Need-returns-2
 returns-2 c =
@@ -34,4 +34,4 @@ returns-2 c =
 pub inner-spec : {M : Type 1} → statement M
 inner-spec =
     tie.close
-    (tie.spec is-wrapper-requires part-requires nth-requires shift-requires returns returns-2)
+    (tie.spec is-wrapper-requires part-requires nth-requires reindex-requires returns returns-2)

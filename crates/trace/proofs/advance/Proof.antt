@@ -24,8 +24,8 @@ slice-aggregate-stray-count c =
 stray-count-requires : tie.Need-stray-count-requires
 stray-count-requires c κs = search needs
 
-number-requires : tie.Need-number-requires
-number-requires c κs = search needs
+next-number-requires : tie.Need-next-number-requires
+next-number-requires c κs = search needs
 
 put-answer-requires : tie.Need-put-answer-requires
 put-answer-requires c κs = search needs
@@ -57,11 +57,11 @@ returns c =
     let start = f .before .before .before .before .before in
     let w = p .put-answer .ensures .written (start .pre) in
     advances (start .args .bytes .now) (start .args .t) (start .args .rest .now) (f .feed-in .last .0)
-    (f .feed-in .result) (f .feed-in .ensures) (counted start) (n .number .result)
+    (f .feed-in .result) (f .feed-in .ensures) (counted start) (n .next-number .result)
     (c .before .before .before .wrapping-add-u64 .result) (c .before .wrapping-add-u642 .result)
     (c .wrapping-add-u643 .result)
     (c .before .before .before .before .frame-count .result) (c .before .before .refused-count .result)
-    (sc .stray-count .result) (n .number .ensures) (c .before .before .before .wrapping-add-u64 .ensures)
+    (sc .stray-count .result) (n .next-number .ensures) (c .before .before .before .wrapping-add-u64 .ensures)
     (c .before .before .before .before .frame-count .ensures) (c .before .wrapping-add-u642 .ensures)
     (c .before .before .refused-count .ensures)
     (c .wrapping-add-u643 .ensures) (sc .stray-count .ensures) (w .0) (w .1)
@@ -73,7 +73,7 @@ advance-spec =
     feed-in-requires
     slice-aggregate-stray-count
     stray-count-requires
-    number-requires
+    next-number-requires
     put-answer-requires
     frame-count-requires
     wrapping-add-u64-requires

@@ -13,8 +13,8 @@ finish-in-requires c κs = search needs
 slice-aggregate-put-answer : tie.Need-slice-aggregate-put-answer
 slice-aggregate-put-answer c = search needs
 
-number-requires : tie.Need-number-requires
-number-requires c κs = search needs
+next-number-requires : tie.Need-next-number-requires
+next-number-requires c κs = search needs
 
 put-answer-requires : tie.Need-put-answer-requires
 put-answer-requires c κs = search needs
@@ -45,7 +45,8 @@ returns-2 c =
     .before .before .before .before .before .if1 .left in
     let m = c .before .before .before .before .before .before .before .before .before .before .before .before .before
     .before .finish-in in
-    let n = c .before .before .before .before .before .before .before .before .before .before .before .before .number in
+    let n = c .before .before .before .before .before .before .before .before .before .before .before .before
+    .next-number in
     let p = c .before .before .before .before .before .before .before .before .before .before .put-answer .ensures
     .written (omega (arith, room)) in
     let f = c .before .before .before .before .before .before .wrapping-add-u64 in
@@ -71,7 +72,7 @@ finish-spec =
     returns
     finish-in-requires
     slice-aggregate-put-answer
-    number-requires
+    next-number-requires
     put-answer-requires
     frame-count-requires
     wrapping-add-u64-requires

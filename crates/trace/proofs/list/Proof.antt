@@ -5,7 +5,7 @@ use Prim.Native.Nat.{ℕ, _+_, _-_, _≤_}
 use native.Mathlib.Omega.{arith}
 use lib.ListN.{length, drop, length-drop}
 use Rattle.trace.specs.Private.{Going, Advances, listing}
-use Rattle.trace.proofs.ChunkLaws.{going-start, going-more, going-stop, going-end, part-rest}
+use Rattle.trace.proofs.ChunkLaws.{going-start, going-more, going-stop, going-end, rest-part}
 use Rattle.trace.proofs.list.Statement.{statement}
 use Rattle.trace.proofs.list.Tie as tie
 
@@ -23,8 +23,8 @@ loop-holds c = (search needs, refl, search needs, going-start _ _ _)
 sub-if1 : tie.Need-sub-if1 Inv-loop μ-loop
 sub-if1 c = omega arith
 
-packed-requires : tie.Need-packed-requires Inv-loop μ-loop
-packed-requires c κs = tt
+listing-of-requires : tie.Need-listing-of-requires Inv-loop μ-loop
+listing-of-requires c κs = tt
 
 same-length : tie.Need-same-length Inv-loop μ-loop
 same-length c = c .before .before .before .loop .inv .1
@@ -35,7 +35,7 @@ returns c =
     let l = c .before .before .before .loop in
     going-stop (a .s) (a .chunk .now) (a .out .now) (listing (l .bytes) (l .tally)) (l .out) (l .at) (l .i) (l .inv .3)
     (c .before .before .loop-test .taken) (l .inv .2) (omega (arith, c .before .if1 .taken, l .inv .1))
-    (c .packed .result) (c .packed .ensures)
+    (c .listing-of .result) (c .listing-of .ensures)
 
 sub-advance : tie.Need-sub-advance Inv-loop μ-loop
 sub-advance c = search needs
@@ -63,7 +63,7 @@ advanced c =
     let l = c .before .before .before .before .before .before .loop in
     let t = c .advance in
     subst (λ (rest : List ℕ). Advances (listing (l .bytes) (l .tally)) rest (t .last .0) (l .out) (l .at)
-    (t .last .1 .1 .1 .0) (t .result)) (part-rest _ (l .i)) (t .ensures)
+    (t .last .1 .1 .1 .0) (t .result)) (rest-part _ (l .i)) (t .ensures)
 
 fits : (c : tie.After-advance Inv-loop μ-loop)
     → c .before .before .before .before .before .before .loop .i + c .advance .result .taken ≤ length
@@ -106,8 +106,8 @@ loop-again c =
           (t .advance .result) (advanced t),
     )
 
-packed-requires-2 : tie.Need-packed-requires-2 Inv-loop μ-loop
-packed-requires-2 c κs = tt
+listing-of-requires-2 : tie.Need-listing-of-requires-2 Inv-loop μ-loop
+listing-of-requires-2 c κs = tt
 
 same-length-2 : tie.Need-same-length-2 Inv-loop μ-loop
 same-length-2 c = c .before .before .loop .inv .1
@@ -117,7 +117,8 @@ returns-2 c =
     let a = c .before .before .before .before .before .before .before .before .args in
     let l = c .before .before .loop in
     going-end (a .s) (a .chunk .now) (a .out .now) (listing (l .bytes) (l .tally)) (l .out) (l .at) (l .i) (l .inv .3)
-    (omega (arith, c .before .loop-test .left, l .inv .0)) (l .inv .2) (c .packed2 .result) (c .packed2 .ensures)
+    (omega (arith, c .before .loop-test .left, l .inv .0)) (l .inv .2) (c .listing-of2 .result)
+    (c .listing-of2 .ensures)
 
 pub list-spec : {M : Type 1} → statement M
 list-spec =
@@ -127,7 +128,7 @@ list-spec =
     μ-loop
     loop-holds
     sub-if1
-    packed-requires
+    listing-of-requires
     same-length
     returns
     sub-advance
@@ -137,6 +138,6 @@ list-spec =
     add-i
     loop-less
     loop-again
-    packed-requires-2
+    listing-of-requires-2
     same-length-2
     returns-2)

@@ -1,8 +1,8 @@
 use native.Mathlib.Omega.{arith}
 use Rattle.command.proofs.InnerLaws.{shift-fits, shift-is, shift-none}
 use borrow.Author.Needs.{needs}
-use Rattle.command.proofs.shift.Statement.{statement}
-use Rattle.command.proofs.shift.Tie as tie
+use Rattle.command.proofs.reindex.Statement.{statement}
+use Rattle.command.proofs.reindex.Tie as tie
 
 enum-known-found : tie.Need-enum-known-found
 enum-known-found c = search needs
@@ -21,5 +21,5 @@ returns c = shift-is (c .before .before .before .args .by) _ _ _ _ (c .before .f
 returns-2 : tie.Need-returns-2
 returns-2 c = shift-none (c .before .before .before .args .by) _ _ (c .before .found2 .given .1)
 
-pub shift-spec : {M : Type 1} → statement M
-shift-spec = tie.close (tie.spec enum-known-found add-t8 enum-known-found-2 returns returns-2)
+pub reindex-spec : {M : Type 1} → statement M
+reindex-spec = tie.close (tie.spec enum-known-found add-t8 enum-known-found-2 returns returns-2)
