@@ -12,9 +12,8 @@ use Rattle.lists.specs.Choice.{pick}
 use Rattle.command.specs.Entries.{Entry, commands, entryBytes, listBytes, Parsed, unsound, sound, parse, found}
 use Rattle.command.specs.Entries.{nthOf, nthIn, Extent}
 use Rattle.answer.specs.Answer.{Answer, result, refused}
-use Rattle.command.specs.Answers.{partOf}
+use Rattle.command.specs.Answers.{partOf, InContents}
 use Rattle.command.specs.Commands.{isWrapper, nthCommand, shifted, inside, nthInside}
-use Rattle.command.specs.Private.{InContents}
 use Rattle.command.specs.Traversal.{commandAt, indexPast, indexAfter, indexOf}
 use Rattle.command.specs.declared.cursor.CommandCursor.{CommandCursor}
 use Rattle.command.proofs.CursorMoves.{nthFrom, one-past, next-from}

@@ -16,7 +16,7 @@ use Rattle.command.specs.Entries.{Entry, entry, entryBytes, Parsed, unso
 use Rattle.command.specs.Entries.{parseCounted, headOf, found, nthOf, nthIn, Extent}
 use Rattle.answer.specs.Answer.{Answer, result, refused, through}
 use Rattle.command.specs.Answers.{counted}
-use Rattle.command.specs.Steps.{cursor, stepAt}
+use Rattle.command.specs.Steps.{cursor, stepAt, parseAfter}
 use Rattle.command.specs.Private.{ifSound}
 use Rattle.command.specs.declared.entries.Cursor.{Cursor}
 use Rattle.command.specs.declared.entries.Step.{Step}
@@ -37,13 +37,6 @@ skip-beyond limit (suc k) [] h = refl
 skip-beyond limit (suc k) (x ∷ s) h = skip-beyond limit k s (omega arith)
 
 -- ---- a step
-
--- what bytes are, where what stands at their front is known
-abbrev pub parseAfter : ℕ → List ℕ → Step → Parsed
-parseAfter limit s End = sound []
-parseAfter limit s Broken = unsound
-parseAfter limit s (At b start len next) =
-    withEntry (entry b (take len (drop start s))) (parse limit (drop (next .at) s) 0)
 
 counted-at : (limit b : ℕ) (s : List ℕ) (at : ℕ)
     → parseCounted limit (drop (at + 1) s) b

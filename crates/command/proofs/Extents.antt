@@ -14,9 +14,8 @@ use Rattle.lists.proofs.Cases.{by-bool}
 use Rattle.command.specs.Entries.{Entry, commands, entryBytes, listBytes, WellFormed, AllWellFormed, Parsed}
 use Rattle.command.specs.Entries.{unsound, sound, parse, headOf, found, nthOf, nthIn, Extent}
 use Rattle.answer.specs.Answer.{Answer, result, refused}
-use Rattle.command.specs.Answers.{partOf}
+use Rattle.command.specs.Answers.{partOf, InContents}
 use Rattle.command.specs.Commands.{isWrapper, nthCommand, shifted, inside, nthInside}
-use Rattle.command.specs.Private.{InContents}
 use Rattle.command.proofs.Sound.{parse-means, sound-exactly}
 
 pub wire-append : (limit : ℕ) (es fs : List Entry)

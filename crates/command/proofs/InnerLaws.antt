@@ -11,9 +11,9 @@ use Rattle.answer.specs.Refusals.{numberOf}
 use Rattle.answer.specs.declared.Refusal.{Refusal}
 use Rattle.command.specs.Entries.{found, Extent}
 use Rattle.answer.specs.Answer.{Answer, result, refused}
-use Rattle.command.specs.Answers.{foundMeans, partOf}
+use Rattle.command.specs.Answers.{foundMeans, partOf, InContents}
 use Rattle.command.specs.Commands.{isWrapper, nthCommand, shifted, inside, nthInside}
-use Rattle.command.specs.Private.{InContents, IndexFits}
+use Rattle.command.specs.Private.{IndexFits}
 use Rattle.command.specs.declared.entries.Found.{Found}
 use Rattle.command.specs.declared.entries.Found.the-variants.{At, Refused}
 use Rattle.command.proofs.Extents.{within-command}

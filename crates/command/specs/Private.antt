@@ -1,8 +1,6 @@
 -- Contracts of private functions, which no caller reads.
-use Prim.Native.Nat.{ℕ, _+_, _≤_, _<_, _^_}
+use Prim.Native.Nat.{ℕ, _+_, _<_, _^_}
 use mathlib.Core.Bool.{Bool}
-use mathlib.Core.List.{List}
-use lib.ListN.{length}
 use Rattle.answer.specs.Answer.{Answer, result, refused}
 use Rattle.command.specs.Entries.{Entry, Parsed, unsound, sound, Extent, found}
 use Rattle.command.specs.Stop.{terminates, stopsWithin}
@@ -13,11 +11,6 @@ use Rattle.command.specs.declared.stop.Sought.the-variants.{Wrapper, Ter
 unfoldable pub ifSound : Parsed → Answer Extent → Answer Extent
 ifSound unsound a = refused 7
 ifSound (sound es) a = a
-
--- What an answer names stands within the contents.
-abbrev pub InContents : List ℕ → Answer Extent → Type 0
-InContents s (result (found b start len)) = start + len ≤ length s
-InContents s (refused n) = Unit {0}
 
 -- An index further on by a number is still a usize.
 abbrev pub IndexFits : ℕ → Answer Extent → Type 0

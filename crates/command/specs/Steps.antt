@@ -1,9 +1,10 @@
 -- The entry at an index: what one step of a cursor answers.
 use Prim.Native.Nat.{ℕ, _+_, _-_}
-use mathlib.Core.List.{List}
+use mathlib.Core.List.{List, []}
 use lib.Dec.{leb, ltb}
-use lib.ListN.{length, getD}
+use lib.ListN.{length, getD, take, drop}
 use Rattle.lists.specs.Choice.{pick}
+use Rattle.command.specs.Entries.{entry, Parsed, unsound, sound, withEntry, parse}
 use Rattle.command.specs.declared.entries.Cursor.{Cursor}
 use Rattle.command.specs.declared.entries.Step.{Step}
 use Rattle.command.specs.declared.entries.Step.the-variants.{End, Broken, Entry}
@@ -23,3 +24,10 @@ stepAt limit s at =
     Broken)
     (Entry (getD s at 0) (at + 1) 0 (cursor (at + 1))))
     End
+
+-- What bytes are read as, where what stands at their front is known.
+abbrev pub parseAfter : (limit : ℕ) → List ℕ → Step → Parsed
+parseAfter limit s End = sound []
+parseAfter limit s Broken = unsound
+parseAfter limit s (Entry b start len next) =
+    withEntry (entry b (take len (drop start s))) (parse limit (drop (next .at) s) 0)

@@ -15,7 +15,7 @@ unfoldable pub anyOf : (Entry → Bool) → List Entry → Bool
 anyOf p [] = false
 anyOf p (e ∷ es) = pick (p e) true (anyOf p es)
 
--- The same of what bytes are; no entry of an unsound list does.
+-- Whether an entry of what bytes are read as passes a test; no entry of an unsound list does.
 unfoldable pub anyIn : (Entry → Bool) → Parsed → Bool
 anyIn p unsound = false
 anyIn p (sound es) = anyOf p es

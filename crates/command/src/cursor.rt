@@ -14,7 +14,7 @@ pub struct CommandCursor<'a> {
 }
 
 // What one step tells: the command at an index, and the index after it, or the same index where the command is refused.
-pub struct CursorStep {
+pub struct CommandStep {
     pub found: Found,
     pub next: usize,
 }
@@ -34,7 +34,7 @@ impl<'a> CommandCursor<'a> {
         traversal::command_at(self.contents, self.at)
     }
 
-    // Its data, a part of the contents; empty where `command` refuses.
+    // The data of the command at the cursor's index, a part of the contents; empty where `command` refuses.
     pub fn data(self) -> &'a [u8]
         ensures { λ r.
             ⌜ now r
@@ -58,7 +58,7 @@ impl<'a> CommandCursor<'a> {
 }
 
 // One step of a cursor, for callers that hold the contents and an index: they need no proof by hand.
-pub fn step_from(contents: &[u8], at: usize) -> CursorStep
+pub fn step_from(contents: &[u8], at: usize) -> CommandStep
     ensures { λ r.
         ⌜ (foundMeans (r .found) ≡ commandAt (now (contents .entry)) at)
         × (r .next ≡ indexAfter (now (contents .entry)) at) ⌝ }
@@ -66,7 +66,7 @@ pub fn step_from(contents: &[u8], at: usize) -> CursorStep
     let here = CommandCursor { contents, at };
     let found = CommandCursor::command(here);
     let there = CommandCursor::advanced(here);
-    CursorStep {
+    CommandStep {
         found,
         next: there.at,
     }

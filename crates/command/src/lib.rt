@@ -26,7 +26,7 @@ pub fn nth(contents: &[u8], n: usize) -> Found
     entries::nth(entries::COMMANDS, contents, from, n)
 }
 
-// Its data; empty where `nth` refuses.
+// The data of the n-th command; empty where `nth` refuses.
 pub fn nth_data(contents: &[u8], n: usize) -> &[u8]
     ensures { λ r. ⌜ now r ≡ partOf (now (contents .entry)) (nthCommand (now (contents .entry)) n) ⌝ }
 {
@@ -45,7 +45,7 @@ pub fn nth_inside(contents: &[u8], w: usize, n: usize) -> Found
     }
 }
 
-// Its data; empty where `nth_inside` refuses.
+// The data of the n-th command inside the w-th; empty where `nth_inside` refuses.
 pub fn nth_inside_data(contents: &[u8], w: usize, n: usize) -> &[u8]
     ensures { λ r. ⌜ now r ≡ partOf (now (contents .entry)) (nthInside (now (contents .entry)) w n) ⌝ }
 {

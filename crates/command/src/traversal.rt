@@ -14,7 +14,7 @@ pub fn command_at(contents: &[u8], at: usize) -> Found
     entries::nth(entries::COMMANDS, contents, from, 0)
 }
 
-// Its data; empty where `command_at` refuses.
+// The data of the command at an index; empty where `command_at` refuses.
 pub fn data_at(contents: &[u8], at: usize) -> &[u8]
     ensures { λ r. ⌜ now r ≡ partOf (now (contents .entry)) (commandAt (now (contents .entry)) at) ⌝ }
 {

@@ -20,7 +20,7 @@ use Rattle.workout.proofs.WriteLaws.{contents-length}
 use Rattle.lease.specs.Lease.{stop, inRange, owns, stopFrame, answerOf, lentAnswer, tableOf}
 use Rattle.lease.specs.Answers.{writtenLength}
 use Rattle.lease.proofs.LeaseLaws.{stop-short}
-use Rattle.exports.specs.Private.{WriteShort, ReadShort}
+use Rattle.exports.specs.Answers.{WriteShort, ReadShort}
 
 -- a draft's length has room
 abbrev DraftShort : Draft → Type 0

@@ -1,9 +1,9 @@
 -- The fields of what each library function answers.
-use Prim.Native.Nat.{ℕ}
+use Prim.Native.Nat.{ℕ, _^_, _<_}
 use mathlib.Core.List.{List}
-use lib.ListN.{length}
 use Rattle.answer.specs.Answer.{result, refused, Answer}
 use Rattle.frame.specs.Answers.{standardOutline, extendedOutline, FrameOutline}
+use Rattle.lease.specs.Answers.{writtenLength}
 use Rattle.exports.specs.Packed.{Fields}
 
 -- All zero but the number.
@@ -26,5 +26,14 @@ readFields (refused n) = refusalFields n
 
 -- Of hold and release, which write nothing.
 abbrev pub leaseFields : Answer (List ℕ) → Fields
-leaseFields (result w) = resultFields 0 0 0 (length w)
-leaseFields (refused n) = refusalFields n
+leaseFields a = writeFields (writtenLength a)
+
+-- Lengths that have room in 32 bits.
+abbrev pub WriteShort : Answer ℕ → Type 0
+WriteShort (result n) = n < 2 ^ 32
+WriteShort (refused n) = Unit {0}
+
+abbrev pub ReadShort : Answer FrameOutline → Type 0
+ReadShort (result (standardOutline n)) = n < 2 ^ 32
+ReadShort (result (extendedOutline to from n)) = n < 2 ^ 32
+ReadShort (refused n) = Unit {0}

@@ -1,5 +1,4 @@
 pub mod Packed
 pub mod Answers
-pub mod Private
 pub mod LineState
 pub mod LineAnswers

@@ -29,7 +29,7 @@ pub record FedAs (answer : ℕ) (bytes : List ℕ) (state taken : ℕ) (f : Chun
   pub state-left : state ≡ packedState (f .next .state)
   pub count : taken ≡ f .taken
 
--- The same of a finish, where the array is not lent.
+-- What a finish answers and leaves; the array is not lent to it.
 pub record FinishedAs (answer state : ℕ) (t : ReaderTurn) : Type 0 where
   pub answered : Tells answer (lineFields (summaryOf (t .answer)))
   pub state-left : state ≡ packedState (t .next .state)

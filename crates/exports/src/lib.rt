@@ -142,8 +142,8 @@ pub extern "C" fn csafe_hold(table: &mut [u8], address: u32, token: u64) -> u64
     ensures { λ r. ⌜ Tells r (leaseFields (lentAnswer (now (table .entry)) (hold address token))) ⌝ }
     ensures { λ r. ⌜ now (table .exit) ≡ lentAfter (now (table .entry)) (hold address token) ⌝ }
 {
-    let outcome = lease::hold_lent(table, address, token);
-    packed::of_outcome(outcome)
+    let answer = lease::hold_lent(table, address, token);
+    packed::of_lease(answer)
 }
 
 // Frees an address for its holder. Refusals 18, 9 and 11.
@@ -152,8 +152,8 @@ pub extern "C" fn csafe_release(table: &mut [u8], address: u32, token: u64) -> u
     ensures { λ r. ⌜ Tells r (leaseFields (lentAnswer (now (table .entry)) (release address token))) ⌝ }
     ensures { λ r. ⌜ now (table .exit) ≡ lentAfter (now (table .entry)) (release address token) ⌝ }
 {
-    let outcome = lease::release_lent(table, address, token);
-    packed::of_outcome(outcome)
+    let answer = lease::release_lent(table, address, token);
+    packed::of_lease(answer)
 }
 
 // Writes the stop frame for the holder. Refusals 18, 9, 11 and 1.

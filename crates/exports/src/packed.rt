@@ -11,7 +11,7 @@ ghost use Rattle.lease.specs.Answers.{leaseMeans};
 ghost use Rattle.line.specs.Outcome.{toldMeans, ContentsFit};
 ghost use Rattle.exports.specs.Packed.{Tells};
 ghost use Rattle.exports.specs.Answers.{refusalFields, resultFields, writeFields, readFields, leaseFields};
-ghost use Rattle.exports.specs.Private.{WriteShort, ReadShort};
+ghost use Rattle.exports.specs.Answers.{WriteShort, ReadShort};
 ghost use Rattle.exports.specs.LineAnswers.{lineFields};
 
 // The kinds of frame.
@@ -90,10 +90,10 @@ pub(crate) fn of_read(read: Read) -> u64
     }
 }
 
-pub(crate) fn of_outcome(outcome: LeaseAnswer) -> u64
-    ensures { λ r. ⌜ Tells r (leaseFields (leaseMeans outcome)) ⌝ }
+pub(crate) fn of_lease(answer: LeaseAnswer) -> u64
+    ensures { λ r. ⌜ Tells r (leaseFields (leaseMeans answer)) ⌝ }
 {
-    match outcome {
+    match answer {
         LeaseAnswer::Done => result(STANDARD, NONE, NONE, 0),
         LeaseAnswer::Refused(why) => refused(why),
     }

@@ -70,7 +70,7 @@ pub data Judged (w : List ℕ) : Verdict → Type 0 where
       → (ChecksumRight (t .kind) u → ⊥) → Judged w (refused 5)
   sound : (f : Frame) → SoundFrame w f → Judged w (result f)
 
--- The same with the output's room, which is asked for last.
+-- What reading a frame is answered: its judgement's refusal first, and the output's room is asked for last.
 pub data ReadJudged (w : List ℕ) (room : ℕ) : Answer FrameOutline → Type 0 where
   refusedBy : {n : ℕ} → Judged w (refused n) → ReadJudged w room (refused n)
   noRoom : {f : Frame} → SoundFrame w f → room < length (contentsOf f) → ReadJudged w room (refused 1)

@@ -8,7 +8,7 @@ use lib.ListN.{length, getD, drop}
 use Rattle.lists.specs.Choice.{pick, within, noneOf}
 use Rattle.answer.specs.Refusals.{numberOf}
 use Rattle.frame.specs.Stuffing.{isStuffed, stuffByte, unstuff, Unstuffed, badEscape, bytes, prepend}
-use Rattle.frame.specs.Flags.{flagless, stopFlag, isStart}
+use Rattle.frame.specs.Flags.{flagless, startFlag, stopFlag, isStart}
 use Rattle.frame.specs.Checksum.{sumFrom, checksum}
 use Rattle.frame.specs.Frame.{Frame, standard, extended}
 use Rattle.frame.specs.Verdict.{Verdict, judge, addressCount, lastOf}
@@ -45,8 +45,8 @@ headed (Addressed to from) r = prepend to (prepend from r)
 
 -- The start flag and the stuffed addresses.
 abbrev pub headerWire : Header → List ℕ
-headerWire Plain = 0xF1 ∷ []
-headerWire (Addressed to from) = 0xF0 ∷ (stuffByte to ++ stuffByte from)
+headerWire Plain = startFlag Standard ∷ []
+headerWire (Addressed to from) = startFlag Extended ∷ (stuffByte to ++ stuffByte from)
 
 -- ---- reading
 

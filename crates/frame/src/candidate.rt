@@ -271,7 +271,7 @@ pub(crate) fn examine(kind: Kind, body: &[u8]) -> Examined
     }
 }
 
-// The same once the addresses are known: what follows is the contents and the checksum, whose exclusive or is 0.
+// Examines what follows the header: the contents and the checksum, whose exclusive or is 0.
 fn examine_rest(header: Header, body: &[u8], next: usize) -> Examined
     requires { ⌜ length (now body) ≤ 118 ⌝ }
     requires { ⌜ AddressesIn (headerKind header) (now body) (Addresses.Found header next) ⌝ }

@@ -105,7 +105,7 @@ pub fn judge_in_place(kind: Kind, s: &mut [u8], len: usize) -> Read
     judge_whole(kind, &mut s[..n])
 }
 
-// The same of an array that can hold all that stands between the flags of a frame.
+// Judges the first bytes of an array that can hold all that stands between the flags of a frame.
 pub fn judge_array(kind: Kind, bytes: &mut [u8; 118], len: usize) -> Read
     ensures { λ r. ⌜ readMeans r ≡ judgeAnswer (judge kind (take len (now (bytes .entry)))) ⌝ }
     ensures { λ r. ⌜ now (bytes .exit) ≡ leftIn (judge kind (take len (now (bytes .entry)))) (now (bytes .entry)) ⌝ }
@@ -160,7 +160,7 @@ fn read_plain(kind: Kind, body: &[u8], sum: u8, out: &mut [u8]) -> Read
     }
 }
 
-// The same once the addresses are known, with the exclusive or of what follows them.
+// Reads what follows the header, whose addresses are known, with the exclusive or of it.
 fn read_after(header: Header, body: &[u8], start: usize, sum: u8, out: &mut [u8]) -> Read
     requires { ⌜ UnescapedAfter header (now body) start sum ⌝ }
     ensures { λ r. ⌜ readMeans r ≡ readAnswer (judge (headerKind header) (now (body .entry)))

@@ -39,11 +39,11 @@ module _ {K A : Type 0} (P : Protocol A) (B : Bounds K A) (suits : Suits P B) wh
 
   abbrev StandsAt : BoundedMode K → List ℕ → ℕ → Candidate → Type 0
   StandsAt outside bytes len k = k ≡ none
-  StandsAt (inside kind) bytes len k = (len ≤ B .room) × HoldsBody kind (take len bytes) k
-  StandsAt overlong bytes len k = (kind : K) × (body : List ℕ) × (B .room < length body) × HoldsBody kind body k
+  StandsAt (inside kind) bytes len k = (len ≤ B .capacity) × HoldsBody kind (take len bytes) k
+  StandsAt overlong bytes len k = (kind : K) × (body : List ℕ) × (B .capacity < length body) × HoldsBody kind body k
 
   abbrev StandsFor : BoundedReader K → Candidate → Type 0
-  StandsFor r k = (length (r .bytes) ≡ B .room) × StandsAt (r .mode) (r .bytes) (r .len) k
+  StandsFor r k = (length (r .bytes) ≡ B .capacity) × StandsAt (r .mode) (r .bytes) (r .len) k
 
   -- ---- a start flag, and the end of input
 
@@ -56,7 +56,7 @@ module _ {K A : Type 0} (P : Protocol A) (B : Bounds K A) (suits : Suits P B) wh
   -- ---- the stop flag
 
   terminated-at : (m : BoundedMode K) (bytes : List ℕ) (len : ℕ) (k : Candidate) (b : ℕ) → P .role b ≡ stops
-      → length bytes ≡ B .room
+      → length bytes ≡ B .capacity
       → StandsAt m bytes len k → terminatedIn P B m bytes len ≡ byteAnswer P stops k b
   terminated-at outside bytes len k b e n s = rw s
   terminated-at (inside kind) bytes len k b e n s =
@@ -68,8 +68,8 @@ module _ {K A : Type 0} (P : Protocol A) (B : Bounds K A) (suits : Suits P B) wh
       let h = s .3 in
       rw (h .holds) (sym (suits .too-long (h .flag) (s .1) b (h .starting) (h .flag-free) e (s .2)))
 
-  kept-at : (m : BoundedMode K) (bytes : List ℕ) (len : ℕ) → length bytes ≡ B .room
-      → length (leftByStop P B m bytes len) ≡ B .room
+  kept-at : (m : BoundedMode K) (bytes : List ℕ) (len : ℕ) → length bytes ≡ B .capacity
+      → length (leftByStop P B m bytes len) ≡ B .capacity
   kept-at outside bytes len e = e
   kept-at (inside kind) bytes len e = suits .kept kind len bytes e
   kept-at overlong bytes len e = e
@@ -86,23 +86,23 @@ module _ {K A : Type 0} (P : Protocol A) (B : Bounds K A) (suits : Suits P B) wh
     flag-free = more-free (P .role) body b (h .flag-free) e;
   }
 
-  grown-at : (m : BoundedMode K) (bytes : List ℕ) (len : ℕ) (k : Candidate) (b : ℕ) → length bytes ≡ B .room
+  grown-at : (m : BoundedMode K) (bytes : List ℕ) (len : ℕ) (k : Candidate) (b : ℕ) → length bytes ≡ B .capacity
       → P .role b ≡ plain
       → StandsAt m bytes len k → StandsFor (grownIn P B m bytes len b) (byteAfter P plain k b)
   grown-at outside bytes len k b e q s = (e, rw s)
-  grown-at (inside kind) bytes len k b e q s = by-room (ltb len (B .room)) refl
+  grown-at (inside kind) bytes len k b e q s = by-capacity (ltb len (B .capacity)) refl
     where
-      by-room : (t : Bool) → ltb len (B .room) ≡ t
+      by-capacity : (t : Bool) → ltb len (B .capacity) ≡ t
           → StandsFor (pick t (bounded (set bytes len b) (len + 1) (inside kind)) (bounded bytes 0 overlong))
           (byteAfter P plain k b)
-      by-room true y =
-          let l : len < B .room = ltb-true len (B .room) y in
+      by-capacity true y =
+          let l : len < B .capacity = ltb-true len (B .capacity) y in
           let f : take len bytes ++ b ∷ [] ≡ take (len + 1) (set bytes len b) =
           rw (add-one, take-suc-set bytes len b (omega arith)) in
           let g = grows kind (take len bytes) k b q (s .1) in
           (simp length-set e, (omega arith, subst (λ (x : List ℕ). HoldsBody kind x (byteAfter P plain k b)) f g))
-      by-room false y =
-          let l : B .room ≤ len = ltb-false len (B .room) y in
+      by-capacity false y =
+          let l : B .capacity ≤ len = ltb-false len (B .capacity) y in
           let u : length (take len bytes) ≡ len = length-take-le len bytes (omega (arith, s .0)) in (
             e,
             (
@@ -146,7 +146,7 @@ module _ {K A : Type 0} (P : Protocol A) (B : Bounds K A) (suits : Suits P B) wh
   pub bounded-follows : {S : Type 0} (turnOf : S → Call → Turn S A) (seen : S → BoundedReader K)
       → ((s : S) (c : Call) → (turnOf s c .answer ≡ boundedTurn P B (seen s) c .answer)
       × (seen (turnOf s c .next) ≡ boundedTurn P B (seen s) c .next))
-      → (s : S) → length (seen s .bytes) ≡ B .room → seen s .mode ≡ outside
+      → (s : S) → length (seen s .bytes) ≡ B .capacity → seen s .mode ≡ outside
       → Follows P (run (λ s c. turnOf s c .answer) (λ s c. turnOf s c .next) s)
   bounded-follows turnOf seen same s e o =
       follows P (λ s c. turnOf s c .answer) (λ s c. turnOf s c .next) (λ s k. StandsFor (seen s) k)
@@ -162,7 +162,7 @@ module _ {K A : Type 0} (P : Protocol A) (B : Bounds K A) (suits : Suits P B) wh
   module _ {S : Type 0} (called : S → Call → A → S → Type 0) (new : S → Type 0) (seen : S → BoundedReader K)
       (each : (s t : S) (c : Call) (a : A) → called s c a t
       → (a ≡ boundedTurn P B (seen s) c .answer) × (seen t ≡ boundedTurn P B (seen s) c .next))
-      (new-outside : (s : S) → new s → (length (seen s .bytes) ≡ B .room) × (seen s .mode ≡ outside)) where
+      (new-outside : (s : S) → new s → (length (seen s .bytes) ≡ B .capacity) × (seen s .mode ≡ outside)) where
     abbrev from : BoundedReader K → List Call → List A
     from r calls = run (λ s c. boundedTurn P B s c .answer) (λ s c. boundedTurn P B s c .next) r calls
 

@@ -28,7 +28,7 @@ bounded bytes len mode = record { bytes = bytes; len = len; mode = mode }
 -- the array that such an answer leaves; and the answer to a terminated candidate with more bytes than there is room
 -- for.
 pub record Bounds (K A : Type 0) : Type 0 where
-  pub room : ℕ
+  pub capacity : ℕ
   pub kind : ℕ → K
   pub judge : K → (body : List ℕ) → A
   pub left : A → List ℕ → List ℕ
@@ -39,12 +39,12 @@ module _ {K A : Type 0} (P : Protocol A) (B : Bounds K A) where
   -- with one answer whatever the bytes are. What is judged leaves as many bytes in the array as there were.
   pub record Suits : Type 0 where
     pub held : (flag : ℕ) (body : List ℕ) (b : ℕ) → P .role flag ≡ starts → FlagFree (P .role) body → P .role b ≡ stops
-        → length body ≤ B .room → P .judge (flag ∷ (body ++ b ∷ [])) ≡ B .judge (B .kind flag) body
+        → length body ≤ B .capacity → P .judge (flag ∷ (body ++ b ∷ [])) ≡ B .judge (B .kind flag) body
     pub too-long : (flag : ℕ) (body : List ℕ) (b : ℕ) → P .role flag ≡ starts → FlagFree (P .role) body
         → P .role b ≡ stops
-        → B .room < length body → P .judge (flag ∷ (body ++ b ∷ [])) ≡ B .long
-    pub kept : (kind : K) (len : ℕ) (bytes : List ℕ) → length bytes ≡ B .room
-        → length (B .left (B .judge kind (take len bytes)) bytes) ≡ B .room
+        → B .capacity < length body → P .judge (flag ∷ (body ++ b ∷ [])) ≡ B .long
+    pub kept : (kind : K) (len : ℕ) (bytes : List ℕ) → length bytes ≡ B .capacity
+        → length (B .left (B .judge kind (take len bytes)) bytes) ≡ B .capacity
 
   -- Whatever is open is truncated.
   abbrev pub truncatedIn : BoundedMode K → A
@@ -68,7 +68,7 @@ module _ {K A : Type 0} (P : Protocol A) (B : Bounds K A) where
   abbrev pub grownIn : BoundedMode K → (bytes : List ℕ) → (len b : ℕ) → BoundedReader K
   grownIn outside bytes len b = bounded bytes len outside
   grownIn (inside kind) bytes len b =
-      pick (ltb len (B .room)) (bounded (set bytes len b) (len + 1) (inside kind)) (bounded bytes 0 overlong)
+      pick (ltb len (B .capacity)) (bounded (set bytes len b) (len + 1) (inside kind)) (bounded bytes 0 overlong)
   grownIn overlong bytes len b = bounded bytes len overlong
 
   -- A byte of a role.

@@ -34,7 +34,7 @@ module _ {A : Type 0} (P : Protocol A) where
     pub restarts : (D : List ℕ) (w : ℕ) (W : List ℕ) (L : List Call) → P .role w ≡ starts
         → Restarts D (answers (feed D ++ (feed (w ∷ W) ++ L))) (answers (feed D)) (answers (feed (w ∷ W) ++ L))
 
-  -- The same of calls and answers of which no more is known than that each list of answers was given to its list of
+  -- Demand 3 of calls and answers of which no more is known than that each list of answers was given to its list of
   -- calls.
   pub record Demand3 (answered : List Call → List A → Type 0) : Type 0 where
     pub same : (calls : List Call) (answers : List A) → answered calls answers → answers ≡ Reference P calls

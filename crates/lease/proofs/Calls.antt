@@ -43,9 +43,9 @@ told-is a out last (refused m) e o = ap (λ (b : Answer ℕ). stopTold b last) e
 -- A call on a table, with its answer and the table afterwards: what its contract tells the caller.
 pub data Called : LeaseTable → LeaseCall → Answer (List ℕ) → LeaseTable → Type 0 where
   held : {t : LeaseTable} {a u : ℕ} (r : Leased) → hold-reads.Learnt tt (t, (a, (u, tt))) r (t, (a, (u, tt)))
-      → Called t (hold a u) (leaseMeans (r .outcome)) (r .table)
+      → Called t (hold a u) (leaseMeans (r .answer)) (r .table)
   released : {t : LeaseTable} {a u : ℕ} (r : Leased) → release-reads.Learnt tt (t, (a, (u, tt))) r (t, (a, (u, tt)))
-      → Called t (release a u) (leaseMeans (r .outcome)) (r .table)
+      → Called t (release a u) (leaseMeans (r .answer)) (r .table)
   stopped : {t : LeaseTable} {a u : ℕ} (r : Written) (κs : Lfts 1) (out out′ : RefT (List ℕ))
       → stop-reads.Learnt κs (t, (a, (u, (out, tt)))) r (t, (a, (u, (out′, tt))))
       → Called t (stop a u (length (out .now))) (stopTold (writtenMeans r) (out′ .now)) t

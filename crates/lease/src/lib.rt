@@ -36,7 +36,7 @@ pub struct LeaseTable {
 
 // An answer, and the table afterwards.
 pub struct Leased {
-    pub outcome: LeaseAnswer,
+    pub answer: LeaseAnswer,
     pub table: LeaseTable,
 }
 
@@ -52,22 +52,22 @@ impl LeaseTable {
 
     // Takes a free address. Refusals 9, 14 and 10.
     pub fn hold(self, address: u32, token: u64) -> Leased
-        ensures { λ r. ⌜ TableCall (self .tokens) (hold address token) (leaseMeans (r .outcome))
+        ensures { λ r. ⌜ TableCall (self .tokens) (hold address token) (leaseMeans (r .answer))
             (r .table .tokens) ⌝ }
     {
         let held = tokens::token_at(&self.tokens, address);
-        let outcome = judge_hold(address, token, held);
-        settle(self, outcome, address, token)
+        let answer = judge_hold(address, token, held);
+        settle(self, answer, address, token)
     }
 
     // Frees an address for its holder. Refusals 9 and 11.
     pub fn release(self, address: u32, token: u64) -> Leased
-        ensures { λ r. ⌜ TableCall (self .tokens) (release address token) (leaseMeans (r .outcome))
+        ensures { λ r. ⌜ TableCall (self .tokens) (release address token) (leaseMeans (r .answer))
             (r .table .tokens) ⌝ }
     {
         let held = tokens::token_at(&self.tokens, address);
-        let outcome = judge_release(address, token, held);
-        settle(self, outcome, address, FREE)
+        let answer = judge_release(address, token, held);
+        settle(self, answer, address, FREE)
     }
 
     // Writes the stop frame for the holder, who keeps the address. Refusals 9, 11 and 1.
@@ -88,8 +88,8 @@ pub fn hold_lent(table: &mut [u8], address: u32, token: u64) -> LeaseAnswer
         return LeaseAnswer::Refused(Refusal::BadTable);
     }
     let held = tokens::token_in(table, address);
-    let outcome = judge_hold(address, token, held);
-    settle_lent(table, outcome, address, token)
+    let answer = judge_hold(address, token, held);
+    settle_lent(table, answer, address, token)
 }
 
 // As `LeaseTable::release`, on the bytes of a table. Refusal 18 comes first.
@@ -100,8 +100,8 @@ pub fn release_lent(table: &mut [u8], address: u32, token: u64) -> LeaseAnswer
         return LeaseAnswer::Refused(Refusal::BadTable);
     }
     let held = tokens::token_in(table, address);
-    let outcome = judge_release(address, token, held);
-    settle_lent(table, outcome, address, FREE)
+    let answer = judge_release(address, token, held);
+    settle_lent(table, answer, address, FREE)
 }
 
 // As `LeaseTable::stop`, on the bytes of a table. Refusal 18 comes first.
@@ -180,35 +180,35 @@ fn write_stop(address: u32, token: u64, held: u64, out: &mut [u8]) -> Written
 }
 
 // The store of hold and of release: an accepted call leaves `token` at the address.
-fn settle(mut table: LeaseTable, outcome: LeaseAnswer, address: u32, token: u64) -> Leased
-    requires { ⌜ Settles address (leaseMeans outcome) ⌝ }
-    ensures { λ r. ⌜ (leaseMeans (r .outcome) ≡ leaseMeans outcome)
-        × (r .table .tokens ≡ settled (leaseMeans outcome) address token (table .tokens)) ⌝ }
+fn settle(mut table: LeaseTable, answer: LeaseAnswer, address: u32, token: u64) -> Leased
+    requires { ⌜ Settles address (leaseMeans answer) ⌝ }
+    ensures { λ r. ⌜ (leaseMeans (r .answer) ≡ leaseMeans answer)
+        × (r .table .tokens ≡ settled (leaseMeans answer) address token (table .tokens)) ⌝ }
 {
-    match outcome {
+    match answer {
         LeaseAnswer::Done => {
             let at = address as usize;
             table.tokens[at] = token;
             Leased {
-                outcome: LeaseAnswer::Done,
+                answer: LeaseAnswer::Done,
                 table,
             }
         }
         LeaseAnswer::Refused(why) => Leased {
-            outcome: LeaseAnswer::Refused(why),
+            answer: LeaseAnswer::Refused(why),
             table,
         },
     }
 }
 
-// The same on the bytes of a table.
-fn settle_lent(table: &mut [u8], outcome: LeaseAnswer, address: u32, token: u64) -> LeaseAnswer
+// The store of hold and of release in the bytes of a table: an accepted call leaves `token` at the address.
+fn settle_lent(table: &mut [u8], answer: LeaseAnswer, address: u32, token: u64) -> LeaseAnswer
     requires { ⌜ length (now table) ≡ 2048 ⌝ }
-    requires { ⌜ Settles address (leaseMeans outcome) ⌝ }
-    ensures { λ r. ⌜ leaseMeans r ≡ leaseMeans outcome ⌝ }
-    ensures { λ r. ⌜ now (table .exit) ≡ settledLent (leaseMeans outcome) address token (now (table .entry)) ⌝ }
+    requires { ⌜ Settles address (leaseMeans answer) ⌝ }
+    ensures { λ r. ⌜ leaseMeans r ≡ leaseMeans answer ⌝ }
+    ensures { λ r. ⌜ now (table .exit) ≡ settledLent (leaseMeans answer) address token (now (table .entry)) ⌝ }
 {
-    match outcome {
+    match answer {
         LeaseAnswer::Done => {
             let at = address as usize;
             tokens::put_token(table, 8 * at, token);

@@ -16,7 +16,7 @@ use Rattle.line.specs.Outcome.{Outcome, withAnswer, answersIn, Summary, 
 use Rattle.line.specs.Reader.{ReaderTurn, lentReader, reader, stepOf}
 use Rattle.line.specs.Rowing.{rowing}
 use Rattle.line.specs.Feed.{isAnswer, ChunkTurn, chunkTurn, laterBy, feedOf, ChunkStepIs}
-use Rattle.line.specs.Chunks.{afterBytes, Chunks, done, chunk}
+use Rattle.line.specs.Chunks.{afterBytes, Chunks, ended, chunk}
 use Rattle.line.specs.declared.LineReader.{LineReader}
 use Rattle.line.specs.declared.State.{State}
 use Rattle.line.specs.declared.Mode.the-variants.{Outside}
@@ -54,7 +54,7 @@ feeds-outcome bytes f r s k =
 -- Calls of `feed_in` that take a stream to its end, with the answers that they gave and the reader that the last one
 -- leaves. Each is lent the array as the last one left it, and given any part of what is left of the stream.
 pub data ChunksLent : LineReader → List ℕ → List Verdict → LineReader → Type 0 where
-  done-lent : {r : LineReader} → ChunksLent r [] [] r
+  ended-lent : {r : LineReader} → ChunksLent r [] [] r
   chunk-lent : (κs : Lfts 2) (ρ ρ′ given : RefT (List ℕ)) {state : State} {s : ChunkStep} {rest : List Verdict}
       {last : LineReader} (later : List ℕ)
       → feed-in-reads.Learnt κs (ρ, (state, (given, tt))) s (ρ′, (state, (given, tt)))
@@ -76,7 +76,7 @@ one-chunk r left s given later rest last k t =
 
 chunks-lent : {r last : LineReader} {stream : List ℕ} {answers : List Verdict} → ChunksLent r stream answers last
     → Chunks r stream answers last
-chunks-lent done-lent = done
+chunks-lent ended-lent = ended
 chunks-lent (chunk-lent κs ρ ρ′ given {state = state} {s = s} {rest = rest} {last = last} later k t) =
     one-chunk (lentReader (ρ .now) state) (ρ′ .now) s (given .now) later rest last k (chunks-lent t)
 

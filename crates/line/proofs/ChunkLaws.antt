@@ -15,7 +15,7 @@ use Rattle.line.specs.Outcome.{Outcome, nothing, judged, withAnswer, ans
 use Rattle.line.specs.Reader.{ReaderTurn, reader, stepOf, outcomeAt, nextAfter}
 use Rattle.line.specs.Rowing.{rowing}
 use Rattle.line.specs.Feed.{isAnswer, ChunkTurn, chunkTurn, laterBy, feedOf}
-use Rattle.line.specs.Chunks.{afterBytes, Chunks, done, chunk}
+use Rattle.line.specs.Chunks.{afterBytes, Chunks, ended, chunk}
 use Rattle.line.specs.declared.LineReader.{LineReader}
 use Rattle.line.specs.declared.Mode.the-variants.{Outside}
 use Rattle.line.proofs.Follows.{outside-follows}
@@ -60,7 +60,7 @@ goes r (b ∷ given) later =
 -- the bytes fed singly.
 pub chunks-singly : {r last : LineReader} {stream : List ℕ} {answers : List Verdict} → Chunks r stream answers last
     → (answers ≡ answersIn (run outcomeAt nextAfter r (feed stream))) × (last ≡ afterBytes r stream)
-chunks-singly done = (refl, refl)
+chunks-singly ended = (refl, refl)
 chunks-singly (chunk {r = r} given later t) =
     let k = goes r given later in (
       ap (withAnswer (feedOf r given .answer)) (chunks-singly t .0) ∙ sym (k .answers),

@@ -14,16 +14,17 @@ use Rattle.frame.proofs.Table.{verdict-by-table}
 use Rattle.line.specs.Outcome.{nothing, judged, Not1, Never1}
 use Rattle.frame.specs.Flags.{stopFlag, roleOf}
 use Rattle.line.specs.Rowing.{rowing}
-use Rattle.line.specs.Reader.{readerAnswers}
+use Rattle.line.specs.Reader.{readerOutcomes}
 use Rattle.line.proofs.Follows.{reader-follows}
 
 pub as-new-after-stop : (calls rest : List Call)
-    → readerAnswers (calls ++ byte stopFlag ∷ rest) ≡ readerAnswers (calls ++ byte stopFlag ∷ []) ++ readerAnswers rest
-as-new-after-stop = as-new rowing (byte stopFlag) (λ k. refl) readerAnswers (reader-follows .same)
+    → readerOutcomes (calls ++ byte stopFlag ∷ rest) ≡ readerOutcomes (calls ++ byte stopFlag ∷ [])
+    ++ readerOutcomes rest
+as-new-after-stop = as-new rowing (byte stopFlag) (λ k. refl) readerOutcomes (reader-follows .same)
 
 pub as-new-after-finish : (calls rest : List Call)
-    → readerAnswers (calls ++ finish ∷ rest) ≡ readerAnswers (calls ++ finish ∷ []) ++ readerAnswers rest
-as-new-after-finish = as-new rowing finish (λ k. refl) readerAnswers (reader-follows .same)
+    → readerOutcomes (calls ++ finish ∷ rest) ≡ readerOutcomes (calls ++ finish ∷ []) ++ readerOutcomes rest
+as-new-after-finish = as-new rowing finish (λ k. refl) readerOutcomes (reader-follows .same)
 
 -- ---- never 1
 
@@ -60,5 +61,5 @@ from-never-1 : (k : Candidate) (calls : List Call) → Never1 (run (answerTo row
 from-never-1 k [] = tt
 from-never-1 k (c ∷ calls) = (call-not-1 k c, from-never-1 (candidateAfter rowing k c) calls)
 
-pub never-1 : (calls : List Call) → Never1 (readerAnswers calls)
+pub never-1 : (calls : List Call) → Never1 (readerOutcomes calls)
 never-1 calls = subst Never1 (sym (reader-follows .same calls)) (from-never-1 none calls)

@@ -16,7 +16,7 @@ use Rattle.frame.proofs.VerdictLaws.{whole-verdict, judge-long}
 use Rattle.frame.proofs.ContentsLaws.{left-length}
 use Rattle.line.specs.Outcome.{judged, zeros}
 use Rattle.line.specs.Rowing.{rowing, rowingBounds}
-use Rattle.line.specs.Reader.{reader, seen, turnOf, outcomeAt, nextAfter, readerAnswers}
+use Rattle.line.specs.Reader.{reader, seen, turnOf, outcomeAt, nextAfter, readerOutcomes}
 use Rattle.line.specs.declared.Mode.the-variants.{Outside}
 use Rattle.line.proofs.ReaderLaws.{call-seen}
 
@@ -44,5 +44,5 @@ outside-follows bytes len h =
 
 -- Demand 3, whole: every list of calls on a new reader is answered as the reference decoder answers it, and D, W and L
 -- as the minutes say.
-pub reader-follows : Follows rowing readerAnswers
+pub reader-follows : Follows rowing readerOutcomes
 reader-follows = outside-follows zeros 0 refl

@@ -11,7 +11,7 @@ use Rattle.framing.specs.Reference.{Call, byte, finish, plain}
 use Rattle.framing.specs.Bounded.{BoundedMode, outside, inside, overlong, BoundedReader, bounded, boundedTurn}
 use Rattle.frame.specs.declared.Kind.{Kind}
 use Rattle.frame.specs.declared.Kind.the-variants.{Standard, Extended}
-use Rattle.line.specs.Outcome.{nothing, room}
+use Rattle.line.specs.Outcome.{nothing, capacity}
 use Rattle.line.specs.Rowing.{rowing, rowingBounds}
 use Rattle.line.specs.Reader.{lentReader, reader, modeSeen, modeIn, seen, readerSeen, roleStep, turnOf}
 use Rattle.line.specs.Reader.{LentStepIs}
@@ -42,18 +42,18 @@ call-seen r finish = (refl, seen-again (boundedTurn rowing rowingBounds (seen r)
 
 -- ---- a byte that is no flag
 
-by-room : (t : Bool) (kind : Kind) (bytes : List ℕ) (len b : ℕ)
+by-capacity : (t : Bool) (kind : Kind) (bytes : List ℕ) (len b : ℕ)
     → readerSeen (pick t (bounded (set bytes len b) (len + 1) (inside kind)) (bounded bytes 0 overlong))
     ≡ pick t (reader (set bytes len b) (len + 1) (modeIn (inside kind))) (reader bytes 0 Overlong)
-by-room true kind bytes len b = refl
-by-room false kind bytes len b = refl
+by-capacity true kind bytes len b = refl
+by-capacity false kind bytes len b = refl
 
 -- It is held in a candidate that may still be a frame.
 pub held-byte : (m : Mode) (bytes : List ℕ) (len b : ℕ) → isHeld m ≡ true
     → roleStep plain (reader bytes len m) b .next ≡ withByte (reader bytes len m) b
 held-byte Outside bytes len b h = absurd (false≢true h)
-held-byte InStandard bytes len b h = by-room (ltb len room) Standard bytes len b
-held-byte InExtended bytes len b h = by-room (ltb len room) Extended bytes len b
+held-byte InStandard bytes len b h = by-capacity (ltb len capacity) Standard bytes len b
+held-byte InExtended bytes len b h = by-capacity (ltb len capacity) Extended bytes len b
 held-byte Overlong bytes len b h = absurd (false≢true h)
 
 pub held-step : (bytes : List ℕ) (state : State) (b : ℕ) (left : List ℕ) (s : LentStep) (m : Mode) → isHeld m ≡ true

@@ -16,7 +16,7 @@ afterBytes r bytes = leftAfter (λ s b. stepOf s b .next) r bytes
 -- Calls on a reader that take a stream to its end, their answers, and the reader that the last one leaves. A call may
 -- be given any part of what is left of the stream, so also bytes that it does not take, all, or none.
 pub data Chunks : LineReader → List ℕ → List Verdict → LineReader → Type 0 where
-  done : {r : LineReader} → Chunks r [] [] r
+  ended : {r : LineReader} → Chunks r [] [] r
   chunk : {r last : LineReader} {rest : List Verdict} (given later : List ℕ)
       → Chunks (feedOf r given .next) (drop (feedOf r given .taken) (given ++ later)) rest last
       → Chunks r (given ++ later) (withAnswer (feedOf r given .answer) rest) last

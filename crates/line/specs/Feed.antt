@@ -27,7 +27,7 @@ pub record ChunkTurn : Type 0 where
 abbrev pub chunkTurn : Outcome → LineReader → ℕ → ChunkTurn
 chunkTurn o r n = record { answer = o; next = r; taken = n }
 
--- The same where i bytes that were not answered come first.
+-- What a chunk gives, where i bytes that were not answered come before it.
 abbrev pub laterBy : ℕ → ChunkTurn → ChunkTurn
 laterBy i f = chunkTurn (f .answer) (f .next) (i + f .taken)
 

@@ -54,11 +54,11 @@ outcomeOf silent bytes = nothing
 outcomeOf (tells a) bytes = judged (frameRead a bytes)
 
 -- The most bytes that may stand between the flags of a frame.
-abbrev pub room : ℕ
-room = 118
+abbrev pub capacity : ℕ
+capacity = 118
 
 abbrev pub zeros : List ℕ
-zeros = replicate room 0
+zeros = replicate capacity 0
 
 -- The array beside a summary, where `bytes` is the array that the reader is left with: a frame's contents are its first
 -- bytes; no contents stand beside anything else.

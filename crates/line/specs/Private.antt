@@ -6,7 +6,7 @@ use mathlib.Core.List.{List}
 use lib.Dec.{ltb}
 use lib.ListN.{length, drop, set}
 use Rattle.lists.specs.Choice.{pick}
-use Rattle.line.specs.Outcome.{room}
+use Rattle.line.specs.Outcome.{capacity}
 use Prim.Native.Nat.{ℕ, _+_, _≤_}
 use Rattle.line.specs.Feed.{laterBy, feedOf}
 use Rattle.line.specs.Reader.{reader}
@@ -18,7 +18,7 @@ use Rattle.line.specs.declared.Mode.the-variants.{Outside, InStandard, I
 -- A candidate of which bytes are held has one byte more, or is over-long where there is no room for it.
 abbrev pub withByte : LineReader → ℕ → LineReader
 withByte r b =
-    pick (ltb (r .state .len) room) (reader (set (r .bytes) (r .state .len) b) (r .state .len + 1) (r .state .mode))
+    pick (ltb (r .state .len) capacity) (reader (set (r .bytes) (r .state .len) b) (r .state .len + 1) (r .state .mode))
     (reader (r .bytes) 0 Overlong)
 
 -- Whether a reader holds the bytes of a run. It does in a candidate that may still be a frame.

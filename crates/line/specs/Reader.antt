@@ -79,8 +79,8 @@ abbrev pub nextAfter : LineReader → Call → LineReader
 nextAfter r c = turnOf r c .next
 
 -- The answers of a new reader, each call on the reader as the last one left it.
-abbrev pub readerAnswers : List Call → List Outcome
-readerAnswers calls = run outcomeAt nextAfter newReader calls
+abbrev pub readerOutcomes : List Call → List Outcome
+readerOutcomes calls = run outcomeAt nextAfter newReader calls
 
 -- ---- what a function returns
 

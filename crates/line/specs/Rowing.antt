@@ -8,7 +8,7 @@ use Rattle.frame.specs.Flags.{roleOf, kindOf}
 use Rattle.frame.specs.Verdict.{judge, verdict}
 use Rattle.frame.specs.Answers.{leftIn}
 use Rattle.frame.specs.declared.Kind.{Kind}
-use Rattle.line.specs.Outcome.{Outcome, nothing, judged, room}
+use Rattle.line.specs.Outcome.{Outcome, nothing, judged, capacity}
 
 -- A terminated candidate is judged as the slice that it is, in frame reading's order without 1.
 abbrev pub rowing : Protocol Outcome
@@ -24,7 +24,7 @@ leftBy (judged v) bytes = leftIn v bytes
 abbrev pub rowingBounds : Bounds Kind Outcome
 rowingBounds =
     record {
-      room = room;
+      capacity = capacity;
       kind = kindOf;
       judge = λ kind body. judged (judge kind body);
       left = leftBy;

@@ -6,7 +6,7 @@ use lib.Dec.{leb}
 use lib.ListN.{length, drop}
 use Rattle.lists.specs.Choice.{pick, Every}
 use Rattle.lists.specs.Machine.{leftAfter}
-use Rattle.answer.specs.Answer.{Answer, result, refused}
+use Rattle.answer.specs.Answer.{Answer, result, refused, through, andThen}
 use Rattle.answer.specs.Draft.{Draft}
 use Rattle.answer.specs.Refusals.{numberOf}
 use Rattle.command.specs.Entries.{Entry, entry, items, entryBytes, Parsed, unsound, sound, parse, nthOf, Extent}
@@ -20,16 +20,21 @@ use Rattle.reply.specs.declared.ReplyRead.the-variants.{Reply as ReadRep
 pub data Reply : Type 0 where
   reply : (toggle : Bool) (previous state : ℕ) → List Entry → Reply
 
+abbrev pub itemsOf : Reply → List Entry
+itemsOf (reply t p s es) = es
+
 -- The status that contents begin with: 4, then 8.
 unfoldable pub headIn : List ℕ → Answer StatusParts
 headIn [] = refused 4
 headIn (b ∷ s) = statusIn b
 
--- What follows the status: 7 where a count is unsound.
+-- A status and the items after it: 7 where a count is unsound.
+abbrev pub withItems : Parsed → StatusParts → Answer Reply
+withItems unsound (status t p s) = refused 7
+withItems (sound es) (status t p s) = result (reply t p s es)
+
 unfoldable pub afterStatus : Answer StatusParts → Parsed → Answer Reply
-afterStatus (refused k) p = refused k
-afterStatus (result (status t p s)) unsound = refused 7
-afterStatus (result (status t p s)) (sound es) = result (reply t p s es)
+afterStatus a p = andThen (withItems p) a
 
 -- Contents as a reply: 4, 8, 7. A wrapper's data is not looked into.
 unfoldable pub replyIn : List ℕ → Answer Reply
@@ -43,14 +48,15 @@ abbrev pub replyMeans : ReplyRead → Answer ReplyOutline
 replyMeans (ReadReply s n) = result (replyOutline (s .toggle) (s .previous) (s .state) n)
 replyMeans (Refused why) = refused (numberOf why)
 
+abbrev pub replyOutlineOf : Reply → ReplyOutline
+replyOutlineOf (reply t p s es) = replyOutline t p s (length es)
+
 unfoldable pub replyAnswer : Answer Reply → Answer ReplyOutline
-replyAnswer (result (reply t p s es)) = result (replyOutline t p s (length es))
-replyAnswer (refused k) = refused k
+replyAnswer a = through replyOutlineOf a
 
 -- The n-th item, the first of which stands at index 1: the reply's refusal, then 15.
 unfoldable pub itemOf : Answer Reply → ℕ → Answer Extent
-itemOf (result (reply t p s es)) n = nthOf items 1 es n
-itemOf (refused k) n = refused k
+itemOf a n = andThen (λ r. nthOf items 1 (itemsOf r) n) a
 
 abbrev pub nthItem : List ℕ → ℕ → Answer Extent
 nthItem s n = itemOf (replyIn s) n
@@ -70,8 +76,7 @@ withItem s b d =
 
 -- The refusal of the contents so far comes first.
 unfoldable pub afterReply : Answer Reply → Draft → Draft
-afterReply (refused k) d = refused k
-afterReply (result (reply t p s es)) d = d
+afterReply a d = andThen (λ r. d) a
 
 -- The contents so far with one item more, put last: 4, 8, 7, 2.
 unfoldable pub itemDraft : List ℕ → ℕ → List ℕ → Draft
@@ -81,8 +86,7 @@ itemDraft s b d = afterReply (replyIn s) (withItem s b d)
 
 -- One item more after a reply that was written; a refusal stays.
 abbrev pub withNext : Draft → Entry → Draft
-withNext (refused k) e = refused k
-withNext (result w) e = itemDraft w (e .byte) (e .body)
+withNext d e = andThen (λ w. itemDraft w (e .byte) (e .body)) d
 
 -- Items written one after the other, each from what the last writing gave.
 unfoldable pub writeAll : Draft → List Entry → Draft

@@ -60,7 +60,7 @@ pub fn nth_item(contents: &[u8], n: usize) -> Found
     }
 }
 
-// Its data; empty where `nth_item` refuses.
+// The data of the n-th item; empty where `nth_item` refuses.
 pub fn nth_item_data(contents: &[u8], n: usize) -> &[u8]
     ensures { λ r. ⌜ now r ≡ partOf (now (contents .entry)) (nthItem (now (contents .entry)) n) ⌝ }
 {

@@ -8,7 +8,8 @@ use lib.ListN.{length, set, length-append}
 use lib.Dec.{ltb}
 use borrow.Author.Tests.{lt-ltb, le-ltb, ltb-true, ltb-false}
 use Rattle.lists.proofs.Cases.{by-bool}
-use Rattle.text.specs.Digits.{decimalWithin, decimal, pair, hex, hexDigit}
+use Rattle.text.specs.Digits.{decimalWithin, decimal, hex, hexDigit}
+use Rattle.text.specs.Private.{pair}
 use Rattle.text.specs.Lines.{field, hexField}
 use Rattle.text.specs.Writing.{Wrote}
 use Rattle.text.proofs.Writing.{wrote-byte, wrote-pair, wrote-as, next}

@@ -9,14 +9,9 @@ abbrev pub decimalWithin : (k n : ℕ) → List ℕ
 decimalWithin zero n = []
 decimalWithin (suc k) n = pick (ltb n 10) ((48 + n) ∷ []) (decimalWithin k (n / 10) ++ ((48 + n % 10) ∷ []))
 
--- The decimal digits of a number. A number has fewer digits than its successor counts; proofs/Spelling says what they
--- spell.
+-- The decimal digits of a number n, which are at most n + 1. What they spell is said by `Spelt`.
 unfoldable pub decimal : ℕ → List ℕ
 decimal n = decimalWithin (suc n) n
-
--- The two last digits of a number below 100.
-abbrev pub pair : ℕ → List ℕ
-pair n = (48 + n / 10) ∷ (48 + n % 10) ∷ []
 
 -- A hexadecimal digit, upper case.
 abbrev pub hexDigit : ℕ → ℕ

@@ -4,3 +4,4 @@ pub mod Lines
 pub mod Strays
 pub mod Text
 pub mod Writing
+pub mod Private

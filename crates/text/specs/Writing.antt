@@ -1,7 +1,7 @@
 -- A text put into an output at an index.
 use mathlib.Core.Path.{_≡_}
 use mathlib.Core.List.{List}
-use Prim.Native.Nat.{ℕ, _+_, _-_, _≤_, _<_}
+use Prim.Native.Nat.{ℕ, _+_, _≤_, _<_}
 use lib.ListN.{length}
 use Rattle.lists.specs.Splice.{splice}
 
@@ -13,13 +13,6 @@ pub record Wrote (out : List ℕ) (at : ℕ) (w out′ : List ℕ) (end : ℕ) :
 -- The room in which every line fits, the totals as well.
 abbrev pub lineRoom : ℕ
 lineRoom = 96
-
--- The room in which a head fits, `n=` and 20 digits, and what it leaves for a body.
-abbrev pub headRoom : ℕ
-headRoom = 22
-
-abbrev pub bodyRoom : ℕ
-bodyRoom = lineRoom - headRoom
 
 -- What a public function that writes a line does: it writes where there is room for any line, and else leaves the
 -- output as it is.

@@ -2,7 +2,8 @@
 ghost use mathlib.Core.Path.{_≡_};
 ghost use Prim.Native.Nat.{_+_, _≤_, _<_};
 ghost use lib.ListN.{length};
-ghost use Rattle.text.specs.Digits.{decimal, pair, hex, hexDigit};
+ghost use Rattle.text.specs.Digits.{decimal, hex, hexDigit};
+ghost use Rattle.text.specs.Private.{pair};
 ghost use Rattle.text.specs.Writing.{Wrote};
 
 // The digits before the last two are those of a hundredth, so nothing is written twice and no array is needed.

@@ -13,7 +13,8 @@ ghost use Rattle.line.specs.Outcome.{toldMeans, outcomeOf};
 ghost use Rattle.text.specs.Digits.{hex};
 ghost use Rattle.text.specs.Lines.{field, hexField, stopText, head, callLine, totals, refusedBody, standardBody};
 ghost use Rattle.text.specs.Lines.{extendedBody};
-ghost use Rattle.text.specs.Writing.{Wrote, lineRoom, headRoom, bodyRoom, Puts};
+ghost use Rattle.text.specs.Writing.{Wrote, lineRoom, Puts};
+ghost use Rattle.text.specs.Private.{headRoom, bodyRoom};
 
 // The room that any line fits in. A line is written only where there is so much, so no line has to be measured first.
 pub const LINE_ROOM: usize = 96;
@@ -41,7 +42,7 @@ pub fn put_answer(told: Told, contents: &[u8], n: u64, out: &mut [u8], at: usize
     put_told(told, contents, n, out, at)
 }
 
-// Writes the totals in the same way.
+// Writes the totals at an index where there is room for any line, and else nothing.
 pub fn put_totals(frames: u64, refusals: u64, strays: u64, out: &mut [u8], at: usize) -> usize
     ensures { λ r. ⌜ Puts (now (out .entry)) at (totals frames refusals strays) (now (out .exit)) r ⌝ }
 {

@@ -17,7 +17,8 @@ use Rattle.text.specs.Lines.{callLine, totals}
 use Rattle.text.specs.Text.{frameOne, refusedOne}
 use Rattle.text.specs.Writing.{Wrote}
 use Rattle.text.proofs.Writing.{wrote-as, wrote-first, next}
-use Rattle.trace.specs.Machine.{frameCount, refusedCount, add64, numberAfter, lastRoom, lastText, Ends}
+use Rattle.trace.specs.Machine.{add64, numberAfter, lastRoom, lastText, Ends}
+use Rattle.trace.specs.Private.{frameCount, refusedCount}
 use Rattle.trace.specs.declared.Listing.{Listing}
 
 -- ---- what an answer without its contents tells
@@ -46,26 +47,27 @@ pub ends-short : (s : Listing) (out : List ℕ) → length out < lastRoom → En
 ends-short s out h = record { short = λ g. (refl, refl); whole = λ g. absurd (omega arith); fits = omega arith }
 
 pub ends-whole : (s : Listing) (m : LentStep) (n x y fc rc : ℕ) {out out₁ out₂ : List ℕ} {a e : ℕ}
-    → LentStepIs (s .reader .bytes) m (finishOf (s .reader)) → n ≡ numberAfter (s .frames) (s .refused)
-    → x ≡ add64 (s .frames) fc → fc ≡ frameCount (toldMeans (m .told)) → y ≡ add64 (s .refused) rc
+    → LentStepIs (s .reader .bytes) m (finishOf (s .reader)) → n ≡ numberAfter (s .frames) (s .refusals)
+    → x ≡ add64 (s .frames) fc → fc ≡ frameCount (toldMeans (m .told)) → y ≡ add64 (s .refusals) rc
     → rc ≡ refusedCount (toldMeans (m .told))
     → Wrote out 0 (callLine n (outcomeOf (toldMeans (m .told)) (s .reader .bytes))) out₁ a
-    → Wrote out₁ a (totals x y (s .stray)) out₂ e → a ≤ length out → e ≤ length out → lastRoom ≤ length out
+    → Wrote out₁ a (totals x y (s .strays)) out₂ e → a ≤ length out → e ≤ length out → lastRoom ≤ length out
     → Ends s out out₂ e
 unfolding lastText
 ends-whole s m n x y fc rc g en ex efc ey erc p q h fit room =
     let o : Outcome = finishOf (s .reader) .answer in
     let l : callLine n (outcomeOf (toldMeans (m .told)) (s .reader .bytes))
-    ≡ callLine (numberAfter (s .frames) (s .refused)) o =
+    ≡ callLine (numberAfter (s .frames) (s .refusals)) o =
     ap (λ (k : ℕ). callLine k (outcomeOf (toldMeans (m .told)) (s .reader .bytes))) en
-    ∙ ap (callLine (numberAfter (s .frames) (s .refused))) (lent-outcome (s .reader .bytes) m (s .reader) finish g) in
+    ∙ ap (callLine (numberAfter (s .frames) (s .refusals))) (lent-outcome (s .reader .bytes) m (s .reader) finish g) in
     let f : x ≡ add64 (s .frames) (frameOne o) =
     ex ∙ ap (add64 (s .frames)) (efc ∙ ap frameCount (g .told-is) ∙ frame-count o) in
-    let r : y ≡ add64 (s .refused) (refusedOne o) =
-    ey ∙ ap (add64 (s .refused)) (erc ∙ ap refusedCount (g .told-is) ∙ refused-count o) in
-    let t : totals x y (s .stray)
-    ≡ totals (add64 (s .frames) (frameOne o)) (add64 (s .refused) (refusedOne o)) (s .stray) =
-    ap (λ (k : ℕ). totals k y (s .stray)) f ∙ ap (λ (k : ℕ). totals (add64 (s .frames) (frameOne o)) k (s .stray)) r in
+    let r : y ≡ add64 (s .refusals) (refusedOne o) =
+    ey ∙ ap (add64 (s .refusals)) (erc ∙ ap refusedCount (g .told-is) ∙ refused-count o) in
+    let t : totals x y (s .strays)
+    ≡ totals (add64 (s .frames) (frameOne o)) (add64 (s .refusals) (refusedOne o)) (s .strays) =
+    ap (λ (k : ℕ). totals k y (s .strays)) f
+    ∙ ap (λ (k : ℕ). totals (add64 (s .frames) (frameOne o)) k (s .strays)) r in
     record {
       short = λ k. absurd (omega arith);
       whole = λ k. wrote-first (next (wrote-as l p) (wrote-as t q) h);

@@ -9,7 +9,7 @@ use denote.Ref.{RefT}
 use Rattle.text.specs.Text.{text}
 use Rattle.text.specs.Writing.{lineRoom}
 use Rattle.trace.specs.Machine.{lastRoom}
-use Rattle.trace.specs.Cutting.{Calls, none, call, longest}
+use Rattle.trace.specs.Cutting.{Calls, ended, call, longest}
 use Rattle.trace.specs.declared.Listing.{Listing}
 use Rattle.trace.specs.declared.Listed.{Listed}
 use Rattle.trace.proofs.Cuttings.{writes-text, takes-some}
@@ -20,7 +20,7 @@ use Rattle.trace.proofs.finish.Reads as finish-reads
 -- Calls of `list` in a row, each on the state that the last one left, lent a chunk at the front of the bytes that are
 -- left and any output.
 pub data ListCalls : Listing → (bytes written : List ℕ) → Listing → Type 0 where
-  stopped : {s : Listing} → ListCalls s [] [] s
+  ended-lent : {s : Listing} → ListCalls s [] [] s
   listed : {s s′ : Listing} {written : List ℕ} (κs : Lfts 2) (chunk chunk′ out out′ : RefT (List ℕ)) (rest : List ℕ)
       (r : Listed)
       → list-reads.Learnt κs (s, (chunk, (out, tt))) r (s, (chunk′, (out′, tt)))
@@ -28,7 +28,7 @@ pub data ListCalls : Listing → (bytes written : List ℕ) → Listing → Type
       → ListCalls s (chunk .now ++ rest) (take (r .wrote) (out′ .now) ++ written) s′
 
 ran : {s s′ : Listing} {bytes written : List ℕ} → ListCalls s bytes written s′ → Calls s bytes written s′
-ran stopped = none
+ran ended-lent = ended
 ran (listed κs chunk chunk′ out out′ rest r l t) = call (chunk .now) rest (out .now) (out′ .now) r l (ran t)
 
 -- `new`, calls of `list` over the whole trace, and a `finish` with room.

@@ -55,16 +55,17 @@ inside-open : (kind : Kind) → isOpen (modeIn (inside kind)) ≡ true
 inside-open Standard = refl
 inside-open Extended = refl
 
-by-room : (t : Bool) (kind : Kind) (full more : BoundedReader Kind) → full .mode ≡ overlong → more .mode ≡ inside kind
+by-capacity : (t : Bool) (kind : Kind) (full more : BoundedReader Kind) → full .mode ≡ overlong
+    → more .mode ≡ inside kind
     → isOpen (modeIn (pick t more full .mode)) ≡ true
-by-room true kind full more e f = ap (λ (m : BoundedMode Kind). isOpen (modeIn m)) f ∙ inside-open kind
-by-room false kind full more e f = ap (λ (m : BoundedMode Kind). isOpen (modeIn m)) e
+by-capacity true kind full more e f = ap (λ (m : BoundedMode Kind). isOpen (modeIn m)) f ∙ inside-open kind
+by-capacity false kind full more e f = ap (λ (m : BoundedMode Kind). isOpen (modeIn m)) e
 
 grown-open : (m : Mode) (bytes : List ℕ) (len b : ℕ)
     → isOpen (modeIn (grownIn rowing rowingBounds (modeSeen m) bytes len b .mode)) ≡ isOpen m
 grown-open Outside bytes len b = refl
-grown-open InStandard bytes len b = by-room (ltb len 118) Standard _ _ refl refl
-grown-open InExtended bytes len b = by-room (ltb len 118) Extended _ _ refl refl
+grown-open InStandard bytes len b = by-capacity (ltb len 118) Standard _ _ refl refl
+grown-open InExtended bytes len b = by-capacity (ltb len 118) Extended _ _ refl refl
 grown-open Overlong bytes len b = refl
 
 open-at : (r : LineReader) (b : ℕ) (ρ : Role)
@@ -119,23 +120,24 @@ same-last : (a : Outcome) (n n′ x x′ y y′ z z′ : ℕ) → n ≡ n′ →
     → callLine n a ++ totals x y z ≡ callLine n′ a ++ totals x′ y′ z′
 same-last a n n′ x x′ y y′ z z′ p q u v = rw (p, q, u, v)
 
-last-is : (s : Listing) → s .frames + s .refused + 1 < 2 ^ 64 → s .stray < 2 ^ 64
-    → lastText s ≡ Rest (s .frames) (s .refused) (s .stray) (isOpen (s .reader .state .mode))
+last-is : (s : Listing) → s .frames + s .refusals + 1 < 2 ^ 64 → s .strays < 2 ^ 64
+    → lastText s ≡ Rest (s .frames) (s .refusals) (s .strays) (isOpen (s .reader .state .mode))
     (outcomesFrom (s .reader) []) []
 unfolding lastText
 last-is s h g =
     let a : Outcome = finishOf (s .reader) .answer in
     let k = one-answer a in
-    same-last a _ (s .frames + s .refused + 1) _ (s .frames + frameOne a) _ (s .refused + refusedOne a) _ (s .stray + 0)
-    (number-is (s .frames) (s .refused) h)
+    same-last a _ (s .frames + s .refusals + 1) _ (s .frames + frameOne a) _ (s .refusals + refusedOne a) _
+    (s .strays + 0)
+    (number-is (s .frames) (s .refusals) h)
     (add64-is (s .frames) (frameOne a) (omega arith))
-    (add64-is (s .refused) (refusedOne a) (omega arith))
+    (add64-is (s .refusals) (refusedOne a) (omega arith))
     (omega arith)
-    ∙ ap (λ (l : List ℕ). l ++ totals (s .frames + frameOne a) (s .refused + refusedOne a) (s .stray + 0))
-    (sym (append-nil (callLine (s .frames + s .refused + 1) a)) ∙ lines-more (s .frames + s .refused) a [])
+    ∙ ap (λ (l : List ℕ). l ++ totals (s .frames + frameOne a) (s .refusals + refusedOne a) (s .strays + 0))
+    (sym (append-nil (callLine (s .frames + s .refusals + 1) a)) ∙ lines-more (s .frames + s .refusals) a [])
 
 -- a byte
-module _ (s : Listing) (b : ℕ) (h : s .frames + s .refused + 1 < 2 ^ 64) (g : s .stray + 1 < 2 ^ 64) where
+module _ (s : Listing) (b : ℕ) (h : s .frames + s .refusals + 1 < 2 ^ 64) (g : s .strays + 1 < 2 ^ 64) where
   answer : Outcome
   answer = stepOf (s .reader) b .answer
 
@@ -145,39 +147,40 @@ module _ (s : Listing) (b : ℕ) (h : s .frames + s .refused + 1 < 2 ^ 64) (g : 
       let a = stepOf (s .reader) b .answer in
       let k = one-answer a in add64-is (s .frames) (frameOne a) (omega arith)
 
-  next-refused : nextOf s b .refused ≡ s .refused + refusedOne answer
+  next-refused : nextOf s b .refusals ≡ s .refusals + refusedOne answer
   unfolding nextOf answer
   next-refused =
       let a = stepOf (s .reader) b .answer in
-      let k = one-answer a in add64-is (s .refused) (refusedOne a) (omega arith)
+      let k = one-answer a in add64-is (s .refusals) (refusedOne a) (omega arith)
 
-  next-stray : nextOf s b .stray ≡ s .stray + strayAt (roleOf b) (isOpen (s .reader .state .mode))
+  next-stray : nextOf s b .strays ≡ s .strays + strayAt (roleOf b) (isOpen (s .reader .state .mode))
   unfolding nextOf
   next-stray =
       let k = one-stray (roleOf b) (isOpen (s .reader .state .mode)) in
-      add64-is (s .stray) (strayAt (roleOf b) (isOpen (s .reader .state .mode))) (omega arith)
+      add64-is (s .strays) (strayAt (roleOf b) (isOpen (s .reader .state .mode))) (omega arith)
 
   next-open : isOpen (nextOf s b .reader .state .mode) ≡ openAfter (roleOf b) (isOpen (s .reader .state .mode))
   unfolding nextOf
   next-open = open-is (s .reader) b
 
-  text-line : textOf s b ≡ callLine (s .frames + s .refused + 1) answer
+  text-line : textOf s b ≡ callLine (s .frames + s .refusals + 1) answer
   unfolding textOf answer
-  text-line = ap (λ (k : ℕ). callLine k (stepOf (s .reader) b .answer)) (number-is (s .frames) (s .refused) h)
+  text-line = ap (λ (k : ℕ). callLine k (stepOf (s .reader) b .answer)) (number-is (s .frames) (s .refusals) h)
 
   outcomes-next : (bytes : List ℕ)
       → outcomesFrom (s .reader) (b ∷ bytes) ≡ answer ∷ outcomesFrom (nextOf s b .reader) bytes
   unfolding nextOf answer
   outcomes-next bytes = refl
 
-pub all-text : (s : Listing) (bytes : List ℕ) → s .frames + s .refused + length bytes + 1 < 2 ^ 64
-    → s .stray + length bytes < 2 ^ 64
+pub all-text : (s : Listing) (bytes : List ℕ) → s .frames + s .refusals + length bytes + 1 < 2 ^ 64
+    → s .strays + length bytes < 2 ^ 64
     → texts s bytes ++ lastText (listingAfter s bytes)
-    ≡ Rest (s .frames) (s .refused) (s .stray) (isOpen (s .reader .state .mode)) (outcomesFrom (s .reader) bytes) bytes
+    ≡ Rest (s .frames) (s .refusals) (s .strays) (isOpen (s .reader .state .mode))
+    (outcomesFrom (s .reader) bytes) bytes
 all-text s [] h g = last-is s (omega arith) (omega arith)
 all-text s (b ∷ bytes) h g =
-    let h₁ : s .frames + s .refused + 1 < 2 ^ 64 = omega arith in
-    let g₁ : s .stray + 1 < 2 ^ 64 = omega arith in
+    let h₁ : s .frames + s .refusals + 1 < 2 ^ 64 = omega arith in
+    let g₁ : s .strays + 1 < 2 ^ 64 = omega arith in
     let a : Outcome = answer s b h₁ g₁ in
     let n : Listing = nextOf s b in
     let o : Bool = isOpen (s .reader .state .mode) in
@@ -187,14 +190,14 @@ all-text s (b ∷ bytes) h g =
     let k = one-answer a in
     let u = one-stray (roleOf b) o in
     let os : List Outcome = outcomesFrom (n .reader) bytes in
-    let rest : List ℕ = Rest (s .frames + frameOne a) (s .refused + refusedOne a) (s .stray + strayAt (roleOf b) o)
+    let rest : List ℕ = Rest (s .frames + frameOne a) (s .refusals + refusedOne a) (s .strays + strayAt (roleOf b) o)
     (openAfter (roleOf b) o) os bytes in
     let ih : texts n bytes ++ lastText (listingAfter n bytes)
-    ≡ Rest (n .frames) (n .refused) (n .stray) (isOpen (n .reader .state .mode)) os bytes =
+    ≡ Rest (n .frames) (n .refusals) (n .strays) (isOpen (n .reader .state .mode)) os bytes =
     all-text n bytes (omega arith) (omega arith) in
     append-assoc (textOf s b) (texts n bytes) (lastText (listingAfter n bytes))
     ∙ ap (λ (l : List ℕ). textOf s b ++ l) (ih ∙ same-rest _ _ _ _ _ _ _ _ os bytes F R S (next-open s b h₁ g₁))
     ∙ ap (λ (l : List ℕ). l ++ rest) (text-line s b h₁ g₁)
-    ∙ rest-step (s .frames) (s .refused) (s .stray) o b a os bytes
-    ∙ ap (λ (l : List Outcome). Rest (s .frames) (s .refused) (s .stray) o l (b ∷ bytes))
+    ∙ rest-step (s .frames) (s .refusals) (s .strays) o b a os bytes
+    ∙ ap (λ (l : List Outcome). Rest (s .frames) (s .refusals) (s .strays) o l (b ∷ bytes))
     (sym (outcomes-next s b h₁ g₁ bytes))

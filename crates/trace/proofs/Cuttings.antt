@@ -19,7 +19,7 @@ use Rattle.text.specs.Strays.{strays}
 use Rattle.text.specs.Text.{frames, refusals, lines, text}
 use Rattle.text.specs.Writing.{lineRoom}
 use Rattle.trace.specs.Machine.{newListing, nextOf, textOf, listingAfter, texts, takenOf, lastText, Lists}
-use Rattle.trace.specs.Cutting.{Calls, none, call, longest, WritesText, TakesSome}
+use Rattle.trace.specs.Cutting.{Calls, ended, call, longest, WritesText, TakesSome}
 use Rattle.trace.specs.declared.Listing.{Listing}
 use Rattle.trace.specs.declared.Listed.{Listed}
 use Rattle.trace.proofs.ChunkLaws.{after-append, texts-append}
@@ -49,7 +49,7 @@ one-call s chunk rest out out′ r l =
 
 calls-texts : {s s′ : Listing} {bytes written : List ℕ} → Calls s bytes written s′
     → (written ≡ texts s bytes) × (s′ ≡ listingAfter s bytes)
-calls-texts none = (refl, refl)
+calls-texts ended = (refl, refl)
 calls-texts (call {s = s} chunk rest out out′ r l t) =
     let k : (take (r .wrote) out′ ++ texts (r .next) (drop (r .taken) chunk ++ rest) ≡ texts s (chunk ++ rest))
     × (listingAfter (r .next) (drop (r .taken) chunk ++ rest) ≡ listingAfter s (chunk ++ rest)) =

@@ -21,15 +21,14 @@ use Rattle.text.specs.Strays.{strayAt, strays}
 use Rattle.text.specs.Text.{frameOne, refusedOne}
 use Rattle.text.specs.Writing.{Wrote, lineRoom}
 use Rattle.text.proofs.Writing.{wrote-as}
-use Rattle.trace.specs.Private.{Leads, Advances, strayCount, listing}
-use Rattle.trace.specs.Machine.{frameCount, refusedCount, isOpen, add64, numberAfter, nextOf, textOf, texts}
+use Rattle.trace.specs.Private.{Leads, Advances, strayCount, listing, frameCount, refusedCount}
+use Rattle.trace.specs.Machine.{isOpen, add64, numberAfter, nextOf, textOf, texts}
 use Rattle.trace.specs.Machine.{takenOf}
 use Rattle.trace.specs.declared.Listing.{Listing}
 use Rattle.trace.specs.declared.Tally.{Tally}
 use Rattle.trace.proofs.AnswerLaws.{frame-count, refused-count, add-none}
 use Rattle.trace.proofs.Counts.{open-is}
 use Rattle.trace.proofs.StrayLaws.{stray-count-is}
-use Rattle.answer.specs.Answer.{refused}
 
 -- ---- no byte, one byte, and one without a line before others
 
@@ -77,7 +76,7 @@ lead-on s b bytes n s′ w e l =
 
 -- The counts are of 64 bits.
 abbrev pub CountsFit : Listing → Type 0
-CountsFit s = (s .frames < 2 ^ 64) × (s .refused < 2 ^ 64) × (s .stray < 2 ^ 64)
+CountsFit s = (s .frames < 2 ^ 64) × (s .refusals < 2 ^ 64) × (s .strays < 2 ^ 64)
 
 -- The state after an answer and so many stray bytes, with the reader left.
 abbrev counting : Listing → Outcome → LineReader → ℕ → Listing
@@ -85,8 +84,8 @@ counting s o r n =
     record {
       reader = r;
       frames = add64 (s .frames) (frameOne o);
-      refused = add64 (s .refused) (refusedOne o);
-      stray = add64 (s .stray) n;
+      refusals = add64 (s .refusals) (refusedOne o);
+      strays = add64 (s .strays) n;
     }
 
 -- The first bytes, as many as are fed, take a state to the one that the answer gives, and their text is its line.
@@ -94,7 +93,7 @@ abbrev LeadsTo : Listing → List ℕ → ChunkTurn → Type 0
 LeadsTo s bytes f =
     Leads s bytes (f .taken)
     (counting s (f .answer) (f .next) (strays (isOpen (s .reader .state .mode)) (take (f .taken) bytes)))
-    (callLine (numberAfter (s .frames) (s .refused)) (f .answer))
+    (callLine (numberAfter (s .frames) (s .refusals)) (f .answer))
 
 unanswered : (o : Outcome) → isAnswer o ≡ false → o ≡ nothing
 unanswered nothing e = refl
@@ -105,8 +104,8 @@ counting-none s h =
     λ i. record {
       reader = s .reader;
       frames = add-none (s .frames) (h .0) i;
-      refused = add-none (s .refused) (h .1) i;
-      stray = add-none (s .stray) (h .2) i;
+      refusals = add-none (s .refusals) (h .1) i;
+      strays = add-none (s .strays) (h .2) i;
     }
 
 -- the state after a byte that is not answered
@@ -115,8 +114,8 @@ quiet s b =
     record {
       reader = stepOf (s .reader) b .next;
       frames = s .frames;
-      refused = s .refused;
-      stray = add64 (s .stray) (strayAt (roleOf b) (isOpen (s .reader .state .mode)));
+      refusals = s .refusals;
+      strays = add64 (s .strays) (strayAt (roleOf b) (isOpen (s .reader .state .mode)));
     }
 
 quiet-next : (s : Listing) (b : ℕ) → CountsFit s → stepOf (s .reader) b .answer ≡ nothing → quiet s b ≡ nextOf s b
@@ -124,18 +123,18 @@ unfolding nextOf
 quiet-next s b h e =
     let f : s .frames ≡ add64 (s .frames) (frameOne (stepOf (s .reader) b .answer)) =
     add-none (s .frames) (h .0) ∙ ap (λ (o : Outcome). add64 (s .frames) (frameOne o)) (sym e) in
-    let r : s .refused ≡ add64 (s .refused) (refusedOne (stepOf (s .reader) b .answer)) =
-    add-none (s .refused) (h .1) ∙ ap (λ (o : Outcome). add64 (s .refused) (refusedOne o)) (sym e) in
+    let r : s .refusals ≡ add64 (s .refusals) (refusedOne (stepOf (s .reader) b .answer)) =
+    add-none (s .refusals) (h .1) ∙ ap (λ (o : Outcome). add64 (s .refusals) (refusedOne o)) (sym e) in
     λ i. record {
       reader = stepOf (s .reader) b .next;
       frames = f i;
-      refused = r i;
-      stray = add64 (s .stray) (strayAt (roleOf b) (isOpen (s .reader .state .mode)));
+      refusals = r i;
+      strays = add64 (s .strays) (strayAt (roleOf b) (isOpen (s .reader .state .mode)));
     }
 
 quiet-text : (s : Listing) (b : ℕ) → stepOf (s .reader) b .answer ≡ nothing → textOf s b ≡ []
 unfolding textOf
-quiet-text s b e = ap (callLine (numberAfter (s .frames) (s .refused))) e
+quiet-text s b e = ap (callLine (numberAfter (s .frames) (s .refusals))) e
 
 add64-add64 : (a b c : ℕ) → add64 (add64 a b) c ≡ add64 a (b + c)
 add64-add64 a b c = omega arith
@@ -147,26 +146,26 @@ first-leads : (s : Listing) (b : ℕ) (bytes : List ℕ) (f : ChunkTurn) (q : Bo
 unfolding nextOf textOf
 first-leads s b bytes f true h e l =
     subst (λ (n : ℕ). Leads s (b ∷ bytes) 1 (counting s (stepOf (s .reader) b .answer) (stepOf (s .reader) b .next) n)
-    (callLine (numberAfter (s .frames) (s .refused)) (stepOf (s .reader) b .answer)))
+    (callLine (numberAfter (s .frames) (s .refusals)) (stepOf (s .reader) b .answer)))
     (sym (add-zero (strayAt (roleOf b) (isOpen (s .reader .state .mode))))) (lead-one s b bytes)
 first-leads s b bytes f false h e l =
     let u : Listing = quiet s b in
     let o : Bool = isOpen (s .reader .state .mode) in
     let a : stepOf (s .reader) b .answer ≡ nothing = unanswered (stepOf (s .reader) b .answer) e in
     let m : 1 + f .taken ≡ suc (f .taken) = omega arith in
-    let z : add64 (u .stray) (strays (isOpen (u .reader .state .mode)) (take (f .taken) bytes))
-    ≡ add64 (s .stray) (strays o (take (1 + f .taken) (b ∷ bytes))) =
-    add64-add64 (s .stray) (strayAt (roleOf b) o) (strays (isOpen (u .reader .state .mode)) (take (f .taken) bytes))
-    ∙ ap (λ (t : Bool). add64 (s .stray) (strayAt (roleOf b) o + strays t (take (f .taken) bytes)))
+    let z : add64 (u .strays) (strays (isOpen (u .reader .state .mode)) (take (f .taken) bytes))
+    ≡ add64 (s .strays) (strays o (take (1 + f .taken) (b ∷ bytes))) =
+    add64-add64 (s .strays) (strayAt (roleOf b) o) (strays (isOpen (u .reader .state .mode)) (take (f .taken) bytes))
+    ∙ ap (λ (t : Bool). add64 (s .strays) (strayAt (roleOf b) o + strays t (take (f .taken) bytes)))
     (open-is (s .reader) b)
-    ∙ ap (λ (n : ℕ). add64 (s .stray) (strays o (take n (b ∷ bytes)))) (sym m) in
-    let w : List ℕ = callLine (numberAfter (s .frames) (s .refused)) (f .answer) in
+    ∙ ap (λ (n : ℕ). add64 (s .strays) (strays o (take n (b ∷ bytes)))) (sym m) in
+    let w : List ℕ = callLine (numberAfter (s .frames) (s .refusals)) (f .answer) in
     subst (λ (n : ℕ). Leads s (b ∷ bytes) (1 + f .taken)
     (record {
       reader = f .next;
       frames = add64 (s .frames) (frameOne (f .answer));
-      refused = add64 (s .refused) (refusedOne (f .answer));
-      stray = n;
+      refusals = add64 (s .refusals) (refusedOne (f .answer));
+      strays = n;
     }) w) z
     (lead-on s b bytes (f .taken) _ w (quiet-text s b a)
     (subst (λ (x : Listing). Leads x bytes (f .taken)
@@ -197,14 +196,14 @@ module _ (bytes₀ : List ℕ) (t : Tally) (rest bytes : List ℕ) (f : ChunkSte
   pub fed-fits : f .taken ≤ length rest
   fed-fits = omega (arith, g .taken-is, feed-leads (listing bytes₀ t) rest h .fits)
 
-  pub advances : (n x y z fc rc sc : ℕ) → n ≡ numberAfter (t .frames) (t .refused) → x ≡ add64 (t .frames) fc
+  pub advances : (n x y z fc rc sc : ℕ) → n ≡ numberAfter (t .frames) (t .refusals) → x ≡ add64 (t .frames) fc
       → fc ≡ frameCount (toldMeans (f .told))
-      → y ≡ add64 (t .refused) rc → rc ≡ refusedCount (toldMeans (f .told)) → z ≡ add64 (t .stray) sc
+      → y ≡ add64 (t .refusals) rc → rc ≡ refusedCount (toldMeans (f .told)) → z ≡ add64 (t .strays) sc
       → sc ≡ strayCount (isOpen (t .state .mode)) (take (f .taken) rest)
       → {out out′ : List ℕ} {at end : ℕ} → Wrote out at (callLine n (outcomeOf (toldMeans (f .told)) bytes)) out′ end
       → end ≤ at + lineRoom
       → Advances (listing bytes₀ t) rest bytes out at out′
-      (record { taken = f .taken; at = end; tally = record { state = f .state; frames = x; refused = y; stray = z } })
+      (record { taken = f .taken; at = end; tally = record { state = f .state; frames = x; refusals = y; strays = z } })
   advances n x y z fc rc sc en ex efc ey erc ez esc p k =
       let s : Listing = listing bytes₀ t in
       let d : ChunkTurn = feedOf (s .reader) rest in
@@ -212,25 +211,25 @@ module _ (bytes₀ : List ℕ) (t : Tally) (rest bytes : List ℕ) (f : ChunkSte
       let l : LeadsTo s rest d = feed-leads s rest h in
       let fr : add64 (t .frames) (frameOne o) ≡ x =
       sym (ex ∙ ap (add64 (t .frames)) (efc ∙ ap frameCount (g .told-is) ∙ frame-count o)) in
-      let re : add64 (t .refused) (refusedOne o) ≡ y =
-      sym (ey ∙ ap (add64 (t .refused)) (erc ∙ ap refusedCount (g .told-is) ∙ refused-count o)) in
-      let st : add64 (t .stray) (strays (isOpen (t .state .mode)) (take (d .taken) rest)) ≡ z =
-      sym (ez ∙ ap (add64 (t .stray))
+      let re : add64 (t .refusals) (refusedOne o) ≡ y =
+      sym (ey ∙ ap (add64 (t .refusals)) (erc ∙ ap refusedCount (g .told-is) ∙ refused-count o)) in
+      let st : add64 (t .strays) (strays (isOpen (t .state .mode)) (take (d .taken) rest)) ≡ z =
+      sym (ez ∙ ap (add64 (t .strays))
       (esc ∙ ap (λ (i : ℕ). strayCount (isOpen (t .state .mode)) (take i rest)) (g .taken-is)
       ∙ sym (stray-count-is (s .reader) rest))) in
       let next : counting s o (d .next) (strays (isOpen (t .state .mode)) (take (d .taken) rest))
-      ≡ listing bytes (record { state = f .state; frames = x; refused = y; stray = z }) =
-      (λ i. record { reader = sym (g .next-is) i; frames = fr i; refused = re i; stray = st i }) in
-      let w : List ℕ = callLine (numberAfter (t .frames) (t .refused)) o in
+      ≡ listing bytes (record { state = f .state; frames = x; refusals = y; strays = z }) =
+      (λ i. record { reader = sym (g .next-is) i; frames = fr i; refusals = re i; strays = st i }) in
+      let w : List ℕ = callLine (numberAfter (t .frames) (t .refusals)) o in
       record {
         text = w;
         leads =
             subst (λ (i : ℕ). Leads s rest i
-            (listing bytes (record { state = f .state; frames = x; refused = y; stray = z })) w) (sym (g .taken-is))
+            (listing bytes (record { state = f .state; frames = x; refusals = y; strays = z })) w) (sym (g .taken-is))
             (subst (λ (u : Listing). Leads s rest (d .taken) u w) next l);
         some = λ e. omega (arith, g .taken-is, feed-some (s .reader) rest e);
         wrote =
             wrote-as (ap (λ (i : ℕ). callLine i (outcomeOf (toldMeans (f .told)) bytes)) en
-            ∙ ap (callLine (numberAfter (t .frames) (t .refused))) (feeds-outcome bytes f (s .reader) rest g)) p;
+            ∙ ap (callLine (numberAfter (t .frames) (t .refusals))) (feeds-outcome bytes f (s .reader) rest g)) p;
         within = k;
       }

@@ -13,7 +13,7 @@ use Rattle.trace.specs.declared.Listed.{Listed}
 -- write, and the state left. Each call is lent a chunk at the front of those bytes and any output, and the next goes on
 -- after the last byte taken.
 pub data Calls : Listing → (bytes written : List ℕ) → Listing → Type 0 where
-  none : {s : Listing} → Calls s [] [] s
+  ended : {s : Listing} → Calls s [] [] s
   call : {s s′ : Listing} {written : List ℕ} (chunk rest out out′ : List ℕ) (r : Listed) → Lists s chunk out out′ r
       → Calls (r .next) (drop (r .taken) chunk ++ rest) written s′
       → Calls s (chunk ++ rest) (take (r .wrote) out′ ++ written) s′

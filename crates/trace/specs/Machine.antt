@@ -6,9 +6,7 @@ use Prim.Native.Nat.{ℕ, _+_, _-_, _*_, _%_, _^_, _<_, _≤_}
 use lib.ListN.{length, take, drop}
 use lib.Dec.{ltb}
 use Rattle.lists.specs.Choice.{pick}
-use Rattle.frame.specs.Answers.{standardOutline, extendedOutline}
-use Rattle.answer.specs.Answer.{result, refused}
-use Rattle.line.specs.Outcome.{Summary, silent, tells}
+use Rattle.lists.specs.Machine.{leftAfter}
 use Rattle.line.specs.Reader.{newReader, stepOf, finishOf}
 use Rattle.frame.specs.Flags.{roleOf}
 use Rattle.line.specs.declared.Mode.{Mode}
@@ -19,21 +17,6 @@ use Rattle.text.specs.Text.{frameOne, refusedOne}
 use Rattle.text.specs.Writing.{lineRoom}
 use Rattle.trace.specs.declared.Listing.{Listing}
 use Rattle.trace.specs.declared.Listed.{Listed}
-
--- ---- what an answer and a mode tell
-
--- 1 for a frame, and 1 for a refusal.
-abbrev pub frameCount : Summary → ℕ
-frameCount silent = 0
-frameCount (tells (result (standardOutline len))) = 1
-frameCount (tells (result (extendedOutline to from len))) = 1
-frameCount (tells (refused number)) = 0
-
-abbrev pub refusedCount : Summary → ℕ
-refusedCount silent = 0
-refusedCount (tells (result (standardOutline len))) = 0
-refusedCount (tells (result (extendedOutline to from len))) = 0
-refusedCount (tells (refused number)) = 1
 
 -- Whether a candidate is open.
 abbrev pub isOpen : Mode → Bool
@@ -49,7 +32,7 @@ abbrev pub add64 : ℕ → ℕ → ℕ
 add64 a b = (a + b) % 2 ^ 64
 
 abbrev pub newListing : Listing
-newListing = record { reader = newReader; frames = 0; refused = 0; stray = 0 }
+newListing = record { reader = newReader; frames = 0; refusals = 0; strays = 0 }
 
 -- The number of the next answer.
 abbrev pub numberAfter : (frames refusals : ℕ) → ℕ
@@ -60,19 +43,18 @@ unfoldable pub nextOf : Listing → ℕ → Listing
 nextOf s b = record {
   reader = stepOf (s .reader) b .next;
   frames = add64 (s .frames) (frameOne (stepOf (s .reader) b .answer));
-  refused = add64 (s .refused) (refusedOne (stepOf (s .reader) b .answer));
-  stray = add64 (s .stray) (strayAt (roleOf b) (isOpen (s .reader .state .mode)));
+  refusals = add64 (s .refusals) (refusedOne (stepOf (s .reader) b .answer));
+  strays = add64 (s .strays) (strayAt (roleOf b) (isOpen (s .reader .state .mode)));
 }
 
 -- The line of its answer.
 unfoldable pub textOf : Listing → ℕ → List ℕ
-textOf s b = callLine (numberAfter (s .frames) (s .refused)) (stepOf (s .reader) b .answer)
+textOf s b = callLine (numberAfter (s .frames) (s .refusals)) (stepOf (s .reader) b .answer)
 
 -- ---- bytes one after the other
 
 abbrev pub listingAfter : Listing → List ℕ → Listing
-listingAfter s [] = s
-listingAfter s (b ∷ bytes) = listingAfter (nextOf s b) bytes
+listingAfter s bytes = leftAfter nextOf s bytes
 
 abbrev pub texts : Listing → List ℕ → List ℕ
 texts s [] = []
@@ -102,11 +84,11 @@ lastRoom = 2 * lineRoom
 -- The text after the last byte.
 unfoldable pub lastText : Listing → List ℕ
 lastText s =
-    callLine (numberAfter (s .frames) (s .refused)) (finishOf (s .reader) .answer)
+    callLine (numberAfter (s .frames) (s .refusals)) (finishOf (s .reader) .answer)
     ++ totals
     (add64 (s .frames) (frameOne (finishOf (s .reader) .answer)))
-    (add64 (s .refused) (refusedOne (finishOf (s .reader) .answer)))
-    (s .stray)
+    (add64 (s .refusals) (refusedOne (finishOf (s .reader) .answer)))
+    (s .strays)
 
 -- The finish: all of that text, or nothing where the output is too short.
 pub record Ends (s : Listing) (out out′ : List ℕ) (wrote : ℕ) : Type 0 where

@@ -14,12 +14,14 @@ use Rattle.trace.specs.declared.Advanced.{Advanced}
 use Rattle.trace.specs.declared.Listed.{Listed}
 use Rattle.trace.specs.declared.Tally.{Tally}
 use Rattle.frame.specs.Flags.{isStart}
-use Rattle.answer.specs.Answer.{refused}
+use Rattle.answer.specs.Answer.{result, refused}
+use Rattle.frame.specs.Answers.{standardOutline, extendedOutline}
+use Rattle.line.specs.Outcome.{Summary, silent, tells}
 
 -- A state whose array stands apart.
 abbrev pub listing : List ℕ → Tally → Listing
 listing bytes t =
-    record { reader = lentReader bytes (t .state); frames = t .frames; refused = t .refused; stray = t .stray }
+    record { reader = lentReader bytes (t .state); frames = t .frames; refusals = t .refusals; strays = t .strays }
 
 abbrev pub listedOf : (taken wrote : ℕ) → Listing → Listed
 listedOf taken wrote s = record { taken = taken; wrote = wrote; next = s }
@@ -53,3 +55,16 @@ pub record Advances (s : Listing) (rest bytes out : List ℕ) (at : ℕ) (out′
 abbrev pub strayCount : (is-open : Bool) → List ℕ → ℕ
 strayCount true bytes = 0
 strayCount false bytes = countBefore isStart bytes
+
+-- 1 for a frame, and 1 for a refusal.
+abbrev pub frameCount : Summary → ℕ
+frameCount silent = 0
+frameCount (tells (result (standardOutline len))) = 1
+frameCount (tells (result (extendedOutline to from len))) = 1
+frameCount (tells (refused number)) = 0
+
+abbrev pub refusedCount : Summary → ℕ
+refusedCount silent = 0
+refusedCount (tells (result (standardOutline len))) = 0
+refusedCount (tells (result (extendedOutline to from len))) = 0
+refusedCount (tells (refused number)) = 1

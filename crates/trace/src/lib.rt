@@ -10,8 +10,8 @@ ghost use Prim.Native.Nat.{_+_, _≤_};
 ghost use lib.ListN.{length};
 ghost use Rattle.line.specs.Outcome.{toldMeans};
 ghost use Rattle.text.specs.Writing.{lineRoom};
-ghost use Rattle.trace.specs.Private.{strayCount, Advances, listing, listedOf};
-ghost use Rattle.trace.specs.Machine.{frameCount, refusedCount, isOpen, newListing, numberAfter, Lists, Ends};
+ghost use Rattle.trace.specs.Private.{strayCount, Advances, listing, listedOf, frameCount, refusedCount};
+ghost use Rattle.trace.specs.Machine.{isOpen, newListing, numberAfter, Lists, Ends};
 
 // The room that the line of the finish and the totals fit in.
 const LAST_ROOM: usize = 2 * text::LINE_ROOM;
@@ -20,8 +20,8 @@ const LAST_ROOM: usize = 2 * text::LINE_ROOM;
 pub struct Listing {
     pub reader: LineReader,
     pub frames: u64,
-    pub refused: u64,
-    pub stray: u64,
+    pub refusals: u64,
+    pub strays: u64,
 }
 
 // How many bytes of a chunk were taken, how many were written, and the state afterwards.
@@ -35,8 +35,8 @@ pub struct Listed {
 struct Tally {
     state: State,
     frames: u64,
-    refused: u64,
-    stray: u64,
+    refusals: u64,
+    strays: u64,
 }
 
 // How many bytes were taken, the index after the line that they gave, and the state without its array.
@@ -52,8 +52,8 @@ pub fn new() -> Listing
     Listing {
         reader: LineReader::new(),
         frames: 0,
-        refused: 0,
-        stray: 0,
+        refusals: 0,
+        strays: 0,
     }
 }
 
@@ -68,21 +68,21 @@ pub fn list(s: Listing, chunk: &[u8], out: &mut [u8]) -> Listed
     let mut tally = Tally {
         state,
         frames: s.frames,
-        refused: s.refused,
-        stray: s.stray,
+        refusals: s.refusals,
+        strays: s.strays,
     };
     let mut at: usize = 0;
     let mut i: usize = 0;
     while i < chunk.len() {
         if out.len() - at < text::LINE_ROOM {
-            return listing_of(i, at, bytes, tally);
+            return listed_of(i, at, bytes, tally);
         }
         let t = advance(&mut bytes, tally, &chunk[i..], out, at);
         tally = t.tally;
         at = t.at;
         i += t.taken;
     }
-    listing_of(i, at, bytes, tally)
+    listed_of(i, at, bytes, tally)
 }
 
 // Ends the trace: writes the line of a candidate that is open, and the totals, and answers how many bytes it wrote. It
@@ -94,19 +94,19 @@ pub fn finish(s: Listing, out: &mut [u8]) -> usize
         return 0;
     }
     let frames = s.frames;
-    let refused = s.refused;
+    let refusals = s.refusals;
     let reader = s.reader;
     let bytes = reader.bytes;
     let state = reader.state;
     let step = line::finish_in(state);
     let told = step.told;
-    let at = text::put_answer(told, &bytes, next_number(frames, refused), out, 0);
+    let at = text::put_answer(told, &bytes, next_number(frames, refusals), out, 0);
     let all_frames = std::num::wrapping_add_u64(frames, frame_count(told));
-    let all_refused = std::num::wrapping_add_u64(refused, refused_count(told));
-    text::put_totals(all_frames, all_refused, s.stray, out, at)
+    let all_refusals = std::num::wrapping_add_u64(refusals, refused_count(told));
+    text::put_totals(all_frames, all_refusals, s.strays, out, at)
 }
 
-fn listing_of(taken: usize, wrote: usize, bytes: [u8; 118], t: Tally) -> Listed
+fn listed_of(taken: usize, wrote: usize, bytes: [u8; 118], t: Tally) -> Listed
     ensures { λ r. ⌜ r ≡ listedOf taken wrote (listing bytes t) ⌝ }
 {
     let state = t.state;
@@ -116,8 +116,8 @@ fn listing_of(taken: usize, wrote: usize, bytes: [u8; 118], t: Tally) -> Listed
         next: Listing {
             reader: LineReader { bytes, state },
             frames: t.frames,
-            refused: t.refused,
-            stray: t.stray,
+            refusals: t.refusals,
+            strays: t.strays,
         },
     }
 }
@@ -132,30 +132,30 @@ fn advance(bytes: &mut [u8; 118], t: Tally, rest: &[u8], out: &mut [u8], at: usi
     let before = t.state;
     let mode = before.mode;
     let frames = t.frames;
-    let refused = t.refused;
+    let refusals = t.refusals;
     let fed = line::feed_in(bytes, before, rest);
     let taken = fed.taken;
     let told = fed.told;
     let state = fed.state;
-    let stray = stray_count(mode, &rest[..taken]);
-    let end = text::put_answer(told, bytes, next_number(frames, refused), out, at);
+    let strays = stray_count(mode, &rest[..taken]);
+    let end = text::put_answer(told, bytes, next_number(frames, refusals), out, at);
     Advanced {
         taken,
         at: end,
         tally: Tally {
             state,
             frames: std::num::wrapping_add_u64(frames, frame_count(told)),
-            refused: std::num::wrapping_add_u64(refused, refused_count(told)),
-            stray: std::num::wrapping_add_u64(t.stray, stray),
+            refusals: std::num::wrapping_add_u64(refusals, refused_count(told)),
+            strays: std::num::wrapping_add_u64(t.strays, strays),
         },
     }
 }
 
 // The number of the next answer.
-fn next_number(frames: u64, refused: u64) -> u64
-    ensures { λ r. ⌜ r ≡ numberAfter frames refused ⌝ }
+fn next_number(frames: u64, refusals: u64) -> u64
+    ensures { λ r. ⌜ r ≡ numberAfter frames refusals ⌝ }
 {
-    let told = std::num::wrapping_add_u64(frames, refused);
+    let told = std::num::wrapping_add_u64(frames, refusals);
     std::num::wrapping_add_u64(told, 1)
 }
 

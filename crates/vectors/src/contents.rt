@@ -39,7 +39,7 @@ fn print_nth(contents: &[u8], n: usize) {
     let found = command::nth(contents, n);
     match found {
         Found::At { byte, start, len } => {
-            print_place(n, byte, start, len);
+            print_entry(n, byte, start, len);
             if command::is_wrapper(byte) {
                 print_inner_list(contents, n);
             } else {
@@ -64,7 +64,7 @@ fn print_inner(contents: &[u8], w: usize, n: usize) {
     let found = command::nth_inside(contents, w, n);
     match found {
         Found::At { byte, start, len } => {
-            print_place(n, byte, start, len);
+            print_entry(n, byte, start, len);
             print::bytes(b":", command::nth_inside_data(contents, w, n));
         }
         Found::Refused(why) => print_reason(n, why),
@@ -72,7 +72,7 @@ fn print_inner(contents: &[u8], w: usize, n: usize) {
 }
 
 // The byte of the n-th entry and the index of its data, with a comma between two entries.
-fn print_place(n: usize, byte: u8, start: usize, len: usize) {
+fn print_entry(n: usize, byte: u8, start: usize, len: usize) {
     if n != 0 {
         print::text(b",");
     }
@@ -126,7 +126,7 @@ fn print_item(contents: &[u8], n: usize) {
     let found = reply::nth_item(contents, n);
     match found {
         Found::At { byte, start, len } => {
-            print_place(n, byte, start, len);
+            print_entry(n, byte, start, len);
             print::bytes(b":", reply::nth_item_data(contents, n));
         }
         Found::Refused(why) => print::refusal(b"refused:", why),

@@ -74,7 +74,7 @@ pub(crate) fn number(s: &[u8]) -> u64 {
     n
 }
 
-// The same, where it fits 32 bits.
+// The decimal number that the digits of a word are, where it fits 32 bits, and else 0.
 pub(crate) fn number32(s: &[u8]) -> u32 {
     let n = number(s);
     if n <= 0xFFFFFFFF {
@@ -83,7 +83,7 @@ pub(crate) fn number32(s: &[u8]) -> u32 {
     0
 }
 
-// The same, where it fits 16 bits.
+// The number that decimal digits spell, where it fits 16 bits, and else 0.
 pub(crate) fn number16(s: &[u8]) -> u16 {
     let n = number(s);
     if n <= 0xFFFF {

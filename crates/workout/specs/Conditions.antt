@@ -67,7 +67,7 @@ pub data JudgedWorkout (limits : Limits) (c : List ℕ) : Answer Programmed → 
   overLimit : (kind : GoalKind) → Formed kind c → (Limited limits kind c → ⊥) → JudgedWorkout limits c (refused 12)
   readable : (w : Programmed) → Readable limits c w → JudgedWorkout limits c (result w)
 
--- The same of writing, where the output's room is asked for last.
+-- What writing a workout is answered: its limits first, and the output's room is asked for last.
 pub data JudgedWriting (limits : Limits) (w : Programmed) (room : ℕ) : Answer ℕ → Type 0 where
   outside : (WithinLimits limits w → ⊥) → JudgedWriting limits w room (refused 12)
   noRoom : WithinLimits limits w → room < 23 → JudgedWriting limits w room (refused 1)

@@ -1,5 +1,5 @@
 -- The limits on a workout, as numbers that the definitions take: document 01, "Workout card".
-use Prim.Native.Nat.{ℕ, _+_, _-_, _*_, _/_, _≤_, _<_}
+use Prim.Native.Nat.{ℕ, _+_, _-_, _*_, _/_, _≤_}
 use mathlib.Core.Bool.{Bool, false}
 use lib.Dec.{leb}
 use Rattle.lists.specs.Choice.{pick, within}
@@ -44,8 +44,3 @@ withinGoal limits splits scale goal split =
     (pick (leb split (scale * goal)) (leb (ceilDiv (scale * goal) split) splits) false)
     false)
     false
-
--- No split has length 0, so that a goal can be divided by each.
-pub record Divisible (limits : Limits) : Type 0 where
-  pub distance : 0 < limits .distance .shortest
-  pub time : 0 < limits .time .shortest

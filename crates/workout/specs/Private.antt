@@ -1,5 +1,5 @@
 -- Contracts of private functions, which no caller reads.
-use Prim.Native.Nat.{ℕ, _+_, _*_}
+use Prim.Native.Nat.{ℕ, _+_, _*_, _<_}
 use lib.Dec.{leb, eqb}
 use Rattle.lists.specs.Choice.{pick}
 use Rattle.workout.specs.Limits.{GoalLimits, Limits}
@@ -32,3 +32,8 @@ timeRead limits hours minutes seconds split watts =
     pick (leb minutes 59)
     (pick (leb seconds 59) (limitedRead limits (time (3600 * hours + 60 * minutes + seconds) split watts)) (refused 12))
     (refused 12)
+
+-- No split has length 0, so that a goal can be divided by each.
+pub record Divisible (limits : Limits) : Type 0 where
+  pub distance : 0 < limits .distance .shortest
+  pub time : 0 < limits .time .shortest

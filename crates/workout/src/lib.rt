@@ -12,10 +12,10 @@ ghost use mathlib.Core.Path.{_≡_};
 ghost use Prim.Native.Nat.{_<_};
 ghost use lib.ListN.{length};
 ghost use Rattle.answer.specs.Draft.{draftAnswer, draftOut, writtenMeans};
-ghost use Rattle.workout.specs.Limits.{pm3Limits, Divisible};
+ghost use Rattle.workout.specs.Limits.{pm3Limits};
 ghost use Rattle.workout.specs.Workout.{Programmed, programmed, workoutBytes};
 ghost use Rattle.workout.specs.Answers.{workoutMeans, workoutAnswer, workoutDraft};
-ghost use Rattle.workout.specs.Private.{limitsOf, distanceRead, timeRead, limitedRead};
+ghost use Rattle.workout.specs.Private.{limitsOf, distanceRead, timeRead, limitedRead, Divisible};
 
 // The most minutes and the most seconds that a time goal has beside its hours.
 const CLOCK_LIMIT: u8 = 59;

@@ -3,9 +3,9 @@ use crate::Goal;
 use crate::Workout;
 ghost use mathlib.Core.Path.{_≡_};
 ghost use Prim.Native.Nat.{_*_, _<_};
-ghost use Rattle.workout.specs.Limits.{Divisible, withinGoal};
+ghost use Rattle.workout.specs.Limits.{withinGoal};
 ghost use Rattle.workout.specs.Workout.{programmed, withinLimits};
-ghost use Rattle.workout.specs.Private.{goalLimitsOf, limitsOf};
+ghost use Rattle.workout.specs.Private.{goalLimitsOf, limitsOf, Divisible};
 
 // The limits on one kind of goal: on the goal in its own unit, and on the split in the split's unit.
 pub(crate) struct GoalLimits {

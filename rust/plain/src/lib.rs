@@ -1,7 +1,7 @@
-//! The independent implementation that the proved library is compared with,
-//! written from the documents alone: CSAFE frames of rowing machines read and
-//! written, a reader for a live line, the commands, replies and workouts inside,
-//! the lease table for stops, and a listing of recorded traces.
+//! The independent implementation that the proved library is compared with:
+//! CSAFE frames of rowing machines read and written, a reader for a live line,
+//! the commands, replies and workouts inside, the lease table for stops, and a
+//! listing of recorded traces.
 //!
 //! Every refusal is one of the numbers in [`refusal`].
 

@@ -1,5 +1,5 @@
 use mathlib.Core.Path.{sym, subst}
-use Rattle.command.specs.Private.{InContents}
+use Rattle.command.specs.Answers.{InContents}
 use Rattle.command.proofs.InnerLaws.{part-fits, outer-is, outer-none}
 use Rattle.command.proofs.Extents.{within-command}
 use borrow.Author.Needs.{needs}

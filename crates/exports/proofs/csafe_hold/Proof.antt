@@ -11,8 +11,8 @@ use mathlib.Core.List.{List}
 hold-lent-requires : tie.Need-hold-lent-requires
 hold-lent-requires c κs = search needs
 
-of-outcome-requires : tie.Need-of-outcome-requires
-of-outcome-requires c κs = search needs
+of-lease-requires : tie.Need-of-lease-requires
+of-lease-requires c κs = search needs
 
 same-length : tie.Need-same-length
 same-length c = search needs
@@ -20,10 +20,10 @@ same-length c = search needs
 returns : tie.Need-returns
 returns c =
     let e = c .before .before .before .hold-lent .ensures in (
-      subst (λ (a : Answer (List ℕ)). Tells (c .of-outcome .result) (leaseFields a)) (e .answered)
-          (c .of-outcome .ensures),
+      subst (λ (a : Answer (List ℕ)). Tells (c .of-lease .result) (leaseFields a)) (e .answered)
+          (c .of-lease .ensures),
       e .left,
     )
 
 pub csafe-hold-spec : {M : Type 1} → statement M
-csafe-hold-spec = tie.close (tie.spec hold-lent-requires of-outcome-requires same-length returns)
+csafe-hold-spec = tie.close (tie.spec hold-lent-requires of-lease-requires same-length returns)

@@ -1,7 +1,6 @@
 use lib.ListN.{length}
 use Rattle.exports.proofs.AnswerLaws.{read-short}
-use Rattle.exports.specs.Answers.{readFields}
-use Rattle.exports.specs.Private.{ReadShort}
+use Rattle.exports.specs.Answers.{readFields, ReadShort}
 use Rattle.exports.specs.Packed.{Tells}
 use mathlib.Core.Path.{sym, subst}
 use borrow.Author.Needs.{needs}

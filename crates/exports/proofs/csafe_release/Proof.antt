@@ -11,8 +11,8 @@ use mathlib.Core.List.{List}
 release-lent-requires : tie.Need-release-lent-requires
 release-lent-requires c κs = search needs
 
-of-outcome-requires : tie.Need-of-outcome-requires
-of-outcome-requires c κs = search needs
+of-lease-requires : tie.Need-of-lease-requires
+of-lease-requires c κs = search needs
 
 same-length : tie.Need-same-length
 same-length c = search needs
@@ -20,11 +20,11 @@ same-length c = search needs
 returns : tie.Need-returns
 returns c =
     let e = c .before .before .before .release-lent .ensures in (
-      subst (λ (a : Answer (List ℕ)). Tells (c .of-outcome .result) (leaseFields a)) (e .answered)
-          (c .of-outcome .ensures),
+      subst (λ (a : Answer (List ℕ)). Tells (c .of-lease .result) (leaseFields a)) (e .answered)
+          (c .of-lease .ensures),
       e .left,
     )
 
 pub csafe-release-spec : {M : Type 1} → statement M
 csafe-release-spec =
-    tie.close (tie.spec release-lent-requires of-outcome-requires same-length returns)
+    tie.close (tie.spec release-lent-requires of-lease-requires same-length returns)

@@ -1,7 +1,6 @@
 use lib.ListN.{length}
 use Rattle.exports.proofs.AnswerLaws.{stop-fits}
-use Rattle.exports.specs.Answers.{writeFields}
-use Rattle.exports.specs.Private.{WriteShort}
+use Rattle.exports.specs.Answers.{writeFields, WriteShort}
 use Rattle.exports.specs.Packed.{Tells}
 use mathlib.Core.Path.{sym, subst}
 use borrow.Author.Needs.{needs}

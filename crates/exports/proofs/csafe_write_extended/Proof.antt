@@ -1,8 +1,7 @@
 use Rattle.frame.specs.Frame.{extended}
 use lib.ListN.{length}
 use Rattle.exports.proofs.AnswerLaws.{frame-short}
-use Rattle.exports.specs.Answers.{writeFields}
-use Rattle.exports.specs.Private.{WriteShort}
+use Rattle.exports.specs.Answers.{writeFields, WriteShort}
 use Rattle.exports.specs.Packed.{Tells}
 use mathlib.Core.Path.{sym, subst}
 use borrow.Author.Needs.{needs}

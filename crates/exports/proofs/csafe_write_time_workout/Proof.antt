@@ -2,8 +2,7 @@ use Rattle.workout.specs.Limits.{pm3Limits}
 use Rattle.workout.specs.Workout.{time}
 use lib.ListN.{length}
 use Rattle.exports.proofs.AnswerLaws.{workout-short}
-use Rattle.exports.specs.Answers.{writeFields}
-use Rattle.exports.specs.Private.{WriteShort}
+use Rattle.exports.specs.Answers.{writeFields, WriteShort}
 use Rattle.exports.specs.Packed.{Tells}
 use mathlib.Core.Path.{sym, subst}
 use borrow.Author.Needs.{needs}

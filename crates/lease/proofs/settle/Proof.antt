@@ -19,16 +19,16 @@ element-write-table c =
     let told = c .enum-told .given .1 in
     omega (arith, subst (λ (o : LeaseAnswer). Settles (s .args .address) (leaseMeans o)) told (s .pre))
 
-enum-known-outcome : tie.Need-enum-known-outcome
-enum-known-outcome c = search needs
+enum-known-answer : tie.Need-enum-known-answer
+enum-known-answer c = search needs
 
 returns : tie.Need-returns
 returns c = rw (c .enum-told .given .1) (refl, refl)
 
 returns-2 : tie.Need-returns-2
-returns-2 c = rw (c .before .outcome .given .1) (refl, refl)
+returns-2 c = rw (c .before .answer .given .1) (refl, refl)
 
 pub settle-spec : {M : Type 1} → statement M
 settle-spec =
     tie.close
-    (tie.spec enum-told mul-table element-write-table enum-known-outcome returns returns-2)
+    (tie.spec enum-told mul-table element-write-table enum-known-answer returns returns-2)

@@ -19,8 +19,8 @@ put-token-requires c κs =
     let told = c .before .enum-told .given .1 in
     omega (arith, s .pre .0, subst (λ (o : LeaseAnswer). Settles (s .args .address) (leaseMeans o)) told (s .pre .1))
 
-enum-known-outcome : tie.Need-enum-known-outcome
-enum-known-outcome c = search needs
+enum-known-answer : tie.Need-enum-known-answer
+enum-known-answer c = search needs
 
 same-length : tie.Need-same-length
 same-length c = search needs
@@ -29,7 +29,7 @@ returns : tie.Need-returns
 returns c = rw (c .before .before .before .before .enum-told .given .1) (refl, c .before .before .put-token .ensures)
 
 returns-2 : tie.Need-returns-2
-returns-2 c = rw (c .before .outcome .given .1) (refl, refl)
+returns-2 c = rw (c .before .answer .given .1) (refl, refl)
 
 pub settle-lent-spec : {M : Type 1} → statement M
 settle-lent-spec =
@@ -38,7 +38,7 @@ settle-lent-spec =
     enum-told
     mul-put-token
     put-token-requires
-    enum-known-outcome
+    enum-known-answer
     same-length
     returns
     returns-2)

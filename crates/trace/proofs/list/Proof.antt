@@ -23,8 +23,8 @@ loop-holds c = (search needs, refl, search needs, going-start _ _ _)
 sub-if1 : tie.Need-sub-if1 Inv-loop μ-loop
 sub-if1 c = omega arith
 
-listing-of-requires : tie.Need-listing-of-requires Inv-loop μ-loop
-listing-of-requires c κs = tt
+listed-of-requires : tie.Need-listed-of-requires Inv-loop μ-loop
+listed-of-requires c κs = tt
 
 same-length : tie.Need-same-length Inv-loop μ-loop
 same-length c = c .before .before .before .loop .inv .1
@@ -35,7 +35,7 @@ returns c =
     let l = c .before .before .before .loop in
     going-stop (a .s) (a .chunk .now) (a .out .now) (listing (l .bytes) (l .tally)) (l .out) (l .at) (l .i) (l .inv .3)
     (c .before .before .loop-test .taken) (l .inv .2) (omega (arith, c .before .if1 .taken, l .inv .1))
-    (c .listing-of .result) (c .listing-of .ensures)
+    (c .listed-of .result) (c .listed-of .ensures)
 
 sub-advance : tie.Need-sub-advance Inv-loop μ-loop
 sub-advance c = search needs
@@ -106,8 +106,8 @@ loop-again c =
           (t .advance .result) (advanced t),
     )
 
-listing-of-requires-2 : tie.Need-listing-of-requires-2 Inv-loop μ-loop
-listing-of-requires-2 c κs = tt
+listed-of-requires-2 : tie.Need-listed-of-requires-2 Inv-loop μ-loop
+listed-of-requires-2 c κs = tt
 
 same-length-2 : tie.Need-same-length-2 Inv-loop μ-loop
 same-length-2 c = c .before .before .loop .inv .1
@@ -117,8 +117,8 @@ returns-2 c =
     let a = c .before .before .before .before .before .before .before .before .args in
     let l = c .before .before .loop in
     going-end (a .s) (a .chunk .now) (a .out .now) (listing (l .bytes) (l .tally)) (l .out) (l .at) (l .i) (l .inv .3)
-    (omega (arith, c .before .loop-test .left, l .inv .0)) (l .inv .2) (c .listing-of2 .result)
-    (c .listing-of2 .ensures)
+    (omega (arith, c .before .loop-test .left, l .inv .0)) (l .inv .2) (c .listed-of2 .result)
+    (c .listed-of2 .ensures)
 
 pub list-spec : {M : Type 1} → statement M
 list-spec =
@@ -128,7 +128,7 @@ list-spec =
     μ-loop
     loop-holds
     sub-if1
-    listing-of-requires
+    listed-of-requires
     same-length
     returns
     sub-advance
@@ -138,6 +138,6 @@ list-spec =
     add-i
     loop-less
     loop-again
-    listing-of-requires-2
+    listed-of-requires-2
     same-length-2
     returns-2)

@@ -43,14 +43,14 @@ use denote.Triple.Clauses.{ensured}
 use Rattle.command.specs.Answers.{foundMeans}
 use Rattle.command.specs.Traversal.{commandAt, indexAfter}
 use Rattle.command.specs.declared.cursor.CommandCursor.{CommandCursor}
-use Rattle.command.specs.declared.cursor.CursorStep.{CursorStep}
+use Rattle.command.specs.declared.cursor.CommandStep.{CommandStep}
 use Rattle.command.specs.declared.entries.Found.{Found}
 use Rattle.command.proofs.Called.{Over, over, OnCursor, to-cursor, asks-cursor, told-cursor}
 use Rattle.command.proofs.Held.{B, D, L, local, Own, slice, passed, Lent, made}
 use Rattle.command.proofs.cursor.CommandCursor as T
 use Rattle.command.proofs.cursor.CommandCursor.Laws as T′
-use Rattle.command.proofs.cursor.CursorStep as P
-use Rattle.command.proofs.cursor.CursorStep.Laws as P′
+use Rattle.command.proofs.cursor.CommandStep as P
+use Rattle.command.proofs.cursor.CommandStep.Laws as P′
 use Rattle.command.proofs.entries.Found as S
 use Rattle.command.proofs.entries.Found.Laws as S′
 use Rattle.command.proofs.cursor.CommandCursor.command.Symbol as command-symbol
@@ -119,7 +119,7 @@ module _ {M : Type 1} (𝓤 : URA M) (H : Heap 𝓤) (A : Atoms 𝓤) (W : Given
       (asks-cursor answer Finds 𝓤 H A W κ q d) $ frame ! $ done !
 
   -- the result, and its machine value
-  abbrev told : Found → CommandCursor → CursorStep
+  abbrev told : Found → CommandCursor → CommandStep
   told r c = record { found = r; next = c .at }
 
   abbrev value : Found → CommandCursor → Val

@@ -5,7 +5,8 @@ use mathlib.Core.List.{List}
 use lib.ListN.{length, drop}
 use Rattle.command.specs.Entries.{parse, nthIn}
 use Rattle.command.specs.declared.entries.Step.the-variants.{End, Broken, Entry}
-use Rattle.command.proofs.EntryLaws.{EntryStands, parseAfter, told, told-stands, nth-end, nth-broken, nth-found}
+use Rattle.command.specs.Steps.{parseAfter}
+use Rattle.command.proofs.EntryLaws.{EntryStands, told, told-stands, nth-end, nth-broken, nth-found}
 use Rattle.command.proofs.EntryLaws.{nth-more}
 use borrow.Author.Needs.{needs}
 use Rattle.command.proofs.entries.nth.Statement.{statement}

@@ -1,6 +1,6 @@
 use Rattle.frame.specs.declared.Read.{Read}
 use Rattle.frame.specs.Answers.{readMeans}
-use Rattle.exports.specs.Private.{ReadShort}
+use Rattle.exports.specs.Answers.{ReadShort}
 use native.Mathlib.Omega.{arith}
 use mathlib.Core.Path.{subst}
 use borrow.Author.Needs.{needs}

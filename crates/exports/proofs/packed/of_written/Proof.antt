@@ -2,7 +2,7 @@ use Rattle.answer.specs.Draft.{writtenMeans}
 use Rattle.answer.specs.declared.Written.{Written}
 use mathlib.Core.Path.{subst}
 use native.Mathlib.Omega.{arith}
-use Rattle.exports.specs.Private.{WriteShort}
+use Rattle.exports.specs.Answers.{WriteShort}
 use borrow.Author.Needs.{needs}
 use Rattle.exports.proofs.packed.of_written.Statement.{statement}
 use Rattle.exports.proofs.packed.of_written.Tie as tie
