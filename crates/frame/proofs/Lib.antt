@@ -7,4 +7,5 @@ pub mod ScanLaws
 pub mod VerdictLaws
 pub mod ContentsLaws
 pub mod Table
+pub mod JudgeCalls
 pub mod RoundTrip

@@ -18,12 +18,12 @@ use Rattle.lists.proofs.Lists.{drop-two}
 use Rattle.frame.specs.Stuffing.{stuff, bytes}
 use Rattle.frame.specs.Checksum.{checksum}
 use Rattle.frame.specs.Frame.{Frame, standard, extended, contentsOf, frameKind, addressesOf, payload, wireOf}
-use Rattle.frame.specs.Flags.{startFlag, stopFlag}
+use Rattle.frame.specs.Flags.{startFlag, stopFlag, candidateOf}
 use Rattle.frame.specs.declared.Kind.{Kind}
 use Rattle.frame.specs.declared.Kind.the-variants.{Standard, Extended}
 use Rattle.frame.proofs.StuffingLaws.{unstuff-stuff, flagless-stuff, stuff-unstuff}
 use Rattle.frame.proofs.ChecksumLaws.{contents-last}
-use Rattle.frame.proofs.VerdictLaws.{whole, whole-length, whole-verdict, judge-bytes}
+use Rattle.frame.proofs.VerdictLaws.{whole-length, whole-verdict, judge-bytes}
 use Rattle.frame.proofs.Table.{accepted-exactly, unstuffs-bytes, fewest-is}
 use Rattle.frame.proofs.FlagLaws.{free-flagless}
 
@@ -49,7 +49,7 @@ pub reads-back : (f : Frame) → length (wireOf f) ≤ 120 → verdict (wireOf f
 unfolding wireOf
 reads-back f l =
     let b = stuff (payload f) in
-    let e : wireOf f ≡ whole (frameKind f) b = refl in
+    let e : wireOf f ≡ candidateOf (frameKind f) b = refl in
     whole-verdict (frameKind f) b (flagless-stuff (payload f))
     ∙ judge-bytes (frameKind f) b (omega (arith, ap length e, whole-length (frameKind f) b))
     ∙ ap (judgeBytes (frameKind f)) (unstuff-stuff (payload f)) ∙ judge-payload f

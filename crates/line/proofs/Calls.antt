@@ -13,8 +13,8 @@ use Rattle.framing.specs.Demand3.{Demand3}
 use Rattle.framing.specs.Bounded.{BoundedMode, outside, inside, overlong, truncatedIn, terminatedIn, leftByStop}
 use Rattle.framing.specs.Bounded.{boundedTurn}
 use Rattle.framing.proofs.Bounded.{bounded-demand-3}
-use Rattle.frame.specs.Flags.{roleOf}
-use Rattle.frame.specs.Verdict.{judge}
+use Rattle.frame.specs.Flags.{roleOf, candidateOf}
+use Rattle.frame.specs.Verdict.{verdict}
 use Rattle.frame.specs.Answers.{standardOutline, extendedOutline, judgeAnswer, frameRead}
 use Rattle.frame.specs.declared.Kind.{Kind}
 use Rattle.frame.proofs.ContentsLaws.{left-whole}
@@ -48,7 +48,8 @@ terminated-whole : (m : BoundedMode Kind) (bytes : List ℕ) (len : ℕ)
     ≡ terminatedIn rowing rowingBounds m bytes len
 unfolding judgeAnswer frameRead
 terminated-whole outside bytes len = refl
-terminated-whole (inside kind) bytes len = ap judged (left-whole (judge kind (take len bytes)) bytes)
+terminated-whole (inside kind) bytes len =
+    ap judged (left-whole (verdict (candidateOf kind (take len bytes))) bytes)
 terminated-whole overlong bytes len = refl
 
 abbrev pub Whole : ReaderTurn → Type 0
