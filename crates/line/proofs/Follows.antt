@@ -3,7 +3,6 @@
 use mathlib.Core.Path.{_≡_, refl, sym, ap, ap₂, _∙_}
 use mathlib.Core.List.{List, [], _∷_, _++_}
 use Prim.Native.Nat.{ℕ}
-use lib.ListN.{length}
 use Rattle.lists.specs.Machine.{run}
 use Rattle.framing.specs.Reference.{starts, stops}
 use Rattle.framing.specs.Demand3.{Follows}
@@ -14,10 +13,10 @@ use Rattle.frame.specs.Verdict.{verdict}
 use Rattle.frame.proofs.FlagLaws.{role-start, role-stop, free-flagless}
 use Rattle.frame.proofs.VerdictLaws.{whole-verdict, judge-long}
 use Rattle.frame.proofs.ContentsLaws.{left-length}
-use Rattle.line.specs.Outcome.{judged, zeros}
+use Rattle.line.specs.Outcome.{judged}
 use Rattle.line.specs.Rowing.{rowing, rowingBounds}
-use Rattle.line.specs.Reader.{reader, seen, turnOf, outcomeAt, nextAfter, readerOutcomes}
-use Rattle.line.specs.declared.Mode.the-variants.{Outside}
+use Rattle.line.specs.Reader.{newReader, AsNew, modeSeen, seen, turnOf, outcomeAt, nextAfter, readerOutcomes}
+use Rattle.line.specs.declared.LineReader.{LineReader}
 use Rattle.line.proofs.ReaderLaws.{call-seen}
 
 -- a candidate is known by the kind that its start flag opens and the bytes between its flags
@@ -37,13 +36,15 @@ rowing-suits = record {
   kept = λ kind len bytes e. left-length kind len bytes ∙ e;
 }
 
--- Demand 3 of any reader that is outside of a candidate: what its array and its length are doesn't matter.
-pub outside-follows : (bytes : List ℕ) (len : ℕ) → length bytes ≡ 118
-    → Follows rowing (run outcomeAt nextAfter (reader bytes len Outside))
-outside-follows bytes len h =
-    bounded-follows rowing rowingBounds rowing-suits turnOf seen call-seen (reader bytes len Outside) h refl
+-- Demand 3 of any reader that is as new.
+pub as-new-follows : (r : LineReader) → AsNew r → Follows rowing (run outcomeAt nextAfter r)
+as-new-follows r n =
+    bounded-follows rowing rowingBounds rowing-suits turnOf seen call-seen r (n .array) (ap modeSeen (n .outside-is))
+
+pub new-as-new : AsNew newReader
+new-as-new = record { array = refl; outside-is = refl }
 
 -- Demand 3, whole: every list of calls on a new reader is answered as the reference decoder answers it, and D, W and L
 -- as the minutes say.
 pub reader-follows : Follows rowing readerOutcomes
-reader-follows = outside-follows zeros 0 refl
+reader-follows = as-new-follows newReader new-as-new
