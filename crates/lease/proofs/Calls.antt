@@ -32,7 +32,7 @@ use Rattle.lease.proofs.release_lent.Reads as release-lent-reads
 use Rattle.lease.proofs.stop_lent.Reads as stop-lent-reads
 
 -- What a caller of stop has is the answer that the contract names.
-told-is : (a : Answer ℕ) (out last : List ℕ) (x : Answer (List ℕ)) → a ≡ writtenLength x → last ≡ outAfter x out
+pub told-is : (a : Answer ℕ) (out last : List ℕ) (x : Answer (List ℕ)) → a ≡ writtenLength x → last ≡ outAfter x out
     → stopTold a last ≡ x
 unfolding stopTold
 told-is a out last (result w) e o =
