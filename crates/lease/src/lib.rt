@@ -142,10 +142,10 @@ fn judge_release(address: u32, token: u64, held: u64) -> LeaseAnswer
     if !address::in_range(address) {
         return LeaseAnswer::Refused(Refusal::BadAddress);
     }
-    if !is_holder(token, held) {
-        return LeaseAnswer::Refused(Refusal::NotHolder);
+    if is_holder(token, held) {
+        return LeaseAnswer::Done;
     }
-    LeaseAnswer::Done
+    LeaseAnswer::Refused(Refusal::NotHolder)
 }
 
 // Writes the stop frame where `held` is the address's token and the caller has it.
