@@ -1,17 +1,19 @@
 -- Document 01's sentences on leases, of the exported functions: any run of calls, known by nothing but what the
 -- contracts tell a caller.
 use Prim.Native.Nat.{ℕ}
-use mathlib.Core.Path.{_≡_, sym, _∙_}
+use mathlib.Core.Path.{_≡_, sym}
 use mathlib.Core.List.{List}
 use lib.ListN.{length}
 use contract.Lifetimes.{Lfts}
 use denote.Ref.{RefT}
+use Rattle.lists.specs.Machine.{Answered}
+use Rattle.numbers.specs.Number.{bytesOfAll}
 use Rattle.answer.specs.Answer.{Answer}
 use Rattle.lease.specs.Lease.{LeaseCall, hold, release, stop, lentAnswer, lentAfter}
 use Rattle.lease.specs.Answers.{stopTold}
-use Rattle.lease.specs.History.{TokenFits}
+use Rattle.lease.specs.History.{newTable, newBytes, answersOn, tableOn, TokenFits}
 use Rattle.lease.specs.Leases.{LentLeases}
-use Rattle.lease.proofs.Lent.{stop-lent, lent-sentences}
+use Rattle.lease.proofs.Lent.{stop-lent, lent-runs, lent-sentences}
 use Rattle.lease.proofs.Calls.{told-is}
 use Rattle.exports.specs.Told.{toldWritten, toldLease}
 use Rattle.exports.proofs.ToldLaws.{hold-told, release-told, stop-told}
@@ -46,6 +48,13 @@ called-exported s s′ c x (exported-stopped {a = a} {u = u} n κs t out out′ 
   sym (stop-lent (t .now) a u (length (out .now))),
   e .1 .1 .fits,
 )
+
+-- Every run of `csafe_hold`, `csafe_release` and `csafe_stop` on bytes that are all 00 is answered as a new table answers
+-- those calls, and leaves the bytes of the table that they leave.
+pub exported-calls : {cs : List LeaseCall} {rs : List (Answer (List ℕ))}
+    (k : Answered CalledExported (_≡ newBytes) cs rs)
+    → (rs ≡ answersOn newTable cs) × (k .last ≡ bytesOfAll 8 (tableOn newTable cs))
+exported-calls k = lent-runs CalledExported called-exported k
 
 -- Document 01's sentences of every run of `csafe_hold`, `csafe_release` and `csafe_stop`.
 pub exported-leases : LentLeases CalledExported

@@ -14,7 +14,7 @@ use Rattle.answer.specs.Draft.{writtenMeans}
 use Rattle.answer.specs.declared.Written.{Written}
 use Rattle.lease.specs.Lease.{LeaseCall, hold, release, stop, tableAnswer, tableAfter, lentAnswer, lentAfter}
 use Rattle.lease.specs.Answers.{leaseMeans, writtenLength, outAfter, stopTold}
-use Rattle.lease.specs.History.{newTable, newBytes, answersOn, tableOn, lentAnswersOn, lentOn, Tokens, TokenFits}
+use Rattle.lease.specs.History.{newTable, newBytes, answersOn, tableOn, Tokens, TokenFits}
 use Rattle.lease.specs.History.{Exchange, callsOf, answersOf}
 use Rattle.lease.specs.Leases.{Leases, LentLeases}
 use Rattle.lease.specs.declared.LeaseTable.{LeaseTable}
@@ -22,7 +22,7 @@ use Rattle.lease.specs.declared.Leased.{Leased}
 use Rattle.lease.specs.declared.LeaseAnswer.{LeaseAnswer}
 use Rattle.lease.proofs.TableHistory.{follows-answers}
 use Rattle.lease.proofs.Sentences.{sentences}
-use Rattle.lease.proofs.Lent.{stop-table, stop-lent, new-lent, lent-sentences}
+use Rattle.lease.proofs.Lent.{stop-table, stop-lent, lent-runs, lent-sentences}
 use Rattle.lease.proofs.LeaseTable.new.Reads as new-reads
 use Rattle.lease.proofs.LeaseTable.hold.Reads as hold-reads
 use Rattle.lease.proofs.LeaseTable.release.Reads as release-reads
@@ -112,39 +112,29 @@ pub data CalledLent : List ℕ → LeaseCall → Answer (List ℕ) → List ℕ 
       → stop-lent-reads.Learnt κs (s, (a, (u, (out, tt)))) r (s, (a, (u, (out′, tt))))
       → CalledLent (s .now) (stop a u (length (out .now))) (stopTold (writtenMeans r) (out′ .now)) (s .now)
 
--- A call on lent bytes is answered, and leaves the bytes, as the definitions say.
+-- A call on lent bytes is answered, and leaves the bytes, as the definitions say, and its token has 64 bits.
 called-lent : (s s′ : List ℕ) (c : LeaseCall) (x : Answer (List ℕ)) → CalledLent s c x s′
-    → (x ≡ lentAnswer s c) × (s′ ≡ lentAfter s c)
-called-lent s s′ c x (lent-held r κs t t′ e) = (e .answered, e .left)
-called-lent s s′ c x (lent-released r κs t t′ e) = (e .answered, e .left)
+    → (x ≡ lentAnswer s c) × (s′ ≡ lentAfter s c) × TokenFits c
+called-lent s s′ c x (lent-held r κs t t′ e) = (e .answered, e .left, e .real .fits)
+called-lent s s′ c x (lent-released r κs t t′ e) = (e .answered, e .left, e .real .fits)
 called-lent s s′ c x (lent-stopped {a = a} {u = u} r κs t out out′ e) = (
   told-is (writtenMeans r) (out .now) (out′ .now) (lentAnswer (t .now) (stop a u (length (out .now)))) (e .answered)
       (e .written),
   sym (stop-lent (t .now) a u (length (out .now))),
+  e .real .fits,
 )
-
-token-fits : (s s′ : List ℕ) (c : LeaseCall) (x : Answer (List ℕ)) → CalledLent s c x s′ → TokenFits c
-token-fits s s′ c x (lent-held r κs t t′ e) = e .real .fits
-token-fits s s′ c x (lent-released r κs t t′ e) = e .real .fits
-token-fits s s′ c x (lent-stopped r κs t out out′ e) = e .real .fits
 
 -- The tokens of a run have 64 bits, which is what the theorems on lent bytes ask of a list of calls.
 pub lent-tokens : {s u : List ℕ} {cs : List LeaseCall} {rs : List (Answer (List ℕ))} → Ran CalledLent s cs rs u
     → Tokens cs
-lent-tokens k = ran-every CalledLent TokenFits token-fits k
+lent-tokens k = ran-every CalledLent TokenFits (λ s s′ c x l. called-lent s s′ c x l .2) k
 
 -- Every run of `hold_lent`, `release_lent` and `stop_lent` on bytes that are all 00 is answered as a new table answers
 -- those calls, and leaves the bytes of the table that they leave.
 pub lent-calls : {cs : List LeaseCall} {rs : List (Answer (List ℕ))} (k : Answered CalledLent (_≡ newBytes) cs rs)
     → (rs ≡ answersOn newTable cs) × (k .last ≡ bytesOfAll 8 (tableOn newTable cs))
-lent-calls {cs} k =
-    let r = ran-run CalledLent lentAnswer lentAfter (λ (s : List ℕ). s) called-lent (k .ran) in
-    let n = new-lent cs (lent-tokens (k .ran)) in (
-      r .0 ∙ ap (λ (s : List ℕ). lentAnswersOn s cs) (k .made) ∙ n .0,
-      r .1 ∙ ap (λ (s : List ℕ). lentOn s cs) (k .made) ∙ n .1,
-    )
+lent-calls k = lent-runs CalledLent called-lent k
 
 -- Document 01's sentences of every run of `hold_lent`, `release_lent` and `stop_lent`.
 pub lent-leases : LentLeases CalledLent
-lent-leases =
-    lent-sentences CalledLent (λ s s′ c x k. let e = called-lent s s′ c x k in (e .0, e .1, token-fits s s′ c x k))
+lent-leases = lent-sentences CalledLent called-lent
