@@ -21,8 +21,8 @@ use Rattle.exports.proofs.csafe_hold.Reads as hold-reads
 use Rattle.exports.proofs.csafe_release.Reads as release-reads
 use Rattle.exports.proofs.csafe_stop.Reads as stop-reads
 
--- A call on lent bytes, with the answer that the caller has in the number and the output, and the bytes afterwards: what
--- its contract tells the caller.
+-- A call on lent bytes, with the answer that the caller has in the number and the output, and the bytes afterwards:
+-- what its contract tells the caller.
 pub data CalledExported : List ℕ → LeaseCall → Answer (List ℕ) → List ℕ → Type 0 where
   exported-held : {a u : ℕ} (n : ℕ) (κs : Lfts 1) (s s′ : RefT (List ℕ))
       → hold-reads.Learnt κs (s, (a, (u, tt))) n (s′, (a, (u, tt)))
@@ -49,8 +49,8 @@ called-exported s s′ c x (exported-stopped {a = a} {u = u} n κs t out out′ 
   e .1 .1 .fits,
 )
 
--- Every run of `csafe_hold`, `csafe_release` and `csafe_stop` on bytes that are all 00 is answered as a new table answers
--- those calls, and leaves the bytes of the table that they leave.
+-- Every run of `csafe_hold`, `csafe_release` and `csafe_stop` on bytes that are all 00 is answered as a new table
+-- answers those calls, and leaves the bytes of the table that they leave.
 pub exported-calls : {cs : List LeaseCall} {rs : List (Answer (List ℕ))}
     (k : Answered CalledExported (_≡ newBytes) cs rs)
     → (rs ≡ answersOn newTable cs) × (k .last ≡ bytesOfAll 8 (tableOn newTable cs))

@@ -1,18 +1,18 @@
 -- Whose token an address has after a history: the last accepted hold not released since, and the token in the table.
 use Prim.Native.Nat.{ℕ}
-use mathlib.Core.Path.{_≡_, refl, sym, ap, ap₂, _∙_, subst}
+use mathlib.Core.Path.{_≡_, refl, sym, ap, _∙_, subst}
 use mathlib.Core.Logic.{_⊎_, inl, inr}
-use mathlib.Core.List.{List, [], _∷_, _++_}
+use mathlib.Core.List.{List, [], _∷_}
 use native.Mathlib.Omega.{arith}
 use lib.Dec.{eqb}
-use borrow.Author.Tests.{eqb-true, eqb-false, eq-eqb, ne-eqb}
+use borrow.Author.Tests.{eqb-true, eqb-false, eq-eqb}
 use Rattle.lists.specs.Choice.{pick, Every}
 use Rattle.lists.specs.Machine.{leftAfter}
 use Rattle.lists.proofs.Cases.{by-bool}
 use Rattle.lists.proofs.Machines.{left-append}
 use Rattle.answer.specs.Answer.{Answer, result, refused}
 use Rattle.lease.specs.Lease.{LeaseCall, hold, release, stop, addressOf}
-use Rattle.lease.specs.History.{Exchange, exchange, Accepted, Passes, LastHold, Held, Free}
+use Rattle.lease.specs.History.{Exchange, exchange, Accepted, Passes, LastHold}
 
 -- ---- the token that a history leaves at an address
 

@@ -92,7 +92,8 @@ pub hold-stored-lent : (a t : ℕ) (s : List ℕ) (x : Answer (List ℕ)) → se
 hold-stored-lent a t s (result w) = refl
 hold-stored-lent a t s (refused n) = refl
 
-pub release-stored-lent : (a t : ℕ) (s : List ℕ) (x : Answer (List ℕ)) → settledLent x a 0 s ≡ lentLeft x (release a t) s
+pub release-stored-lent : (a t : ℕ) (s : List ℕ) (x : Answer (List ℕ))
+    → settledLent x a 0 s ≡ lentLeft x (release a t) s
 release-stored-lent a t s (result w) = refl
 release-stored-lent a t s (refused n) = refl
 

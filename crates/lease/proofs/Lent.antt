@@ -226,13 +226,13 @@ module _ (called : List ℕ → LeaseCall → Answer (List ℕ) → List ℕ →
       let same : t ≡ s = q ∙ ap table (other-length o o′ c x n k .1) ∙ sym p in
       subst (λ (v : List ℕ). Follows (tableOf v) es) same (follows-lent rest (ap length same ∙ size))
 
-  -- A run on bytes that are all 00 is answered as a new table answers those calls, and leaves the bytes of the table that
-  -- they leave.
+  -- A run on bytes that are all 00 is answered as a new table answers those calls, and leaves the bytes of the table
+  -- that they leave.
   pub lent-runs : {cs : List LeaseCall} {rs : List (Answer (List ℕ))} (k : Answered called (_≡ newBytes) cs rs)
       → (rs ≡ answersOn newTable cs) × (k .last ≡ bytesOfAll 8 (tableOn newTable cs))
   lent-runs {cs} k =
-      let r = ran-run called lentAnswer lentAfter (λ (s : List ℕ). s) (λ s t c x l. let e = each s t c x l in (e .0, e .1))
-      (k .ran) in
+      let r = ran-run called lentAnswer lentAfter (λ (s : List ℕ). s)
+      (λ s t c x l. let e = each s t c x l in (e .0, e .1)) (k .ran) in
       let n = new-lent cs (ran-every called TokenFits (λ s t c x l. each s t c x l .2) (k .ran)) in (
         r .0 ∙ ap (λ (s : List ℕ). lentAnswersOn s cs) (k .made) ∙ n .0,
         r .1 ∙ ap (λ (s : List ℕ). lentOn s cs) (k .made) ∙ n .1,

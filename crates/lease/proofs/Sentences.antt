@@ -1,7 +1,7 @@
 -- Document 01's sentences hold of every history that follows a table.
 use Prim.Native.Nat.{ℕ}
 use mathlib.Core.Path.{_≡_, refl, sym, ap, _∙_, subst}
-use mathlib.Core.Bool.{true, false}
+use mathlib.Core.Bool.{false}
 use mathlib.Core.Logic.{_⊎_, inl, inr}
 use mathlib.Core.List.{List, [], _∷_, _++_, append-assoc}
 use lib.Dec.{eqb}
@@ -11,12 +11,12 @@ use Rattle.lists.specs.Choice.{Every}
 use Rattle.lists.proofs.Cases.{by-bool}
 use Rattle.lists.proofs.Machines.{left-append}
 use Rattle.answer.specs.Answer.{Answer, result}
-use Rattle.lease.specs.Lease.{LeaseCall, hold, release, stop, addressOf, owns, answerOf, tableAnswer}
+use Rattle.lease.specs.Lease.{LeaseCall, hold, release, stop, owns}
 use Rattle.lease.specs.History.{newTable, Exchange, exchange, callsOf, historyAt, LastHold, Held, Free}
 use Rattle.lease.specs.Leases.{Leases, HoldGets, ReleaseGets, StopGets, HeldAgain, Probes}
 use Rattle.lease.proofs.LeaseLaws.{range-means}
-use Rattle.lease.proofs.HistoryLaws.{leaseLeft, leaseStep, leasedTo}
-use Rattle.lease.proofs.TableHistory.{Follows, tableBy, follows-split, token-by, length-by, new-length, new-free}
+use Rattle.lease.proofs.HistoryLaws.{leaseLeft, leaseStep}
+use Rattle.lease.proofs.TableHistory.{Follows, tableBy, follows-split, token-by, length-by, new-length}
 use Rattle.lease.proofs.TableHistory.{Knows, knows}
 use Rattle.lease.proofs.CallLaws.{free, held, owner, hold-gets, release-gets, stop-gets}
 use Rattle.lease.proofs.Isolation.{alone, isolation, Wrong, wrong-alike}
@@ -60,7 +60,8 @@ token-next : (a : ℕ) (es : List Exchange) (e : Exchange) → Follows newTable 
 token-next a es e f =
     token-by newTable a (es ++ (e ∷ [])) new-length f
     ∙ left-append (leaseStep a) (getD newTable a 0) es (e ∷ [])
-    ∙ ap (λ (h : ℕ). leaseStep a h e) (sym (token-by newTable a es new-length (follows-split newTable es (e ∷ []) f .0)))
+    ∙ ap (λ (h : ℕ). leaseStep a h e)
+    (sym (token-by newTable a es new-length (follows-split newTable es (e ∷ []) f .0)))
 
 again : (before after : List Exchange) (a t u v room : ℕ) (x y z : Answer (List ℕ)) → LastHold a t before
     → (u ≡ 0 → ⊥)

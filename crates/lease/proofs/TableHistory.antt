@@ -13,12 +13,12 @@ use Rattle.lists.specs.Machine.{leftAfter}
 use Rattle.lists.proofs.Cases.{by-bool}
 use Rattle.frame.specs.Address.{inRange}
 use Rattle.answer.specs.Answer.{Answer, result, refused}
-use Rattle.lease.specs.Lease.{LeaseCall, hold, release, stop, addressOf, answerOf, tableAnswer, tableLeft}
+use Rattle.lease.specs.Lease.{LeaseCall, hold, release, stop, answerOf, tableAnswer, tableLeft}
 use Rattle.lease.specs.Lease.{tableAfter}
-use Rattle.lease.specs.History.{newTable, answersOn, Exchange, exchange, callsOf, answersOf, Accepted, LastHold}
+use Rattle.lease.specs.History.{newTable, answersOn, Exchange, callsOf, answersOf, Accepted, LastHold}
 use Rattle.lease.specs.Leases.{InRange}
 use Rattle.lease.proofs.LeaseLaws.{range-means, accepted-range}
-use Rattle.lease.proofs.HistoryLaws.{leaseLeft, leaseStep, leasedTo, last-hold-leaves, leased-last-hold}
+use Rattle.lease.proofs.HistoryLaws.{leaseLeft, leasedTo, last-hold-leaves, leased-last-hold}
 
 -- Each call of a history was answered as the table says that the call before it left.
 abbrev pub Follows : List ℕ → List Exchange → Type 0

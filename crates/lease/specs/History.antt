@@ -1,7 +1,6 @@
 -- Lists of calls: what they are answered by a table and by lent bytes, and whose token an address has, by the calls and
 -- the answers that they got.
 use Prim.Native.Nat.{ℕ, _^_, _<_}
-use mathlib.Core.Bool.{Bool}
 use mathlib.Core.Path.{_≡_}
 use mathlib.Core.List.{List, [], _∷_, _++_, map}
 use lib.Dec.{eqb}
@@ -103,8 +102,8 @@ Free a history = (t : ℕ) → LastHold a t history → ⊥
 -- `called s c x t`: the call c on the bytes s was answered x and left the bytes t.
 module _ (called : List ℕ → LeaseCall → Answer (List ℕ) → List ℕ → Type 0) where
   -- Calls in a row that lend the bytes of a table, with their answers, and the bytes that the last one left. Between
-  -- them a call may lend bytes of another length, o, and leave o′. It has no place in the history. The table's bytes may
-  -- be a part of o, or o a part of them, or neither: `table` says how they follow from what was lent.
+  -- them a call may lend bytes of another length, o, and leave o′. It has no place in the history. The table's bytes
+  -- may be a part of o, or o a part of them, or neither: `table` says how they follow from what was lent.
   pub data RanLent : List ℕ → List Exchange → List ℕ → Type 0 where
     ended : {s : List ℕ} → RanLent s [] s
     call : (s t : List ℕ) (c : LeaseCall) (x : Answer (List ℕ)) {u : List ℕ} {history : List Exchange}

@@ -39,8 +39,8 @@ pub record StopGets (history : List Exchange) (a t room : ℕ) (x : Answer (List
   pub not-holder : Exactly (x ≡ refused 11) (InRange a × (LastHold a t history → ⊥))
   pub no-room : Exactly (x ≡ refused 1) ((room < length (stopFrame a)) × LastHold a t history)
 
--- The holder t releases, then any token u but 0 holds, then v stops: the release and the hold are accepted, and the stop
--- is written exactly where v is u and there is room.
+-- The holder t releases, then any token u but 0 holds, then v stops: the release and the hold are accepted, and the
+-- stop is written exactly where v is u and there is room.
 pub record HeldAgain (a u v room : ℕ) (x y z : Answer (List ℕ)) : Type 0 where
   pub releases : x ≡ result []
   pub holds : y ≡ result []
@@ -59,7 +59,8 @@ Probes a history (stop b t room) = LastHold a t history → ⊥
 pub record Leases (answered : (tokens : List ℕ) → List Exchange → Type 0) : Type 0 where
   -- After a history from a new table on an address has a holder, or is free.
   pub held-or-free : (history : List Exchange) (a : ℕ) → answered newTable history → Held a history ⊎ Free a history
-  -- Every hold, release and stop of a history from a new table on, whatever follows it.
+  -- Every hold, release and stop of a history from a new table on, whatever follows it. The holder that releases may be
+  -- followed by another.
   pub holds : (before after : List Exchange) (a t : ℕ) (x : Answer (List ℕ))
       → answered newTable (before ++ exchange (hold a t) x ∷ after) → HoldGets before a t x
   pub releases : (before after : List Exchange) (a t : ℕ) (x : Answer (List ℕ))
@@ -71,9 +72,9 @@ pub record Leases (answered : (tokens : List ℕ) → List Exchange → Type 0) 
       → answered newTable
       (before ++ exchange (release a t) x ∷ exchange (hold a u) y ∷ exchange (stop a v room) z ∷ after)
       → HeldAgain a u v room x y z
-  -- Nothing tells a wrong token from a free address. After one history tokens that are not the holder's release and stop
-  -- at address a, after another the address is free and gets the same calls, and both may have calls at other addresses
-  -- in between: the answers at a are the same.
+  -- Nothing tells a wrong token from a free address. After one history come releases and stops at address a with
+  -- tokens that are not the holder's. After another the address is free and gets the same calls. Both may have calls at
+  -- other addresses in between. The answers at a are the same.
   pub wrong-or-free : (a : ℕ) (held free more also : List Exchange) → answered newTable (held ++ more)
       → answered newTable (free ++ also) → Free a free → Every (Probes a held) (callsOf (historyAt a more))
       → callsOf (historyAt a more) ≡ callsOf (historyAt a also) → historyAt a more ≡ historyAt a also
