@@ -1,4 +1,7 @@
 pub mod PackedLaws
 pub mod AnswerLaws
+pub mod LeaseCalls
 pub mod LineStateLaws
 pub mod LineAnswerLaws
+pub mod ToldLaws
+pub mod LineToldLaws

@@ -1,6 +1,6 @@
 -- The theorems of the functions themselves: any run of calls, known by nothing but what the contracts tell a caller.
 use Prim.Native.Nat.{ℕ}
-use mathlib.Core.Path.{_≡_, sym, ap, _∙_}
+use mathlib.Core.Path.{_≡_, refl, sym, ap, _∙_}
 use mathlib.Core.List.{List}
 use lib.ListN.{length, take, drop}
 use lib.Seq.{take-append-seam}
@@ -14,13 +14,15 @@ use Rattle.answer.specs.Draft.{writtenMeans}
 use Rattle.answer.specs.declared.Written.{Written}
 use Rattle.lease.specs.Lease.{LeaseCall, hold, release, stop, tableAnswer, tableAfter, lentAnswer, lentAfter}
 use Rattle.lease.specs.Answers.{leaseMeans, writtenLength, outAfter, stopTold}
-use Rattle.lease.specs.History.{newTable, newBytes, answersOn, tableOn, lentAnswersOn, lentOn, Tokens, TokenFits}
-use Rattle.lease.specs.History.{callsAt, answersAt}
+use Rattle.lease.specs.History.{newTable, newBytes, answersOn, tableOn, Tokens, TokenFits}
+use Rattle.lease.specs.History.{Exchange, callsOf, answersOf}
+use Rattle.lease.specs.Leases.{Leases, LentLeases}
 use Rattle.lease.specs.declared.LeaseTable.{LeaseTable}
 use Rattle.lease.specs.declared.Leased.{Leased}
 use Rattle.lease.specs.declared.LeaseAnswer.{LeaseAnswer}
-use Rattle.lease.proofs.Isolation.{isolation}
-use Rattle.lease.proofs.Lent.{stop-table, stop-lent, new-lent}
+use Rattle.lease.proofs.TableHistory.{follows-answers}
+use Rattle.lease.proofs.Sentences.{sentences}
+use Rattle.lease.proofs.Lent.{stop-table, stop-lent, lent-runs, lent-sentences}
 use Rattle.lease.proofs.LeaseTable.new.Reads as new-reads
 use Rattle.lease.proofs.LeaseTable.hold.Reads as hold-reads
 use Rattle.lease.proofs.LeaseTable.release.Reads as release-reads
@@ -30,7 +32,7 @@ use Rattle.lease.proofs.release_lent.Reads as release-lent-reads
 use Rattle.lease.proofs.stop_lent.Reads as stop-lent-reads
 
 -- What a caller of stop has is the answer that the contract names.
-told-is : (a : Answer ℕ) (out last : List ℕ) (x : Answer (List ℕ)) → a ≡ writtenLength x → last ≡ outAfter x out
+pub told-is : (a : Answer ℕ) (out last : List ℕ) (x : Answer (List ℕ)) → a ≡ writtenLength x → last ≡ outAfter x out
     → stopTold a last ≡ x
 unfolding stopTold
 told-is a out last (result w) e o =
@@ -75,6 +77,27 @@ table-calls {cs} k =
       r .1 ∙ ap (λ (ts : List ℕ). tableOn ts cs) (k .made),
     )
 
+-- A run on a table with these 256 tokens.
+abbrev pub TableRun : List ℕ → List Exchange → Type 0
+TableRun tokens history =
+    Answered Called (λ (t : LeaseTable). (t .tokens ≡ tokens) × (length tokens ≡ 256)) (callsOf history)
+    (answersOf history)
+
+-- A run on a table that `new` gave is one on a new table.
+pub new-run : (history : List Exchange) → Answered Called Made (callsOf history) (answersOf history)
+    → TableRun newTable history
+new-run history k = record { start = k .start; made = (k .made, refl); last = k .last; ran = k .ran }
+
+-- Document 01's sentences of every run of `new`, `hold`, `release` and `stop`.
+pub table-leases : Leases TableRun
+table-leases =
+    sentences TableRun (λ ts es k. (
+      k .made .1,
+      follows-answers ts es
+          (ran-run Called tableAnswer tableAfter (λ (t : LeaseTable). t .tokens) called (k .ran) .0
+          ∙ ap (λ (us : List ℕ). answersOn us (callsOf es)) (k .made .0)),
+    ))
+
 -- ---- calls on lent bytes
 
 -- A call on lent bytes, with its answer and the bytes afterwards: what its contract tells the caller.
@@ -89,54 +112,29 @@ pub data CalledLent : List ℕ → LeaseCall → Answer (List ℕ) → List ℕ 
       → stop-lent-reads.Learnt κs (s, (a, (u, (out, tt)))) r (s, (a, (u, (out′, tt))))
       → CalledLent (s .now) (stop a u (length (out .now))) (stopTold (writtenMeans r) (out′ .now)) (s .now)
 
--- A call on lent bytes is answered, and leaves the bytes, as the definitions say.
+-- A call on lent bytes is answered, and leaves the bytes, as the definitions say, and its token has 64 bits.
 called-lent : (s s′ : List ℕ) (c : LeaseCall) (x : Answer (List ℕ)) → CalledLent s c x s′
-    → (x ≡ lentAnswer s c) × (s′ ≡ lentAfter s c)
-called-lent s s′ c x (lent-held r κs t t′ e) = (e .answered, e .left)
-called-lent s s′ c x (lent-released r κs t t′ e) = (e .answered, e .left)
+    → (x ≡ lentAnswer s c) × (s′ ≡ lentAfter s c) × TokenFits c
+called-lent s s′ c x (lent-held r κs t t′ e) = (e .answered, e .left, e .real .fits)
+called-lent s s′ c x (lent-released r κs t t′ e) = (e .answered, e .left, e .real .fits)
 called-lent s s′ c x (lent-stopped {a = a} {u = u} r κs t out out′ e) = (
   told-is (writtenMeans r) (out .now) (out′ .now) (lentAnswer (t .now) (stop a u (length (out .now)))) (e .answered)
       (e .written),
-  sym (stop-lent (t .now) a u (length (out .now)) (e .real .bytes)),
+  sym (stop-lent (t .now) a u (length (out .now))),
+  e .real .fits,
 )
-
-token-fits : (s s′ : List ℕ) (c : LeaseCall) (x : Answer (List ℕ)) → CalledLent s c x s′ → TokenFits c
-token-fits s s′ c x (lent-held r κs t t′ e) = e .real .fits
-token-fits s s′ c x (lent-released r κs t t′ e) = e .real .fits
-token-fits s s′ c x (lent-stopped r κs t out out′ e) = e .real .fits
 
 -- The tokens of a run have 64 bits, which is what the theorems on lent bytes ask of a list of calls.
 pub lent-tokens : {s u : List ℕ} {cs : List LeaseCall} {rs : List (Answer (List ℕ))} → Ran CalledLent s cs rs u
     → Tokens cs
-lent-tokens k = ran-every CalledLent TokenFits token-fits k
+lent-tokens k = ran-every CalledLent TokenFits (λ s s′ c x l. called-lent s s′ c x l .2) k
 
 -- Every run of `hold_lent`, `release_lent` and `stop_lent` on bytes that are all 00 is answered as a new table answers
 -- those calls, and leaves the bytes of the table that they leave.
 pub lent-calls : {cs : List LeaseCall} {rs : List (Answer (List ℕ))} (k : Answered CalledLent (_≡ newBytes) cs rs)
     → (rs ≡ answersOn newTable cs) × (k .last ≡ bytesOfAll 8 (tableOn newTable cs))
-lent-calls {cs} k =
-    let r = ran-run CalledLent lentAnswer lentAfter (λ (s : List ℕ). s) called-lent (k .ran) in
-    let n = new-lent cs (lent-tokens (k .ran)) in (
-      r .0 ∙ ap (λ (s : List ℕ). lentAnswersOn s cs) (k .made) ∙ n .0,
-      r .1 ∙ ap (λ (s : List ℕ). lentOn s cs) (k .made) ∙ n .1,
-    )
+lent-calls k = lent-runs CalledLent called-lent k
 
--- ---- isolation
-
--- Answers that are a new table's to calls that agree on one address's calls are equal at that address.
-alike : (a : ℕ) (cs ds : List LeaseCall) (rs ss : List (Answer (List ℕ))) → rs ≡ answersOn newTable cs
-    → ss ≡ answersOn newTable ds → callsAt a cs ≡ callsAt a ds → answersAt a cs rs ≡ answersAt a ds ss
-alike a cs ds rs ss e f q = ap (answersAt a cs) e ∙ isolation a cs ds q ∙ sym (ap (answersAt a ds) f)
-
--- Two runs on new tables that agree on one address's calls, with the lengths of their outputs, give that address equal
--- answers.
-pub table-isolated : (a : ℕ) (cs ds : List LeaseCall) (rs ss : List (Answer (List ℕ))) → Answered Called Made cs rs
-    → Answered Called Made ds ss → callsAt a cs ≡ callsAt a ds → answersAt a cs rs ≡ answersAt a ds ss
-table-isolated a cs ds rs ss k l q = alike a cs ds rs ss (table-calls k .0) (table-calls l .0) q
-
--- Two runs on the bytes of new tables that agree on one address's calls, with the lengths of their outputs, give that
--- address equal answers.
-pub lent-isolated : (a : ℕ) (cs ds : List LeaseCall) (rs ss : List (Answer (List ℕ)))
-    → Answered CalledLent (_≡ newBytes) cs rs → Answered CalledLent (_≡ newBytes) ds ss → callsAt a cs ≡ callsAt a ds
-    → answersAt a cs rs ≡ answersAt a ds ss
-lent-isolated a cs ds rs ss k l q = alike a cs ds rs ss (lent-calls k .0) (lent-calls l .0) q
+-- Document 01's sentences of every run of `hold_lent`, `release_lent` and `stop_lent`.
+pub lent-leases : LentLeases CalledLent
+lent-leases = lent-sentences CalledLent called-lent

@@ -16,13 +16,11 @@ leaseMeans (Refused why) = refused (numberOf why)
 abbrev pub writtenLength : Answer (List ℕ) → Answer ℕ
 writtenLength a = through length a
 
-abbrev pub writtenIn : Answer (List ℕ) → List ℕ
-writtenIn (result w) = w
-writtenIn (refused n) = []
-
--- The output afterwards: what was written, and then the bytes that were there.
+-- The output afterwards, by the answer. A refusal leaves it as it is. After a result it is what was written, and then
+-- the bytes that were there.
 abbrev pub outAfter : Answer (List ℕ) → List ℕ → List ℕ
-outAfter r out = writtenIn r ++ drop (length (writtenIn r)) out
+outAfter (refused n) out = out
+outAfter (result w) out = w ++ drop (length w) out
 
 -- What a caller of stop has: the answer, and with a length that many bytes of the output.
 unfoldable pub stopTold : Answer ℕ → (last : List ℕ) → Answer (List ℕ)
