@@ -1,3 +1,4 @@
 pub mod ReplyLaws
 pub mod StatusLaws
 pub mod ReadsBack
+pub mod StatusCalls

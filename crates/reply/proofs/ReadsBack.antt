@@ -1,6 +1,6 @@
 -- What is written reads back.
 use Rattle.answer.proofs.Drafts.{written-first}
-use Prim.Native.Nat.{ℕ, _/_, _%_, _<_}
+use Prim.Native.Nat.{ℕ, _<_}
 use mathlib.Core.Path.{_≡_, refl, sym, ap, _∙_}
 use mathlib.Core.Bool.{Bool}
 use mathlib.Core.List.{List, [], _∷_, _++_, append-assoc, append-nil}
@@ -8,12 +8,12 @@ use native.Mathlib.Omega.{arith}
 use lib.Dec.{leb}
 use lib.ListN.{length, take}
 use Rattle.answer.specs.Draft.{Draft, draftAnswer, draftOut}
-use Rattle.answer.specs.Answer.{result, refused, Answer}
+use Rattle.answer.specs.Answer.{result, refused, Answer, through}
 use Rattle.lists.proofs.Cases.{by-bool}
 use Rattle.command.specs.Entries.{Entry, entry, items, entryBytes, WellFormed, Parsed, unsound, sound, parse, nthOf}
 use Rattle.command.specs.Answers.{partOf}
 use Rattle.command.proofs.Extents.{parse-last, nth-earlier, data-at}
-use Rattle.reply.specs.Status.{status, soundStatus, statusIn, StatusParts}
+use Rattle.reply.specs.Status.{status, statusIn, StatusParts}
 use Rattle.reply.specs.Replies.{reply, headIn, afterStatus, replyIn, itemOf, nthItem, statusDraft, withItem}
 use Rattle.reply.specs.Replies.{writeAll, ItemBytes, afterReply, itemDraft, Reply}
 
@@ -42,14 +42,14 @@ reply-of b v t p s es e f =
 -- A status alone reads back as that status and no items.
 pub status-reads-back : (b : ℕ) (w : List ℕ) → statusDraft b ≡ result w
     → (t : Bool) × (p : ℕ) × (s : ℕ) × (statusIn b ≡ result (status t p s)) × (replyIn w ≡ result (reply t p s []))
-unfolding statusDraft statusIn parse
-status-reads-back b w h =
-    by-bool (soundStatus b)
-    (λ y. let q : result (b ∷ []) ≡ result w = simp y at h in
-    let i : b ∷ [] ≡ w = cc in
-    let e : statusIn b ≡ result (status (leb 128 b) (b / 16 % 4) (b % 16)) = simp y in
-    (leb 128 b, b / 16 % 4, b % 16, e, ap replyIn (sym i) ∙ reply-of b [] (leb 128 b) (b / 16 % 4) (b % 16) [] e refl))
-    (λ y. let q : refused 8 ≡ result w = simp y at h in let z : _≡_ {A = ℕ} 0 1 = cc in absurd (omega arith))
+unfolding statusDraft parse
+status-reads-back b w h = case (statusIn b) refl h
+  where
+    case : (a : Answer StatusParts) → statusIn b ≡ a → through (λ t. b ∷ []) a ≡ result w
+        → (t : Bool) × (p : ℕ) × (s : ℕ) × (statusIn b ≡ result (status t p s)) × (replyIn w ≡ result (reply t p s []))
+    case (refused k) e f = let z : _≡_ {A = ℕ} 0 1 = cc in absurd (omega arith)
+    case (result (status t p s)) e f =
+        let i : b ∷ [] ≡ w = cc in (t, p, s, e, ap replyIn (sym i) ∙ reply-of b [] t p s [] e refl)
 
 with-item-means : (s : List ℕ) (b : ℕ) (d w : List ℕ) → withItem s b d ≡ result w
     → w ≡ s ++ entryBytes items (entry b d)

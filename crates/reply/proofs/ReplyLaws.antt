@@ -1,19 +1,17 @@
 -- Laws of replies that the functions' proofs cite.
-use Prim.Native.Nat.{ℕ, _+_, _/_, _%_, _≤_, _<_}
+use Prim.Native.Nat.{ℕ, _+_, _≤_, _<_}
 use mathlib.Core.Path.{_≡_, refl, sym, ap, _∙_}
 use mathlib.Core.Bool.{Bool}
 use mathlib.Core.List.{List, [], _∷_, _++_, append-assoc}
 use native.Mathlib.Omega.{arith}
-use lib.Dec.{leb}
 use lib.ListN.{length, getD, drop, set, length-append, length-set}
 use borrow.Author.Tests.{le-leb, lt-leb, lt-ltb}
-use Rattle.answer.specs.Answer.{result, refused, Answer}
+use Rattle.answer.specs.Answer.{result, refused, Answer, through}
 use Rattle.lists.specs.Splice.{splice}
-use Rattle.lists.proofs.Cases.{by-bool}
 use Rattle.lists.proofs.Splices.{length-splice, splice-next, set-splice}
 use Rattle.command.specs.Entries.{entry, items, entryBytes, Parsed, unsound, sound, parse, nthIn, Extent}
 use Rattle.command.specs.Answers.{counted}
-use Rattle.reply.specs.Status.{status, soundStatus, statusIn, statusMeans, StatusParts}
+use Rattle.reply.specs.Status.{status, statusIn, statusMeans, StatusParts}
 use Rattle.reply.specs.Replies.{reply, headIn, afterStatus, replyIn, replyOutline, replyAnswer, itemOf, nthItem}
 use Rattle.reply.specs.Replies.{statusDraft, withItem, afterReply, itemDraft, Reply}
 use Rattle.reply.specs.declared.status.StatusRead.{StatusRead}
@@ -74,21 +72,12 @@ item-is s n t p x h e = e ∙ of-parsed (parse items (drop 1 s) 0) ∙ sym (ap (
 -- ---- the draft of a status byte
 
 pub status-refused : (b k : ℕ) → refused k ≡ statusIn b → statusDraft b ≡ refused k
-unfolding statusIn statusDraft
-status-refused b k e =
-    by-bool (soundStatus b)
-    (λ y. let q : refused k ≡ result (status (leb 128 b) (b / 16 % 4) (b % 16)) = simp y at e in
-    let z : _≡_ {A = ℕ} 0 1 = cc in absurd (omega arith))
-    (λ y. let q : refused k ≡ refused 8 = simp y at e in
-    let m : k ≡ 8 = cc in (simp y) ∙ ap refused (sym m))
+unfolding statusDraft
+status-refused b k e = sym (ap (through (λ t. b ∷ [])) e)
 
 pub status-sound : (b : ℕ) (t : Bool) (p s : ℕ) → result (status t p s) ≡ statusIn b → statusDraft b ≡ result (b ∷ [])
-unfolding statusIn statusDraft
-status-sound b t p s e =
-    by-bool (soundStatus b)
-    (λ y. simp y)
-    (λ y. let q : result (status t p s) ≡ refused 8 = simp y at e in
-    let z : _≡_ {A = ℕ} 0 1 = cc in absurd (omega arith))
+unfolding statusDraft
+status-sound b t p s e = sym (ap (through (λ t. b ∷ [])) e)
 
 -- ---- the draft of an item
 

@@ -10,7 +10,7 @@ use Rattle.answer.specs.Answer.{Answer, result, refused, through, andThen}
 use Rattle.answer.specs.Draft.{Draft}
 use Rattle.answer.specs.Refusals.{numberOf}
 use Rattle.command.specs.Entries.{Entry, entry, items, entryBytes, Parsed, unsound, sound, parse, nthOf, Extent}
-use Rattle.reply.specs.Status.{status, soundStatus, statusIn, StatusParts}
+use Rattle.reply.specs.Status.{status, statusIn, StatusParts}
 use Rattle.reply.specs.declared.ReplyRead.{ReplyRead}
 use Rattle.reply.specs.declared.ReplyRead.the-variants.{Reply as ReadReply, Refused}
 
@@ -65,7 +65,7 @@ nthItem s n = itemOf (replyIn s) n
 
 -- A status byte alone: 8.
 unfoldable pub statusDraft : ℕ → Draft
-statusDraft b = pick (soundStatus b) (result (b ∷ [])) (refused 8)
+statusDraft b = through (λ t. b ∷ []) (statusIn b)
 
 -- Contents and an item after them: data over 255 is 7, contents over 117 are 2.
 unfoldable pub withItem : List ℕ → ℕ → List ℕ → Draft

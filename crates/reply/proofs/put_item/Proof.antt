@@ -16,26 +16,6 @@ use Rattle.reply.proofs.put_item.Tie as tie
 abbrev whole : tie.Start → List ℕ
 whole s = s .args .prior .now ++ (s .args .byte ∷ length (s .args .body .now) ∷ s .args .body .now)
 
-abbrev St : tie.After-slice-known2 → tie.Start
-St k = k .before .before .before .before .before .before .before .before .before .before .before
-
--- the output with the contents so far, the byte and the count
-abbrev stored : tie.After-slice-known2 → List ℕ
-stored k =
-    set (set (k .before .before .copy .last .1 .0) (length (St k .args .prior .now)) (St k .args .byte))
-    (length (St k .args .prior .now) + 1) (length (St k .args .body .now))
-
-stored-length : (k : tie.After-slice-known2) → length (stored k) ≡ length (St k .args .out .now)
-stored-length k =
-    length-set (set (k .before .before .copy .last .1 .0) (length (St k .args .prior .now)) (St k .args .byte))
-    (length (St k .args .prior .now) + 1) (length (St k .args .body .now))
-    ∙ length-set (k .before .before .copy .last .1 .0) (length (St k .args .prior .now)) (St k .args .byte)
-    ∙ k .before .before .copy .kept .1 .0
-
-room : (k : tie.After-slice-known2)
-    → length (St k .args .prior .now) + 2 + length (St k .args .body .now) ≤ length (stored k)
-room k = omega (arith, stored-length k, k .before .before .before .before .if4 .left)
-
 returns : tie.Need-returns
 returns c =
     let a = c .before .before .before .before .args in
@@ -57,7 +37,7 @@ returns-3 : tie.Need-returns-3
 returns-3 c =
     let a = c .before .before .before .before .before .before .args in
     writes-refusal _ 2 (a .out .now)
-    (item-long (a .prior .now) (a .byte) (a .body .now) (omega arith) (c .before .before .if1 .left) (c .if3 .taken))
+    (item-long (a .prior .now) (a .byte) (a .body .now) (omega arith) (c .before .before .if1 .left) (omega arith))
 
 returns-4 : tie.Need-returns-4
 returns-4 c =
@@ -93,6 +73,26 @@ part-copy-start c = simp length-set (omega (arith, c .before .before .copy .kept
 
 part-copy-end : tie.Need-part-copy-end
 part-copy-end c = search needs
+
+abbrev St : tie.After-slice-known2 → tie.Start
+St k = k .before .before .before .before .before .before .before .before .before .before .before
+
+-- the output with the contents so far, the byte and the count
+abbrev stored : tie.After-slice-known2 → List ℕ
+stored k =
+    set (set (k .before .before .copy .last .1 .0) (length (St k .args .prior .now)) (St k .args .byte))
+    (length (St k .args .prior .now) + 1) (length (St k .args .body .now))
+
+stored-length : (k : tie.After-slice-known2) → length (stored k) ≡ length (St k .args .out .now)
+stored-length k =
+    length-set (set (k .before .before .copy .last .1 .0) (length (St k .args .prior .now)) (St k .args .byte))
+    (length (St k .args .prior .now) + 1) (length (St k .args .body .now))
+    ∙ length-set (k .before .before .copy .last .1 .0) (length (St k .args .prior .now)) (St k .args .byte)
+    ∙ k .before .before .copy .kept .1 .0
+
+room : (k : tie.After-slice-known2)
+    → length (St k .args .prior .now) + 2 + length (St k .args .body .now) ≤ length (stored k)
+room k = omega (arith, stored-length k, k .before .before .before .before .if4 .left)
 
 copy-requires-2 : tie.Need-copy-requires-2
 copy-requires-2 c κs =
