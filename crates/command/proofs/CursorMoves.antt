@@ -30,7 +30,7 @@ unfolding commandAt nthIn nthOf
 refused-from s at k h n = case (parse commands (drop at s) 0) h
   where
     case : (p : Parsed) → nthIn commands at p 0 ≡ refused k → nthIn commands at p n ≡ refused k
-    case unsound e = e
+    case (unsound i) e = e
     case (sound []) e = e
     case (sound (x ∷ es)) e = let w : _≡_ {A = ℕ} 0 1 = cc in absurd (omega arith)
 
@@ -72,7 +72,7 @@ next-from s at n = case (parse commands (drop at s) 0) refl
         ∙ sym (refused-from s at k e (suc n))
 
     case : (p : Parsed) → parse commands (drop at s) 0 ≡ p → nthFrom s (indexPast at (here 0)) n ≡ here (suc n)
-    case unsound e = stays 7 (ap (λ (x : Parsed). nthIn commands at x 0) e)
+    case (unsound i) e = stays 7 (ap (λ (x : Parsed). nthIn commands at x 0) e)
     case (sound []) e = stays 15 (ap (λ (x : Parsed). nthIn commands at x 0) e)
     case (sound (x ∷ es)) e =
         let o = one-past s at x es e in

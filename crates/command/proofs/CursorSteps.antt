@@ -106,10 +106,10 @@ end-always s es h k =
     (stands, ap (commandAt s) stands ∙ none)
 
 -- On an unsound list a new cursor answers 7 and stays at the start, however often it is moved.
-pub unsound-always : (s : List ℕ) → parse commands s 0 ≡ unsound → (k : ℕ)
+pub unsound-always : (s : List ℕ) (at : ℕ) → parse commands s 0 ≡ unsound at → (k : ℕ)
     → (indexOf s k 0 ≡ 0) × (commandAt s (indexOf s k 0) ≡ refused 7)
 unfolding nthCommand nthIn indexOf
-unsound-always s h k =
+unsound-always s at h k =
     let seven : (n : ℕ) → commandAt s (indexOf s n 0) ≡ refused 7 =
     λ n. kth-step s n ∙ ap (λ (p : Parsed). nthIn commands 0 p n) h in
     (refused-stays s 0 7 (seven 0) k, seven k)

@@ -128,19 +128,22 @@ found-within limit at s n b start len h = case (parse limit (drop at s) 0) refl 
   where
     case : (p : Parsed) → parse limit (drop at s) 0 ≡ p → nthIn limit at p n ≡ result (found b start len)
         → start + len ≤ length s
-    case unsound e g = let w : _≡_ {A = ℕ} 0 1 = cc in absurd (omega arith)
+    case (unsound k) e g = let w : _≡_ {A = ℕ} 0 1 = cc in absurd (omega arith)
     case (sound es) e g =
         let m = parse-means limit (drop at s) 0 es e in
         let r = nth-within limit at es n b start len (m .2) g in
         omega (arith, ap length (m .1), length-drop at s)
 
+pub within-nth : (limit at : ℕ) (s : List ℕ) (n : ℕ) → InContents s (nthIn limit at (parse limit (drop at s) 0) n)
+within-nth limit at s n = case (nthIn limit at (parse limit (drop at s) 0) n) refl
+  where
+    case : (a : Answer Extent) → nthIn limit at (parse limit (drop at s) 0) n ≡ a → InContents s a
+    case (result (found b start len)) e = found-within limit at s n b start len e
+    case (refused k) e = tt
+
 pub within-command : (s : List ℕ) (n : ℕ) → InContents s (nthCommand s n)
 unfolding nthCommand
-within-command s n = case (nthIn commands 0 (parse commands s 0) n) refl
-  where
-    case : (a : Answer Extent) → nthIn commands 0 (parse commands s 0) n ≡ a → InContents s a
-    case (result (found b start len)) e = found-within commands 0 s n b start len e
-    case (refused k) e = tt
+within-command s n = within-nth commands 0 s n
 
 within-shifted : (s : List ℕ) (start len : ℕ) → start + len ≤ length s → (a : Answer Extent)
     → InContents (take len (drop start s)) a → InContents s (shifted start a)

@@ -1,6 +1,7 @@
 pub mod EntryLaws
 pub mod Sound
 pub mod Extents
+pub mod PartLaws
 pub mod InnerLaws
 pub mod Called
 pub mod CursorMoves

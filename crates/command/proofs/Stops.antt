@@ -35,7 +35,7 @@ module _ (p : Entry → Bool) where
 
   any-sound : (q : Parsed) → anyIn p q ≡ true → (es : List Entry) × (q ≡ sound es) × (anyOf p es ≡ true)
   unfolding anyIn
-  any-sound unsound h = absurd (false≢true h)
+  any-sound (unsound at) h = absurd (false≢true h)
   any-sound (sound es) h = (es, refl, h)
 
   sound-any : (q : Parsed) (es : List Entry) → q ≡ sound es → anyOf p es ≡ true → anyIn p q ≡ true

@@ -1,5 +1,6 @@
 pub mod Entries
 pub mod Answers
+pub mod Parts
 pub mod Commands
 pub mod Steps
 pub mod Traversal

@@ -17,7 +17,7 @@ anyOf p (e ∷ es) = pick (p e) true (anyOf p es)
 
 -- Whether an entry of what bytes are read as passes a test; no entry of an unsound list does.
 unfoldable pub anyIn : (Entry → Bool) → Parsed → Bool
-anyIn p unsound = false
+anyIn p (unsound at) = false
 anyIn p (sound es) = anyOf p es
 
 -- Data that is exactly 01 02.

@@ -28,7 +28,7 @@ reply-means (b ∷ v) t p s es h = case (statusIn b) (parse items v 0) refl refl
         → afterStatus a q ≡ result (reply t p s es)
         → (c : ℕ) × (u : List ℕ) × (b ∷ v ≡ c ∷ u) × (statusIn c ≡ result (status t p s)) × (parse items u 0 ≡ sound es)
     case (refused k) q e f g = let z : _≡_ {A = ℕ} 0 1 = cc in absurd (omega arith)
-    case (result (status t′ p′ s′)) unsound e f g = let z : _≡_ {A = ℕ} 0 1 = cc in absurd (omega arith)
+    case (result (status t′ p′ s′)) (unsound at) e f g = let z : _≡_ {A = ℕ} 0 1 = cc in absurd (omega arith)
     case (result (status t′ p′ s′)) (sound fs) e f g =
         let i : result (status t′ p′ s′) ≡ result (status t p s) = cc in
         let j : sound fs ≡ sound es = cc in (b, v, refl, e ∙ i, f ∙ j)

@@ -10,7 +10,8 @@ use Rattle.answer.specs.Answer.{result, refused, Answer, through}
 use Rattle.lists.specs.Splice.{splice}
 use Rattle.lists.proofs.Splices.{length-splice, splice-next, set-splice}
 use Rattle.command.specs.Entries.{entry, items, entryBytes, Parsed, unsound, sound, parse, nthIn, Extent}
-use Rattle.command.specs.Answers.{counted}
+use Rattle.command.specs.Answers.{entryCount, failsAt, counted, InContents}
+use Rattle.command.proofs.Extents.{within-nth}
 use Rattle.reply.specs.Status.{status, statusIn, statusMeans, StatusParts}
 use Rattle.reply.specs.Replies.{reply, headIn, afterStatus, replyIn, replyOutline, replyAnswer, itemOf, nthItem}
 use Rattle.reply.specs.Replies.{statusDraft, withItem, afterReply, itemDraft, Reply}
@@ -42,17 +43,17 @@ pub read-refused : (s : List ℕ) (k : ℕ) → replyIn s ≡ afterStatus (refus
 unfolding afterStatus replyAnswer
 read-refused s k h = sym (ap replyAnswer h)
 
-pub items-unsound : (t : Bool) (p s : ℕ) (q : Parsed) → counted q ≡ refused 7
+pub items-unsound : (t : Bool) (p s from : ℕ) (q : Parsed) (at : ℕ) → counted from q ≡ failsAt 7 at
     → refused 7 ≡ replyAnswer (afterStatus (result (status t p s)) q)
 unfolding afterStatus replyAnswer counted
-items-unsound t p s unsound e = refl
-items-unsound t p s (sound es) e = let z : _≡_ {A = ℕ} 0 1 = cc in absurd (omega arith)
+items-unsound t p s from (unsound k) at e = refl
+items-unsound t p s from (sound es) at e = let z : _≡_ {A = ℕ} 0 1 = cc in absurd (omega arith)
 
-pub items-counted : (t : Bool) (p s : ℕ) (q : Parsed) (n : ℕ) → counted q ≡ result n
+pub items-counted : (t : Bool) (p s from : ℕ) (q : Parsed) (n : ℕ) → counted from q ≡ entryCount n
     → result (replyOutline t p s n) ≡ replyAnswer (afterStatus (result (status t p s)) q)
 unfolding afterStatus replyAnswer counted
-items-counted t p s unsound n e = let z : _≡_ {A = ℕ} 0 1 = cc in absurd (omega arith)
-items-counted t p s (sound es) n e = let m : n ≡ length es = cc in ap (λ (k : ℕ). result (replyOutline t p s k)) m
+items-counted t p s from (unsound k) n e = let z : _≡_ {A = ℕ} 0 1 = cc in absurd (omega arith)
+items-counted t p s from (sound es) n e = let m : n ≡ length es = cc in ap (λ (k : ℕ). result (replyOutline t p s k)) m
 
 pub item-refused : (s : List ℕ) (n k : ℕ) → replyIn s ≡ afterStatus (refused k) (parse items (drop 1 s) 0)
     → refused k ≡ nthItem s n
@@ -66,8 +67,19 @@ unfolding afterStatus itemOf nthIn
 item-is s n t p x h e = e ∙ of-parsed (parse items (drop 1 s) 0) ∙ sym (ap (λ (r : Answer Reply). itemOf r n) h)
   where
     of-parsed : (q : Parsed) → nthIn items 1 q n ≡ itemOf (afterStatus (result (status t p x)) q) n
-    of-parsed unsound = refl
+    of-parsed (unsound at) = refl
     of-parsed (sound es) = refl
+
+-- An item stands within the contents.
+pub item-within : (s : List ℕ) (n : ℕ) → InContents s (nthItem s n)
+unfolding replyIn afterStatus itemOf nthIn
+item-within s n = case (headIn s) (parse items (drop 1 s) 0) (within-nth items 1 s n)
+  where
+    case : (h : Answer StatusParts) (q : Parsed) → InContents s (nthIn items 1 q n)
+        → InContents s (itemOf (afterStatus h q) n)
+    case (refused k) q w = tt
+    case (result (status t p x)) (unsound at) w = tt
+    case (result (status t p x)) (sound es) w = w
 
 -- ---- the draft of a status byte
 

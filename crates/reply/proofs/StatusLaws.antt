@@ -12,9 +12,9 @@ use Rattle.lists.proofs.Cases.{by-bool}
 use Rattle.answer.specs.Answer.{Answer, result, refused}
 use Rattle.reply.specs.Status.{State, error, ready, idle, haveId, inUse, pause, finish, manual, offline}
 use Rattle.reply.specs.Status.{stateNumber, Previous, ok, reject, bad, notReady, previousNumber, StatusParts}
-use Rattle.reply.specs.Status.{status, isState, statusOf, statusIn, statusByte, NamedStatus, partsNamed, byteNamed}
+use Rattle.reply.specs.Status.{status, isState, statusOf, statusIn, statusByte, NamedStatus, partsNamed}
 use Rattle.reply.specs.Status.{StatusNamed, StatusByte, NoStatus, StatusJudged, isStatus, fault, PartsJudged}
-use Rattle.reply.specs.Status.{haveNames, nameless}
+use Rattle.reply.specs.Status.{byteNamed, haveNames, nameless}
 
 -- ---- names and numbers
 

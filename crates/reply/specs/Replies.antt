@@ -30,7 +30,7 @@ headIn (b ∷ s) = statusIn b
 
 -- A status and the items after it: 7 where a count is unsound.
 abbrev pub withItems : Parsed → StatusParts → Answer Reply
-withItems unsound (status t p s) = refused 7
+withItems (unsound at) (status t p s) = refused 7
 withItems (sound es) (status t p s) = result (reply t p s es)
 
 unfoldable pub afterStatus : Answer StatusParts → Parsed → Answer Reply

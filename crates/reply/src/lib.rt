@@ -14,7 +14,8 @@ ghost use mathlib.Core.Path.{_≡_};
 ghost use lib.ListN.{length, drop};
 ghost use Rattle.answer.specs.Answer.{result};
 ghost use Rattle.answer.specs.Draft.{draftAnswer, draftOut, writtenMeans};
-ghost use Rattle.command.specs.Answers.{foundMeans, partOf};
+ghost use Rattle.command.specs.Answers.{foundMeans};
+ghost use Rattle.command.specs.Parts.{IsData};
 ghost use Rattle.reply.specs.Status.{statusMeans, partsOf};
 ghost use Rattle.reply.specs.Replies.{headIn, replyIn, replyMeans, replyAnswer, nthItem, statusDraft, withItem};
 ghost use Rattle.reply.specs.Replies.{itemDraft, afterStatus};
@@ -60,9 +61,10 @@ pub fn nth_item(contents: &[u8], n: usize) -> Found
     }
 }
 
-// The data of the n-th item; empty where `nth_item` refuses.
+// The data of the n-th item, the part of the contents where it stands; empty and at the beginning where `nth_item`
+// refuses.
 pub fn nth_item_data(contents: &[u8], n: usize) -> &[u8]
-    ensures { λ r. ⌜ now r ≡ partOf (now (contents .entry)) (nthItem (now (contents .entry)) n) ⌝ }
+    ensures { λ r. ⌜ IsData (contents .entry) r (nthItem (now (contents .entry)) n) ⌝ }
 {
     let found = nth_item(contents, n);
     entries::found_part(contents, found)
@@ -121,7 +123,7 @@ fn read_items(contents: &[u8], status: Status) -> ReplyRead
 {
     let all = entries::count(COUNTED, contents, Cursor { at: ITEMS });
     match all {
-        Counted::Unsound => ReplyRead::Refused(Refusal::BadCount),
+        Counted::Unsound { at: _ } => ReplyRead::Refused(Refusal::BadCount),
         Counted::Entries(n) => ReplyRead::Reply { status, items: n },
     }
 }
