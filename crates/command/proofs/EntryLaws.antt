@@ -12,7 +12,7 @@ use lib.Seq.{drop-cons, drop-drop, length-take-le}
 use borrow.Author.Tests.{ltb-true, ltb-false, leb-true, leb-false, le-leb, lt-leb}
 use Rattle.lists.specs.Choice.{pick}
 use Rattle.lists.proofs.Cases.{by-bool}
-use Rattle.command.specs.Entries.{Entry, entry, entryBytes, Parsed, unsound, sound, withEntry, parse}
+use Rattle.command.specs.Entries.{entry, entryBytes, Parsed, unsound, sound, withEntry, parse}
 use Rattle.command.specs.Entries.{parseCounted, headOf, found, nthOf, nthIn, Extent}
 use Rattle.answer.specs.Answer.{Answer, result, refused}
 use Rattle.command.specs.Answers.{CountAnswer, entryCount, failsAt, counted}

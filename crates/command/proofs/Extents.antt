@@ -66,7 +66,16 @@ nth-at limit at (d ∷ before) e rest =
     (add-assoc at (length (entryBytes limit d)) (length (listBytes limit before))
     ∙ ap (λ (n : ℕ). at + n) (sym (length-append (entryBytes limit d) (listBytes limit before))))
 
-body-at : (limit : ℕ) (p : List ℕ) (e : Entry) (r : List ℕ) → WellFormed limit e
+-- An entry's bytes are its byte, its count where it has one, and its data.
+pub width-of : (limit : ℕ) (e : Entry) → WellFormed limit e
+    → headOf limit (e .byte) + length (e .body) ≡ length (entryBytes limit e)
+unfolding entryBytes
+width-of limit e f =
+    by-bool (ltb (e .byte) limit)
+    (λ y. simp y (omega arith))
+    (λ y. let z : length (e .body) ≡ 0 = ap length (f (ltb-false (e .byte) limit y)) in simp y (omega arith))
+
+pub body-at : (limit : ℕ) (p : List ℕ) (e : Entry) (r : List ℕ) → WellFormed limit e
     → take (length (e .body)) (drop (length p + headOf limit (e .byte)) (p ++ (entryBytes limit e ++ r))) ≡ e .body
 unfolding entryBytes
 body-at limit p e r f =
@@ -76,7 +85,7 @@ body-at limit p e r f =
     (λ y. let q : e .body ≡ [] = f (ltb-false (e .byte) limit y) in
     (simp y) ∙ ap (λ (l : List ℕ). take (length l) r) q ∙ sym q)
 
-formed-one : (limit : ℕ) (before : List Entry) (e : Entry) (rest : List Entry)
+pub formed-one : (limit : ℕ) (before : List Entry) (e : Entry) (rest : List Entry)
     → AllWellFormed limit (before ++ (e ∷ rest)) → WellFormed limit e
 unfolding AllWellFormed
 formed-one limit [] e rest a = a .0

@@ -2,6 +2,7 @@ pub mod EntryLaws
 pub mod Sound
 pub mod Extents
 pub mod PartLaws
+pub mod Table
 pub mod InnerLaws
 pub mod Called
 pub mod CursorMoves
@@ -10,4 +11,6 @@ pub mod Held
 pub mod Thin
 pub mod StopLaws
 pub mod Stops
+pub mod Calls
+pub mod CursorCalls
 pub mod Examples

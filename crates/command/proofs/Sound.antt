@@ -67,23 +67,28 @@ parse-means limit (b ∷ n ∷ s) zero es h =
     let m = short-means limit b (n ∷ s) y (p .0) es (parse-means limit (n ∷ s) zero (p .0) (p .1)) (p .2) in
     (omega arith, m .0, m .1))
 
--- The bytes of well-formed entries are parsed as those entries.
-pub parse-wire : (limit : ℕ) (es : List Entry) → AllWellFormed limit es → parse limit (listBytes limit es) 0 ≡ sound es
-unfolding parse listBytes entryBytes AllWellFormed withEntry
-parse-wire limit [] f = refl
-parse-wire limit (e ∷ es) f =
+-- The bytes of a well-formed entry, and any bytes after them.
+pub parse-entry : (limit : ℕ) (e : Entry) (rest : List ℕ) → WellFormed limit e
+    → parse limit (entryBytes limit e ++ rest) 0 ≡ withEntry limit e (parse limit rest 0)
+unfolding parse entryBytes
+parse-entry limit e rest f =
     by-bool (ltb (e .byte) limit)
-    (λ y. let rest = listBytes limit es in
-    let n = length (e .body) in
+    (λ y. let n = length (e .body) in
     let fits : n ≤ length (e .body ++ rest) = omega (arith, length-append (e .body) rest) in
     (simp (y, le-leb n (length (e .body ++ rest)) fits))
     ∙ ap (λ (x : List ℕ). withEntry limit (entry (e .byte) x) (parse limit (e .body ++ rest) n))
     (take-append-seam (e .body) rest)
     ∙ ap (withEntry limit e) (skip-within limit n (e .body ++ rest) fits
-    ∙ ap (λ (x : List ℕ). parse limit x 0) (drop-append-seam (e .body) rest) ∙ parse-wire limit es (f .1)))
-    (λ y. let q : e .body ≡ [] = f .0 (ltb-false (e .byte) limit y) in
-    (simp y) ∙ ap (λ (x : List ℕ). withEntry limit (entry (e .byte) x) (parse limit (listBytes limit es) 0)) (sym q)
-    ∙ ap (withEntry limit e) (parse-wire limit es (f .1)))
+    ∙ ap (λ (x : List ℕ). parse limit x 0) (drop-append-seam (e .body) rest)))
+    (λ y. let q : e .body ≡ [] = f (ltb-false (e .byte) limit y) in
+    (simp y) ∙ ap (λ (x : List ℕ). withEntry limit (entry (e .byte) x) (parse limit rest 0)) (sym q))
+
+-- The bytes of well-formed entries are parsed as those entries.
+pub parse-wire : (limit : ℕ) (es : List Entry) → AllWellFormed limit es → parse limit (listBytes limit es) 0 ≡ sound es
+unfolding parse listBytes AllWellFormed withEntry
+parse-wire limit [] f = refl
+parse-wire limit (e ∷ es) f =
+    parse-entry limit e (listBytes limit es) (f .0) ∙ ap (withEntry limit e) (parse-wire limit es (f .1))
 
 -- Bytes are sound, as a list of entries, exactly when they are the bytes of those entries, each well formed, one after
 -- the other.

@@ -4,5 +4,6 @@ pub mod Parts
 pub mod Commands
 pub mod Steps
 pub mod Traversal
+pub mod Table
 pub mod Stop
 pub mod Private

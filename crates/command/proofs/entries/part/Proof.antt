@@ -1,5 +1,4 @@
 use mathlib.Core.Path.{refl}
-use native.Mathlib.Omega.{arith}
 use denote.Ref.{ptr}
 use Rattle.command.proofs.PartLaws.{part-past, part-rest, part-whole, placed, past-placed}
 use borrow.Author.Needs.{needs}
