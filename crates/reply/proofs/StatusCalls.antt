@@ -4,12 +4,13 @@ use mathlib.Core.Path.{_≡_, sym, ap, _∙_}
 use mathlib.Core.Bool.{Bool}
 use native.Mathlib.Omega.{arith}
 use Rattle.answer.specs.Answer.{Answer, result}
+use Rattle.command.proofs.Calls.{exactly}
 use Rattle.reply.specs.Status.{StatusParts, status, partsOf, statusMeans, StatusByte, StatusJudged, PartsJudged}
 use Rattle.reply.specs.declared.status.Status.{Status}
 use Rattle.reply.specs.declared.status.StatusRead.{StatusRead}
 use Rattle.reply.specs.declared.status.StatusRead.the-variants.{Status as ReadStatus, Refused}
-use Rattle.reply.proofs.StatusLaws.{named-parts, named-result, sound-byte, byte-sound}
-use Rattle.reply.proofs.StatusLaws.{madeOf, made-of-names, byte-again, status-by-table, parts-by-table}
+use Rattle.reply.proofs.StatusLaws.{named-parts, named-result, sound-byte, byte-sound, madeOf, made-of-names}
+use Rattle.reply.proofs.StatusLaws.{byte-again, status-by-table, parts-by-table}
 use Rattle.reply.proofs.status.Status.of.Reads as of-reads
 use Rattle.reply.proofs.status.Status.from_byte.Reads as from-byte-reads
 use Rattle.reply.proofs.status.Status.to_byte.Reads as to-byte-reads
@@ -28,13 +29,12 @@ CalledToByte s b = to-byte-reads.Learnt tt (s, tt) b (s, tt)
 -- is the byte of none.
 pub from-byte-exactly : (b : ℕ) (r : StatusRead) → CalledFromByte b r → (a : Answer StatusParts)
     → (statusMeans r ≡ a → StatusJudged b a) × (StatusJudged b a → statusMeans r ≡ a)
-from-byte-exactly b r k a =
-    let t = status-by-table b a in ((λ e. t .0 (sym k ∙ e)), (λ j. k ∙ t .1 j))
+from-byte-exactly b r k a = exactly (StatusJudged b) k (status-by-table b a)
 
 -- `of` answers its arguments as a status exactly when both numbers have names, and 8 exactly when one has none.
 pub of-exactly : (t : Bool) (p s : ℕ) (r : StatusRead) → CalledOf t p s r → (a : Answer StatusParts)
     → (statusMeans r ≡ a → PartsJudged (status t p s) a) × (PartsJudged (status t p s) a → statusMeans r ≡ a)
-of-exactly t p s r k a = let j = parts-by-table t p s a in ((λ e. j .0 (sym k ∙ e)), (λ i. k ∙ j .1 i))
+of-exactly t p s r k a = exactly (PartsJudged (status t p s)) k (parts-by-table t p s a)
 
 -- an answer with the parts of a status is that status
 same-status : (r : StatusRead) (s : Status) → statusMeans r ≡ result (partsOf s) → r ≡ ReadStatus s

@@ -294,6 +294,14 @@ status-again n =
     ap statusIn (made-of-names n)
     ∙ byte-sound (byteNamed n) (partsNamed n) (record { named = n; byte = refl; parts = refl })
 
+-- a byte that is refused is a fault
+pub refused-fault : (b k : ℕ) → statusIn b ≡ refused k → (k ≡ 8) × NoStatus b
+refused-fault b k e = (
+  refused-8 b k e,
+  (λ t j. let q : result t ≡ refused k = sym (byte-sound b t j) ∙ e in
+      let z : _≡_ {A = ℕ} 0 1 = cc in omega arith),
+)
+
 -- A byte is answered with the parts of its status exactly when it is the byte of one, and with 8 exactly when it is the
 -- byte of none.
 pub status-by-table : (b : ℕ) (a : Answer StatusParts)
@@ -303,9 +311,8 @@ status-by-table b a = ((λ e. subst (λ (x : Answer StatusParts). StatusJudged b
     judged : (x : Answer StatusParts) → statusIn b ≡ x → StatusJudged b x
     judged (result t) e = isStatus t (sound-byte b t e)
     judged (refused k) e =
-        subst (λ (n : ℕ). StatusJudged b (refused n)) (sym (refused-8 b k e))
-        (fault (λ t j. let q : result t ≡ refused k = sym (byte-sound b t j) ∙ e in
-        let z : _≡_ {A = ℕ} 0 1 = cc in omega arith))
+        let q = refused-fault b k e in
+        subst (λ (n : ℕ). StatusJudged b (refused n)) (sym (q .0)) (fault (q .1))
 
     none : (x : Answer StatusParts) → statusIn b ≡ x → NoStatus b → statusIn b ≡ refused 8
     none (result t) e n = absurd (n t (sound-byte b t e))

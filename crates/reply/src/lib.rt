@@ -11,6 +11,7 @@ use command::entries::Found;
 use status::Status;
 use status::StatusRead;
 ghost use mathlib.Core.Path.{_≡_};
+ghost use Prim.Native.Nat.{_<_};
 ghost use lib.ListN.{length, drop};
 ghost use Rattle.answer.specs.Answer.{result};
 ghost use Rattle.answer.specs.Draft.{draftAnswer, draftOut, writtenMeans};
@@ -94,6 +95,7 @@ pub fn write_item(prior: &[u8], byte: u8, body: &[u8], out: &mut [u8]) -> Writte
         (length (now (out .entry))) ⌝ }
     ensures { λ r. ⌜ now (out .exit) ≡ draftOut (itemDraft (now (prior .entry)) byte (now (body .entry)))
         (now (out .entry)) ⌝ }
+    ensures { λ r. ⌜ byte < 256 ⌝ }
 {
     let read = read_reply(prior);
     match read {

@@ -19,13 +19,13 @@ whole s = s .args .prior .now ++ (s .args .byte ∷ length (s .args .body .now) 
 returns : tie.Need-returns
 returns c =
     let a = c .before .before .before .before .args in
-    writes-refusal _ 7 (a .out .now) (item-count (a .prior .now) (a .byte) (a .body .now) (omega arith) (c .if1 .taken))
+    writes-refusal _ 7 (a .out .now) (item-count (a .prior .now) (a .byte) (a .body .now) (c .if1 .taken))
 
 returns-2 : tie.Need-returns-2
 returns-2 c =
     let a = c .before .before .before .before .before .args in
     writes-refusal _ 2 (a .out .now)
-    (item-long (a .prior .now) (a .byte) (a .body .now) (omega arith) (c .before .if1 .left) (omega arith))
+    (item-long (a .prior .now) (a .byte) (a .body .now) (c .before .if1 .left) (omega arith))
 
 add-end : tie.Need-add-end
 add-end c = search needs
@@ -37,15 +37,15 @@ returns-3 : tie.Need-returns-3
 returns-3 c =
     let a = c .before .before .before .before .before .before .args in
     writes-refusal _ 2 (a .out .now)
-    (item-long (a .prior .now) (a .byte) (a .body .now) (omega arith) (c .before .before .if1 .left) (omega arith))
+    (item-long (a .prior .now) (a .byte) (a .body .now) (c .before .before .if1 .left) (omega arith))
 
 returns-4 : tie.Need-returns-4
 returns-4 c =
     let s = c .before .before .before .before .before .before .before in
     let a = s .args in
     writes-no-room _ (whole s) (a .out .now)
-    (item-fits (a .prior .now) (a .byte) (a .body .now) (omega arith) (c .before .before .before .if1 .left)
-    (c .before .if3 .left)) (omega (arith, whole-length (a .prior .now) (a .byte) (a .body .now) (omega arith)))
+    (item-fits (a .prior .now) (a .byte) (a .body .now) (c .before .before .before .if1 .left)
+    (c .before .if3 .left)) (omega (arith, whole-length (a .prior .now) (a .byte) (a .body .now)))
 
 copy-requires : tie.Need-copy-requires
 copy-requires c κs = search needs
@@ -119,9 +119,9 @@ returns-5 c =
     let a = St k .args in
     let e = k .before .before .before .before in
     let o = k .before .before .copy in
-    let w = whole-length (a .prior .now) (a .byte) (a .body .now) (omega (arith, e)) in
+    let w = whole-length (a .prior .now) (a .byte) (a .body .now) in
     let done = writes-done _ (whole (St k)) (a .out .now) _
-    (item-fits (a .prior .now) (a .byte) (a .body .now) (omega (arith, e)) (e .before .before .before .if1 .left)
+    (item-fits (a .prior .now) (a .byte) (a .body .now) (e .before .before .before .if1 .left)
     (e .before .if3 .left)) (omega (arith, e .if4 .left))
     (put-written (a .prior .now) (a .body .now) (a .out .now) (o .last .1 .0) _ (a .byte) (e .if4 .left)
     (copied-first (a .prior .now) (a .out .now) _ (o .ensures .1))
