@@ -188,7 +188,8 @@ added-is (added κs prior body out last b n k) t p x fs h =
     ap (λ (o : List ℕ). replyIn (take n o)) (k .1 .0) ∙ q .5 ∙ j
 
 all-added : {u w : List ℕ} {es : List Entry} {ns : List ℕ} → Ran Added u es ns w
-    → (t : Bool) (p x : ℕ) (fs : List Entry) → replyIn u ≡ result (reply t p x fs) → replyIn w ≡ result (reply t p x (fs ++ es))
+    → (t : Bool) (p x : ℕ) (fs : List Entry) → replyIn u ≡ result (reply t p x fs)
+    → replyIn w ≡ result (reply t p x (fs ++ es))
 all-added ended t p x fs h = h ∙ ap (λ (gs : List Entry). result (reply t p x gs)) (sym (append-nil fs))
 all-added (call u v e n {calls = es} k rest) t p x fs h =
     all-added rest t p x (fs ++ (e ∷ [])) (added-is k t p x fs h)

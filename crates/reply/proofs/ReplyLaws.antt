@@ -7,6 +7,7 @@ use native.Mathlib.Omega.{arith}
 use lib.ListN.{length, getD, drop, set, length-append, length-set}
 use borrow.Author.Tests.{le-leb, lt-leb}
 use Rattle.answer.specs.Answer.{result, refused, Answer, through}
+use Rattle.answer.proofs.Drafts.{Writes, writes-no-room}
 use Rattle.lists.specs.Splice.{splice}
 use Rattle.lists.proofs.Splices.{length-splice, splice-next, set-splice}
 use Rattle.command.specs.Entries.{items, Parsed, unsound, sound, parse, nthIn, Extent}
@@ -110,6 +111,12 @@ module _ (s : List ℕ) (b : ℕ) (d : List ℕ) where
   unfolding withItem
   item-fits h k =
       simp (le-leb (length d) 255 h, le-leb (length (s ++ itemBytes b d)) 117 (omega (arith, whole-length)))
+
+  -- an output that is too short
+  pub item-no-room : (out : List ℕ) → length d ≤ 255 → length s + 2 + length d ≤ 117
+      → length out < length s + 2 + length d → Writes (withItem s b d) out (refused 1) out
+  item-no-room out h k l =
+      writes-no-room (withItem s b d) (s ++ itemBytes b d) out (item-fits h k) (omega (arith, whole-length))
 
 -- ---- writing an item after the contents so far
 

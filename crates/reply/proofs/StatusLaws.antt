@@ -6,7 +6,7 @@ use native.Mathlib.Omega.{arith}
 use native.Mathlib.Nat.{div-add-mod, div-div-eq-div-mul, div-eq-of-lt, div-eq-of-lt-le, mod-eq-of-lt}
 use native.Mathlib.Nat.{add-mul-mod-self-left, add-mul-div-left, mul-mod-right}
 use lib.Dec.{leb, ltb, eqb}
-use borrow.Author.Tests.{leb-true, leb-false, le-leb, lt-leb, ltb-true, lt-ltb, eq-eqb, eqb-true}
+use borrow.Author.Tests.{leb-true, leb-false, le-leb, lt-leb, ltb-true, lt-ltb, eq-eqb, ne-eqb, eqb-true}
 use Rattle.lists.specs.Choice.{pick}
 use Rattle.lists.proofs.Cases.{by-bool}
 use Rattle.answer.specs.Answer.{Answer, result, refused}
@@ -20,6 +20,10 @@ use Rattle.reply.specs.Status.{byteNamed, haveNames, nameless}
 
 pub not-state : (n k : ℕ) → n ≡ k → isState k ≡ false → false ≡ isState n
 not-state n k e h = sym (ap isState e ∙ h)
+
+pub other-state : (n : ℕ) → (n ≡ 4 → ⊥) → leb n 9 ≡ isState n
+unfolding isState
+other-state n h = simp (ne-eqb n 4 h)
 
 state-bound : (s : ℕ) → isState s ≡ true → s ≤ 9
 unfolding isState

@@ -7,7 +7,7 @@ use Rattle.answer.specs.Answer.{result}
 use Rattle.answer.proofs.Drafts.{writes-refusal, writes-no-room, writes-done}
 use mathlib.Core.List.{List, _∷_, _++_}
 use Rattle.lists.proofs.Splices.{part-splice, copied-first}
-use Rattle.reply.proofs.ReplyLaws.{item-count, item-long, item-fits, whole-length, put-written}
+use Rattle.reply.proofs.ReplyLaws.{item-count, item-long, item-fits, item-no-room, whole-length, put-written}
 use borrow.Rule.Slice.PartMut.{same-len-mid}
 use borrow.Author.Needs.{needs}
 use Rattle.reply.proofs.put_item.Statement.{statement}
@@ -40,12 +40,7 @@ returns-3 c =
     (item-long (a .prior .now) (a .byte) (a .body .now) (c .before .before .if1 .left) (omega arith))
 
 returns-4 : tie.Need-returns-4
-returns-4 c =
-    let s = c .before .before .before .before .before .before .before in
-    let a = s .args in
-    writes-no-room _ (whole s) (a .out .now)
-    (item-fits (a .prior .now) (a .byte) (a .body .now) (c .before .before .before .if1 .left)
-    (c .before .if3 .left)) (omega (arith, whole-length (a .prior .now) (a .byte) (a .body .now)))
+returns-4 c = item-no-room _ _ _ _ (omega arith) (omega arith) (omega arith)
 
 copy-requires : tie.Need-copy-requires
 copy-requires c κs = search needs

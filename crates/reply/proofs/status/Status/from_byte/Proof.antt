@@ -1,4 +1,5 @@
 use mathlib.Core.Path.{sym, _∙_}
+use Prim.Native.Nat.{_/_, _%_}
 use native.Mathlib.Omega.{arith}
 use borrow.Author.Needs.{needs}
 use borrow.Author.Tests.{eq-eqb, ne-eqb, lt-ltb}
@@ -13,7 +14,7 @@ returns : tie.Need-returns
 unfolding statusIn
 returns c =
     c .of .ensures
-    ∙ sym (simp (lt-ltb (c .before .before .args .b) 256 (omega arith), eq-eqb _ _ (c .before .if1 .taken)))
+    ∙ sym (simp (lt-ltb (c .before .before .args .b) 256 (omega arith), eq-eqb (c .before .before .args .b / 64 % 2) 0 (omega arith)))
 
 returns-2 : tie.Need-returns-2
 unfolding statusIn

@@ -1,7 +1,7 @@
 use mathlib.Core.Path.{refl}
-use borrow.Author.Tests.{ne-eqb}
+use native.Mathlib.Omega.{arith}
 use Rattle.reply.specs.Status.{isState}
-use Rattle.reply.proofs.StatusLaws.{not-state}
+use Rattle.reply.proofs.StatusLaws.{not-state, other-state}
 use Rattle.reply.proofs.status.Status.is_state.Statement.{statement}
 use Rattle.reply.proofs.status.Status.is_state.Tie as tie
 
@@ -10,8 +10,7 @@ unfolding isState
 returns c = not-state _ _ (c .if1 .taken) refl
 
 returns-2 : tie.Need-returns-2
-unfolding isState
-returns-2 c = simp (ne-eqb _ _ (c .if1 .left))
+returns-2 c = other-state _ (λ e. omega arith)
 
 pub is-state-spec : {M : Type 1} → statement M
 is-state-spec = tie.close (tie.spec returns returns-2)
