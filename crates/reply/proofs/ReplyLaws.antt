@@ -7,7 +7,8 @@ use native.Mathlib.Omega.{arith}
 use lib.ListN.{length, getD, drop, set, length-append, length-set}
 use borrow.Author.Tests.{le-leb, lt-leb}
 use Rattle.answer.specs.Answer.{result, refused, Answer, through}
-use Rattle.answer.proofs.Drafts.{Writes, writes-no-room}
+use Rattle.answer.specs.Draft.{Writes}
+use Rattle.answer.proofs.Drafts.{writes-no-room}
 use Rattle.lists.specs.Splice.{splice}
 use Rattle.lists.proofs.Splices.{length-splice, splice-next, set-splice}
 use Rattle.command.specs.Entries.{items, Parsed, unsound, sound, parse, nthIn, Extent}

@@ -9,7 +9,8 @@ use borrow.Author.Tests.{leb-true, leb-false}
 use Rattle.lists.specs.Splice.{splice}
 use Rattle.lists.proofs.Cases.{by-bool}
 use Rattle.answer.specs.Answer.{Answer, result, refused}
-use Rattle.answer.proofs.Drafts.{Writes, writes-refusal, writes-no-room, writes-done}
+use Rattle.answer.specs.Draft.{Writes}
+use Rattle.answer.proofs.Drafts.{writes-refusal, writes-no-room, writes-done}
 use Rattle.command.specs.Entries.{items, Parsed, unsound, sound, parse, nthIn, Extent, found}
 use Rattle.command.specs.Table.{Nth, badCount, absent, present}
 use Rattle.command.proofs.Sound.{sound-exactly}

@@ -13,8 +13,8 @@ of-requires c κs = search needs
 returns : tie.Need-returns
 unfolding statusIn
 returns c =
-    c .of .ensures
-    ∙ sym (simp (lt-ltb (c .before .before .args .b) 256 (omega arith), eq-eqb (c .before .before .args .b / 64 % 2) 0 (omega arith)))
+    let b = c .before .before .args .b in
+    c .of .ensures ∙ sym (simp (lt-ltb b 256 (omega arith), eq-eqb (b / 64 % 2) 0 (omega arith)))
 
 returns-2 : tie.Need-returns-2
 unfolding statusIn
