@@ -26,7 +26,7 @@ use Rattle.command.proofs.Calls.{exactly}
 use Rattle.reply.specs.Status.{status, StatusByte}
 use Rattle.reply.specs.Replies.{Reply, reply, replyIn, ReplyOutline, replyOutline, replyMeans, nthItem, itemOf}
 use Rattle.reply.specs.Replies.{replyAnswer}
-use Rattle.reply.specs.Table.{ReadJudged, ItemJudged, itemRefused, absentItem, presentItem, ItemData, dataOf}
+use Rattle.reply.specs.Table.{IsReply, ReadJudged, ItemJudged, itemRefused, absentItem, presentItem, ItemData, dataOf}
 use Rattle.reply.specs.Table.{noData, StatusWritten, ItemWritten}
 use Rattle.reply.specs.declared.ReplyRead.{ReplyRead}
 use Rattle.reply.proofs.Table.{is-reply, read-by-table, item-by-table, status-written-by-table}
@@ -194,6 +194,12 @@ all-added ended t p x fs h = h ∙ ap (λ (gs : List Entry). result (reply t p x
 all-added (call u v e n {calls = es} k rest) t p x fs h =
     all-added rest t p x (fs ++ (e ∷ [])) (added-is k t p x fs h)
     ∙ ap (λ (gs : List Entry). result (reply t p x gs)) (append-assoc fs (e ∷ []) es)
+
+-- Items that are added to any reply stand after those that it has, in order, under the same status.
+pub added-last : {u w : List ℕ} {es : List Entry} {ns : List ℕ} → Ran Added u es ns w → (t : Bool) (p x : ℕ)
+    (fs : List Entry) → IsReply u (reply t p x fs) → IsReply w (reply t p x (fs ++ es))
+added-last {u} {w} {es} k t p x fs j =
+    is-reply w (reply t p x (fs ++ es)) .0 (all-added k t p x fs (is-reply u (reply t p x fs) .1 j))
 
 added-byte : (u v : List ℕ) (e : Entry) (n : ℕ) → Added u e n v → e .byte < 256
 added-byte u v e n (added κs prior body out last b m k) = k .1 .1

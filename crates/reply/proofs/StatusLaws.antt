@@ -6,15 +6,15 @@ use native.Mathlib.Omega.{arith}
 use native.Mathlib.Nat.{div-add-mod, div-div-eq-div-mul, div-eq-of-lt, div-eq-of-lt-le, mod-eq-of-lt}
 use native.Mathlib.Nat.{add-mul-mod-self-left, add-mul-div-left, mul-mod-right}
 use lib.Dec.{leb, ltb, eqb}
-use borrow.Author.Tests.{leb-true, leb-false, le-leb, lt-leb, ltb-true, lt-ltb, eq-eqb, ne-eqb, eqb-true}
+use borrow.Author.Tests.{eqb-false, leb-true, leb-false, le-leb, lt-leb, ltb-true, lt-ltb, eq-eqb, ne-eqb, eqb-true}
 use Rattle.lists.specs.Choice.{pick}
 use Rattle.lists.proofs.Cases.{by-bool}
 use Rattle.answer.specs.Answer.{Answer, result, refused}
 use Rattle.reply.specs.Status.{State, error, ready, idle, haveId, inUse, pause, finish, manual, offline}
 use Rattle.reply.specs.Status.{stateNumber, Previous, ok, reject, bad, notReady, previousNumber, StatusParts}
 use Rattle.reply.specs.Status.{status, isState, statusOf, statusIn, statusByte, NamedStatus, partsNamed}
-use Rattle.reply.specs.Status.{StatusNamed, StatusByte, NoStatus, StatusJudged, isStatus, fault, PartsJudged}
-use Rattle.reply.specs.Status.{byteNamed, haveNames, nameless}
+use Rattle.reply.specs.Status.{StatusNamed, StatusByte, NoStatus, StatusJudged, isStatus, isFault, Fault}
+use Rattle.reply.specs.Status.{bitSix, noState, PartsJudged, byteNamed, haveNames, nameless}
 
 -- ---- names and numbers
 
@@ -316,7 +316,7 @@ status-by-table b a = ((λ e. subst (λ (x : Answer StatusParts). StatusJudged b
     judged (result t) e = isStatus t (sound-byte b t e)
     judged (refused k) e =
         let q = refused-fault b k e in
-        subst (λ (n : ℕ). StatusJudged b (refused n)) (sym (q .0)) (fault (q .1))
+        subst (λ (n : ℕ). StatusJudged b (refused n)) (sym (q .0)) (isFault (q .1))
 
     none : (x : Answer StatusParts) → statusIn b ≡ x → NoStatus b → statusIn b ≡ refused 8
     none (result t) e n = absurd (n t (sound-byte b t e))
@@ -324,4 +324,32 @@ status-by-table b a = ((λ e. subst (λ (x : Answer StatusParts). StatusJudged b
 
     told : (x : Answer StatusParts) → StatusJudged b x → statusIn b ≡ x
     told x (isStatus t j) = byte-sound b t j
-    told x (fault n) = none (statusIn b) refl n
+    told x (isFault n) = none (statusIn b) refl n
+
+-- ---- faults by their bits
+
+-- A byte is the byte of no status exactly when bit 6 is set or bits 3 to 0 are no state's number.
+pub fault-exactly : (b : ℕ) → b < 256 → (NoStatus b → Fault b) × (Fault b → NoStatus b)
+unfolding statusIn statusOf
+fault-exactly b h = (
+  (λ n. by-bool (eqb (b / 64 % 2) 0)
+      (λ y. by-bool (isState (b % 16))
+      (λ z. absurd (n (status (leb 128 b) (b / 16 % 4) (b % 16)) (sound-byte b
+      (status (leb 128 b) (b / 16 % 4) (b % 16)) (simp (in-byte, y, z, in-two)))))
+      (λ z. noState (λ s e. true≢false (sym (named-state s) ∙ ap isState (sym e) ∙ z))))
+      (λ y. let z = eqb-false (b / 64 % 2) 0 y in bitSix (omega arith))),
+  (λ f. refused-fault b 8 (refused-by f) .1),
+)
+  where
+    in-byte : ltb b 256 ≡ true
+    in-byte = lt-ltb b 256 h
+
+    in-two : leb (b / 16 % 4) 3 ≡ true
+    in-two = le-leb (b / 16 % 4) 3 (omega arith)
+
+    refused-by : Fault b → statusIn b ≡ refused 8
+    refused-by (bitSix e) = simp (in-byte, ne-eqb (b / 64 % 2) 0 (λ z. omega arith))
+    refused-by (noState f) =
+        by-bool (isState (b % 16))
+        (λ z. let s = state-named (b % 16) z in absurd (f (s .0) (s .1)))
+        (λ z. by-bool (eqb (b / 64 % 2) 0) (λ y. simp (in-byte, y, z, in-two)) (λ y. simp (in-byte, y)))

@@ -15,7 +15,7 @@ use Rattle.command.specs.Entries.{items, Parsed, unsound, sound, parse, nthIn, 
 use Rattle.command.specs.Table.{Nth, badCount, absent, present}
 use Rattle.command.proofs.Sound.{sound-exactly}
 use Rattle.command.proofs.Table.{unsound-exactly, list-sound, nth-by-table}
-use Rattle.reply.specs.Status.{StatusParts, status, StatusByte, statusIn, fault}
+use Rattle.reply.specs.Status.{StatusParts, status, StatusByte, statusIn, isFault}
 use Rattle.reply.specs.Replies.{Reply, reply, headIn, afterStatus, replyIn, ReplyOutline, replyAnswer, itemOf}
 use Rattle.reply.specs.Replies.{nthItem, statusDraft, itemBytes, withItem, afterReply, itemDraft}
 use Rattle.reply.specs.Table.{IsReply, isReply, NoReply, empty, faulty, unsoundItems, ReadJudged, refusedAs}
@@ -38,7 +38,7 @@ refused-as : {s : List ℕ} {k : ℕ} → NoReply s k → replyIn s ≡ refused 
 unfolding replyIn headIn afterStatus
 refused-as empty = refl
 refused-as (faulty {b = b} {rest = rest} n) =
-    ap (λ (a : Answer StatusParts). afterStatus a (parse items rest 0)) (status-by-table b (refused 8) .1 (fault n))
+    ap (λ (a : Answer StatusParts). afterStatus a (parse items rest 0)) (status-by-table b (refused 8) .1 (isFault n))
 refused-as (unsoundItems {b = b} {rest = rest} {t = status t p x} {at = at} j u) =
     ap (λ (a : Answer StatusParts). afterStatus a (parse items rest 0)) (byte-sound b (status t p x) j)
     ∙ ap (afterStatus (result (status t p x))) (unsound-exactly items rest at .1 u)
@@ -136,7 +136,7 @@ item-by-table s n a = ((λ e. subst (ItemJudged s n) e (item-line s n)), line-it
 status-writes : {b : ℕ} {out : List ℕ} {a : Answer ℕ} {last : List ℕ} → StatusWritten b out a last
     → Writes (statusDraft b) out a last
 status-writes {b} {out} (statusFault n) =
-    writes-refusal (statusDraft b) 8 out (status-refused b 8 (sym (status-by-table b (refused 8) .1 (fault n))))
+    writes-refusal (statusDraft b) 8 out (status-refused b 8 (sym (status-by-table b (refused 8) .1 (isFault n))))
 status-writes {b} (statusNoRoom {t = status t p x} j) =
     writes-no-room (statusDraft b) (b ∷ []) []
     (status-sound b t p x (sym (byte-sound b (status t p x) j))) (omega arith)

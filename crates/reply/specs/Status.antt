@@ -119,10 +119,15 @@ pub record StatusByte (b : ℕ) (t : StatusParts) : Type 0 where
 abbrev pub NoStatus : ℕ → Type 0
 NoStatus b = (t : StatusParts) → StatusByte b t → ⊥
 
+-- The same of a byte by its bits: bit 6 is set, or bits 3 to 0 are no state's number.
+pub data Fault (b : ℕ) : Type 0 where
+  bitSix : b / 64 % 2 ≡ 1 → Fault b
+  noState : ((s : State) → b % 16 ≡ stateNumber s → ⊥) → Fault b
+
 -- What a status byte is answered.
 pub data StatusJudged (b : ℕ) : Answer StatusParts → Type 0 where
   isStatus : (t : StatusParts) → StatusByte b t → StatusJudged b (result t)
-  fault : NoStatus b → StatusJudged b (refused 8)
+  isFault : NoStatus b → StatusJudged b (refused 8)
 
 -- What parts are answered.
 pub data PartsJudged (t : StatusParts) : Answer StatusParts → Type 0 where

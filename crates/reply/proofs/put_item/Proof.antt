@@ -4,7 +4,7 @@ use mathlib.Core.Path.{_≡_, sym, ap, _∙_}
 use Prim.Native.Nat.{ℕ, _+_, _-_, _≤_}
 use native.Mathlib.Omega.{arith}
 use Rattle.answer.specs.Answer.{result}
-use Rattle.answer.proofs.Drafts.{writes-refusal, writes-no-room, writes-done}
+use Rattle.answer.proofs.Drafts.{writes-refusal, writes-done}
 use mathlib.Core.List.{List, _∷_, _++_}
 use Rattle.lists.proofs.Splices.{part-splice, copied-first}
 use Rattle.reply.proofs.ReplyLaws.{item-count, item-long, item-fits, item-no-room, whole-length, put-written}
