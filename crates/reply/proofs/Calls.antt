@@ -26,8 +26,8 @@ use Rattle.command.proofs.Calls.{exactly}
 use Rattle.reply.specs.Status.{status, StatusByte}
 use Rattle.reply.specs.Replies.{Reply, reply, replyIn, ReplyOutline, replyOutline, replyMeans, nthItem, itemOf}
 use Rattle.reply.specs.Replies.{replyAnswer}
-use Rattle.reply.specs.Table.{IsReply, ReadJudged, ItemJudged, itemRefused, absentItem, presentItem, ItemData, dataOf}
-use Rattle.reply.specs.Table.{noData, StatusWritten, ItemWritten}
+use Rattle.reply.specs.Table.{IsReply, ReadJudged, ItemJudged, itemRefused, absentItem, presentItem, ItemData}
+use Rattle.reply.specs.Table.{dataOf, noData, StatusWritten, ItemWritten}
 use Rattle.reply.specs.declared.ReplyRead.{ReplyRead}
 use Rattle.reply.proofs.Table.{is-reply, read-by-table, item-by-table, status-written-by-table}
 use Rattle.reply.proofs.Table.{item-written-by-table}
