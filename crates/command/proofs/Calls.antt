@@ -15,25 +15,32 @@ use Rattle.command.specs.Entries.{commands, Extent, headOf}
 use Rattle.command.specs.Answers.{CountAnswer, foundMeans, countedMeans, partOf}
 use Rattle.command.specs.Parts.{StandsAt, startOf, IsData}
 use Rattle.command.specs.Commands.{nthCommand, nthInside}
-use Rattle.command.specs.Traversal.{commandAt}
+use Rattle.command.specs.Traversal.{commandAt, indexAfter}
+use Rattle.command.specs.Steps.{Stepped, stepMeans}
 use Rattle.command.specs.Table.{Counts, NthEntry, Nth, present, inWrapper, Question, nthAtTop, nthInWrapper}
-use Rattle.command.specs.Table.{atIndex, AnsweredBy, DataBy, ofNth, ofInner, ofIndex, ofRefusal}
+use Rattle.command.specs.Table.{Steps, Moves, Wrapper, atIndex, AnsweredBy, DataBy, ofNth, ofInner, ofIndex}
+use Rattle.command.specs.Table.{ofRefusal}
 use Rattle.command.specs.Stop.{StopsWorkout}
 use Rattle.command.specs.declared.entries.Cursor.{Cursor}
 use Rattle.command.specs.declared.entries.Counted.{Counted}
+use Rattle.command.specs.declared.entries.Step.{Step}
 use Rattle.command.specs.declared.entries.Found.{Found}
 use Rattle.command.specs.declared.cursor.CommandStep.{CommandStep}
 use Rattle.command.proofs.Table.{count-by-table, nth-by-table, command-by-table, inside-by-table, entry-data}
 use Rattle.command.proofs.Stops.{stops-exactly}
-use Rattle.command.proofs.Table.{top-data, inner-data, start-is, ends-within}
+use Rattle.command.proofs.StepTable.{step-by-table, move-by-table}
+use Rattle.command.proofs.Table.{top-data, inner-data, start-is, ends-within, is-wrapper, wrapper-is}
 use Rattle.command.proofs.entries.count.Reads as count-reads
 use Rattle.command.proofs.entries.nth.Reads as nth-entry-reads
+use Rattle.command.proofs.entries.Cursor.step.Reads as step-reads
+use Rattle.command.proofs.is_wrapper.Reads as is-wrapper-reads
 use Rattle.command.proofs.nth.Reads as nth-reads
 use Rattle.command.proofs.nth_data.Reads as nth-data-reads
 use Rattle.command.proofs.nth_inside.Reads as nth-inside-reads
 use Rattle.command.proofs.nth_inside_data.Reads as nth-inside-data-reads
 use Rattle.command.proofs.traversal.command_at.Reads as command-at-reads
 use Rattle.command.proofs.traversal.data_at.Reads as data-at-reads
+use Rattle.command.proofs.traversal.index_after.Reads as index-after-reads
 use Rattle.command.proofs.cursor.step_from.Reads as step-from-reads
 use Rattle.command.proofs.cursor.nth_by_steps.Reads as nth-by-steps-reads
 use Rattle.command.proofs.stop.stops_workout.Reads as stops-workout-reads
@@ -146,7 +153,31 @@ data-given s q = given q (answerTo s q) (answer-by-table s q (answerTo s q) .0 r
     given (atIndex at) (result x) (present e) = (_, _, ofIndex e)
     given (nthInWrapper w n) (result x) (inWrapper outer y (present e)) = (_, _, ofInner outer y e)
 
--- ---- counting
+-- ---- moves
+
+-- A call that tells where a move from an index leads.
+pub data MoveCalled : List ℕ → (at next : ℕ) → Type 0 where
+  index-after : (κs : Lfts 1) (ρ ρ′ : RefT (List ℕ)) {at next : ℕ}
+      → index-after-reads.Learnt κs (ρ, (at, tt)) next (ρ′, (at, tt)) → MoveCalled (ρ .now) at next
+  step-past : (κs : Lfts 1) (ρ ρ′ : RefT (List ℕ)) {at : ℕ} (r : CommandStep)
+      → step-from-reads.Learnt κs (ρ, (at, tt)) r (ρ′, (at, tt)) → MoveCalled (ρ .now) at (r .next)
+
+moved-is : {s : List ℕ} {at next : ℕ} → MoveCalled s at next → next ≡ indexAfter s at
+moved-is (index-after κs ρ ρ′ e) = e
+moved-is (step-past κs ρ ρ′ r e) = e .1
+
+-- It tells the index to which the table's move leads.
+pub move-calls : {s : List ℕ} {at next : ℕ} → MoveCalled s at next → (i : ℕ)
+    → (next ≡ i → Moves s at i) × (Moves s at i → next ≡ i)
+move-calls {s} {at} c i = exactly (Moves s at) (moved-is c) (move-by-table s at i)
+
+-- ---- entries
+
+-- Any call of `Cursor::step` is answered a exactly when the table answers a: 15, 7 or the entry at its index.
+pub step-calls : (κs : Lfts 1) (ρ ρ′ : RefT (List ℕ)) (c : Cursor) (limit : ℕ) (r : Step)
+    → step-reads.Learnt κs (c, (limit, (ρ, tt))) r (c, (limit, (ρ′, tt))) → (a : Answer Stepped)
+    → (stepMeans r ≡ a → Steps limit (ρ .now) (c .at) a) × (Steps limit (ρ .now) (c .at) a → stepMeans r ≡ a)
+step-calls κs ρ ρ′ c limit r e a = exactly (Steps limit (ρ .now) (c .at)) e (step-by-table limit (ρ .now) (c .at) a)
 
 -- Any call of `count` is answered a exactly when the table answers a: the number of entries, or 7 with the index of the
 -- entry that fails.
@@ -167,10 +198,17 @@ nth-calls κs ρ ρ′ limit from n r e a =
     exactly (Nth limit (from .at) (drop (from .at) (ρ .now)) n) e
     (nth-by-table limit (from .at) (drop (from .at) (ρ .now)) n a)
 
+-- ---- wrappers
+
+-- Any call of `is_wrapper` answers yes exactly for the five of document 01.
+pub wrapper-calls : (b : ℕ) (r : Bool) → is-wrapper-reads.Learnt tt (b, tt) r (b, tt)
+    → (r ≡ true → Wrapper b) × (Wrapper b → r ≡ true)
+wrapper-calls b r e = exactly (λ (t : Bool). Wrapper b) e (is-wrapper b, wrapper-is)
+
 -- ---- contents that stop a workout
 
 -- Any call of `stops_workout` answers yes exactly for contents that do.
 pub stop-calls : (κs : Lfts 1) (ρ ρ′ : RefT (List ℕ)) (r : Bool) → stops-workout-reads.Learnt κs (ρ, tt) r (ρ′, tt)
     → (r ≡ true → StopsWorkout (ρ .now)) × (StopsWorkout (ρ .now) → r ≡ true)
 stop-calls κs ρ ρ′ r e =
-    let s = stops-exactly (ρ .now) in ((λ h. s .0 (sym e ∙ h)), (λ h. e ∙ s .1 h))
+    exactly (λ (t : Bool). StopsWorkout (ρ .now)) e (stops-exactly (ρ .now))

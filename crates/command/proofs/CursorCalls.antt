@@ -20,11 +20,12 @@ use Rattle.command.specs.Answers.{foundMeans}
 use Rattle.command.specs.Parts.{StandsAt, startOf, IsData}
 use Rattle.command.specs.Commands.{nthCommand}
 use Rattle.command.specs.Traversal.{commandAt, indexAfter, indexOf}
-use Rattle.command.specs.Table.{NthEntry, AnsweredBy, DataBy, atIndex, nthAtTop, ofNth}
+use Rattle.command.specs.Table.{NthEntry, Moves, AnsweredBy, DataBy, atIndex, nthAtTop, ofNth}
 use Rattle.command.specs.declared.entries.Found.{Found}
 use Rattle.command.specs.declared.cursor.CommandCursor.{CommandCursor}
 use Rattle.command.proofs.Calls.{answer-by-table, exactly, table-data}
 use Rattle.command.proofs.Table.{start-is}
+use Rattle.command.proofs.StepTable.{move-by-table}
 use Rattle.command.proofs.PartLaws.{stands-through}
 use Rattle.command.proofs.CursorSteps.{kth-step, index-more}
 use Rattle.command.proofs.cursor.CommandCursor.new as new
@@ -95,6 +96,15 @@ pub cursor-by-table : (c : CommandCursor) (r : Found) → Answers c r → (a : A
 cursor-by-table c r e a =
     let q = atIndex (c .at) in
     exactly (AnsweredBy (now (c .contents)) q) e (answer-by-table (now (c .contents)) q a)
+
+-- It moves to an index exactly when the table's move leads there, on the same contents.
+pub cursor-moves : (c d : CommandCursor) → MovesTo c d
+    → (d .contents ≡ c .contents)
+    × ((i : ℕ) → (d .at ≡ i → Moves (now (c .contents)) (c .at) i) × (Moves (now (c .contents)) (c .at) i → d .at ≡ i))
+cursor-moves c d m = (
+  m .0,
+  (λ i. exactly (Moves (now (c .contents)) (c .at)) (m .1) (move-by-table (now (c .contents)) (c .at) i)),
+)
 
 -- After k moves, exactly when the table answers a to the k-th command of the contents that it was made on.
 pub moves-by-table : (s : RefT (List ℕ)) (k : ℕ) (c : CommandCursor) → Moved s k c → (r : Found) → Answers c r

@@ -3,6 +3,7 @@ pub mod Sound
 pub mod Extents
 pub mod PartLaws
 pub mod Table
+pub mod StepTable
 pub mod InnerLaws
 pub mod Called
 pub mod CursorMoves

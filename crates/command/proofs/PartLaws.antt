@@ -17,8 +17,8 @@ use Rattle.command.specs.declared.entries.Found.the-variants.{At, Refuse
 
 -- ---- the bytes, as far as the list goes
 
-pub part-past : (s : List ℕ) (start len : ℕ) → length s < start → [] ≡ take len (drop start s)
-part-past s start len h = sym (ap (take len) (drop-of-length-le s {i = start} (omega arith)) ∙ take-nil len)
+pub part-past : (s : List ℕ) (start len : ℕ) → length s ≤ start → [] ≡ take len (drop start s)
+part-past s start len h = sym (ap (take len) (drop-of-length-le s h) ∙ take-nil len)
 
 pub part-rest : (s : List ℕ) (start len : ℕ) → length s - start ≤ len
     → take (length s - start) (drop start s) ≡ take len (drop start s)

@@ -54,7 +54,7 @@ with-inv limit e (sound es) at h = let w : _≡_ {A = ℕ} 0 1 = cc in absurd (o
 never-sound : {P : Type 0} (es : List Entry) (at : ℕ) → sound es ≡ unsound at → P
 never-sound es at h = let w : _≡_ {A = ℕ} 0 1 = cc in absurd (omega arith)
 
-counted-bytes : (limit b n : ℕ) (s : List ℕ) → ltb b limit ≡ true → n ≤ length s
+pub counted-bytes : (limit b n : ℕ) (s : List ℕ) → ltb b limit ≡ true → n ≤ length s
     → (b ∷ n ∷ s ≡ entryBytes limit (entry b (take n s)) ++ drop n s) × WellFormed limit (entry b (take n s))
 unfolding entryBytes
 counted-bytes limit b n s y h =
@@ -63,7 +63,7 @@ counted-bytes limit b n s y h =
       λ k. absurd (true≢false (sym y ∙ le-ltb b limit k)),
     )
 
-short-bytes : (limit b : ℕ) (s : List ℕ) → ltb b limit ≡ false → b ∷ s ≡ entryBytes limit (entry b []) ++ s
+pub short-bytes : (limit b : ℕ) (s : List ℕ) → ltb b limit ≡ false → b ∷ s ≡ entryBytes limit (entry b []) ++ s
 unfolding entryBytes
 short-bytes limit b s y = sym (simp y)
 
@@ -304,7 +304,7 @@ top-data {s = s} {start = start} {len = len} k =
 
 -- ---- inside a wrapper
 
-is-wrapper : (b : ℕ) → isWrapper b ≡ true → Wrapper b
+pub is-wrapper : (b : ℕ) → isWrapper b ≡ true → Wrapper b
 is-wrapper b h =
     by-bool (eqb b 0x1A)
     (λ y. one 0x1A y is-1A)
@@ -321,7 +321,7 @@ is-wrapper b h =
     one : (c : ℕ) → eqb b c ≡ true → Wrapper c → Wrapper b
     one c y w = subst Wrapper (sym (eqb-true b c y)) w
 
-wrapper-is : {b : ℕ} → Wrapper b → isWrapper b ≡ true
+pub wrapper-is : {b : ℕ} → Wrapper b → isWrapper b ≡ true
 wrapper-is is-1A = refl
 wrapper-is is-76 = refl
 wrapper-is is-77 = refl

@@ -6,8 +6,10 @@ use mathlib.Core.Path.{_≡_}
 use mathlib.Core.List.{List, [], _∷_, _++_}
 use lib.ListN.{length, drop}
 use Rattle.answer.specs.Answer.{Answer, result, refused}
-use Rattle.command.specs.Entries.{Entry, commands, entryBytes, listBytes, AllWellFormed, Extent, found}
+use Rattle.command.specs.Entries.{Entry, commands, entryBytes, listBytes, WellFormed, AllWellFormed}
+use Rattle.command.specs.Entries.{Extent, found}
 use Rattle.command.specs.Answers.{CountAnswer, entryCount, failsAt}
+use Rattle.command.specs.Steps.{Stepped, stepped}
 
 -- ---- sound and unsound lists
 
@@ -35,6 +37,17 @@ pub data Counts (limit from : ℕ) (s : List ℕ) : CountAnswer → Type 0 where
   allSound : {es : List Entry} → SoundList limit s es → Counts limit from s (entryCount (length es))
   badCountAt : {at : ℕ} → UnsoundList limit s at → Counts limit from s (failsAt 7 (from + at))
 
+-- ---- one entry
+
+-- The answer to one step from an index: 15 at the end and past it, 7 where the entry there fails, or the entry whose
+-- bytes stand there. Its data are the last of its bytes, and the next index is the one after them.
+pub data Steps (limit : ℕ) (s : List ℕ) (at : ℕ) : Answer Stepped → Type 0 where
+  atEnd : length s ≤ at → Steps limit s at (refused 15)
+  failsThere : FailsFirst limit (drop at s) → Steps limit s at (refused 7)
+  standsThere : {start next : ℕ} (e : Entry) (rest : List ℕ) → WellFormed limit e
+      → drop at s ≡ entryBytes limit e ++ rest → next ≡ at + length (entryBytes limit e)
+      → start + length (e .body) ≡ next → Steps limit s at (result (stepped (e .byte) start (length (e .body)) next))
+
 -- ---- the n-th entry
 
 -- The n-th entry of bytes that begin at an index: as many entries stand before it. Its data are the last of its bytes,
@@ -55,6 +68,12 @@ pub data Nth (limit from : ℕ) (s : List ℕ) (n : ℕ) : Answer Extent → Typ
   absent : {es : List Entry} → SoundList limit s es → length es ≤ n → Nth limit from s n (refused 15)
   present : {byte start len : ℕ} → NthEntry limit from s n byte start len
       → Nth limit from s n (result (found byte start len))
+
+-- Where a move from an index leads: past the bytes of the command there, and nowhere where it is refused.
+pub data Moves (s : List ℕ) (at : ℕ) : ℕ → Type 0 where
+  past : {byte start len : ℕ} (e : NthEntry commands at (drop at s) 0 byte start len)
+      → Moves s at (at + length (entryBytes commands (e .here)))
+  stays : {number : ℕ} → Nth commands at (drop at s) 0 (refused number) → Moves s at at
 
 -- ---- inside a wrapper
 

@@ -1,4 +1,5 @@
 use mathlib.Core.Path.{refl}
+use native.Mathlib.Omega.{arith}
 use denote.Ref.{ptr}
 use Rattle.command.proofs.PartLaws.{part-past, part-rest, part-whole, placed, past-placed}
 use borrow.Author.Needs.{needs}
@@ -12,7 +13,7 @@ returns : tie.Need-returns
 returns c =
     let a = c .before .before .args in
     record {
-      holds = part-past (a .s .now) (a .start) (a .len) (c .before .if1 .taken);
+      holds = part-past (a .s .now) (a .start) (a .len) (omega (arith, c .before .if1 .taken));
       block = refl;
       place = past-placed (a .s .now) (a .start) (a .s .ptr .1) (c .before .if1 .taken);
     }

@@ -130,6 +130,13 @@ module _ (t : ℕ) where
   unfolding stopsWithin
   no-wrapper c = rw (c .before .enum-told .given .1) (simp (ne-eqb _ _ (c .if1 .taken)))
 
+  in-wrapper : is-sought-lts.Need-returns-3 (in-is-sought t) (is-sought-at t) is-sought.Post
+  unfolding stopsWithin
+  in-wrapper c =
+      rw (c .before .before .before .enum-told .given .1) (simp (eq-eqb _ _ (c .before .before .if1 .left))
+      (c .holds .ensures
+      ∙ ap (λ (d : List ℕ). anyIn terminates (parse commands d 0)) (c .before .part .ensures .holds)))
+
   holds-requires : is-sought-lts.Need-holds-requires (in-is-sought t) (is-sought-at t) is-sought.Post
   holds-requires c κs =
       let two : 2 ≡ t =
@@ -139,13 +146,6 @@ module _ (t : ℕ) where
   no-terminate : is-sought-lts.Need-returns-2 (in-is-sought t) (is-sought-at t) is-sought.Post
   unfolding terminates
   no-terminate c = rw (c .before .enum-told2 .given .1) (simp (ne-eqb _ _ (c .if2 .taken)))
-
-  in-wrapper : is-sought-lts.Need-returns-3 (in-is-sought t) (is-sought-at t) is-sought.Post
-  unfolding stopsWithin
-  in-wrapper c =
-      rw (c .before .before .before .enum-told .given .1) (simp (eq-eqb _ _ (c .before .before .if1 .left))
-      (c .holds .ensures
-      ∙ ap (λ (d : List ℕ). anyIn terminates (parse commands d 0)) (c .before .part .ensures .holds)))
 
   terminate : is-sought-lts.Need-returns-4 (in-is-sought t) (is-sought-at t) is-sought.Post
   unfolding terminates
