@@ -11,6 +11,7 @@ use command::entries::Found;
 use status::Status;
 use status::StatusRead;
 ghost use mathlib.Core.Path.{_≡_};
+ghost use Prim.Native.Nat.{_<_};
 ghost use lib.ListN.{length, drop};
 ghost use Rattle.answer.specs.Answer.{result};
 ghost use Rattle.answer.specs.Draft.{draftAnswer, draftOut, writtenMeans};
@@ -89,11 +90,13 @@ pub fn write_status(byte: u8, out: &mut [u8]) -> Written
 }
 
 // Writes a reply from the contents of a reply so far and an item, which it puts last. Refusals 4, 8, 7, 2 and 1.
+// The contract names the byte's range too: by it, what a run of calls wrote is shown to read back.
 pub fn write_item(prior: &[u8], byte: u8, body: &[u8], out: &mut [u8]) -> Written
     ensures { λ r. ⌜ writtenMeans r ≡ draftAnswer (itemDraft (now (prior .entry)) byte (now (body .entry)))
         (length (now (out .entry))) ⌝ }
     ensures { λ r. ⌜ now (out .exit) ≡ draftOut (itemDraft (now (prior .entry)) byte (now (body .entry)))
         (now (out .entry)) ⌝ }
+    ensures { λ r. ⌜ byte < 256 ⌝ }
 {
     let read = read_reply(prior);
     match read {
