@@ -8,3 +8,4 @@ pub mod VerdictLaws
 pub mod ContentsLaws
 pub mod Table
 pub mod RoundTrip
+pub mod Calls
