@@ -3,7 +3,7 @@ use borrow.Author.Tests.{leb-true}
 use lib.ListN.{length-drop, length, getD, take, drop, length-append, take-append-drop}
 use Rattle.frame.specs.Verdict.{judge, judgeBytes, frameIn, addressCount, lastOf, contentsIn, Verdict, bodyOf}
 use Rattle.frame.specs.Verdict.{isTerminated, verdict}
-use Rattle.frame.specs.Flags.{kindOf}
+use Rattle.frame.specs.Flags.{kindOf, flagless, candidateOf}
 use Rattle.answer.specs.Answer.{result, refused}
 use Prim.Native.Nat.{_-_, ℕ, _+_, _≤_, _<_}
 use lib.Dec.{leb, eqb}
@@ -21,10 +21,10 @@ use Rattle.lists.proofs.Lists.{back-in}
 use Rattle.frame.specs.Checksum.{checksum}
 use Rattle.frame.specs.Frame.{Frame, contentsOf, standard, extended}
 use Rattle.frame.specs.Answers.{leftIn, judgeAnswer, frameRead}
-use Rattle.frame.specs.Private.{frameOf, unstuffedBytes, SoundAt}
+use Rattle.frame.specs.Private.{frameOf, unstuffedBytes, SoundAt, judgeWhole}
 use Rattle.frame.specs.declared.Kind.{Kind}
 use Rattle.frame.specs.declared.Header.{Header}
-use Rattle.frame.proofs.VerdictLaws.{contents-of}
+use Rattle.frame.proofs.VerdictLaws.{contents-of, candidate-verdict}
 
 -- ---- the stuffed contents and checksum of a sound body
 
@@ -139,19 +139,27 @@ judge-shrinks kind body f e =
         let z : _≡_ {A = ℕ} 0 1 = cc in absurd (omega arith))
 
 -- bytes that were judged in place are as many as they were
-pub left-length : (kind : Kind) (n : ℕ) (s : List ℕ) → length (leftIn (judge kind (take n s)) s) ≡ length s
+pub left-length : (kind : Kind) (n : ℕ) (s : List ℕ)
+    → length (leftIn (verdict (candidateOf kind (take n s))) s) ≡ length s
 unfolding leftIn
-left-length kind n s = of-verdict (judge kind (take n s)) refl
+left-length kind n s = of-verdict (verdict (candidateOf kind (take n s))) refl
   where
-    of-verdict : (v : Verdict) → judge kind (take n s) ≡ v → length (leftIn v s) ≡ length s
+    accepted : (f : Frame) → judgeWhole kind (take n s) ≡ result f → judge kind (take n s) ≡ result f
+    accepted f e =
+        by-bool (flagless (take n s)) (λ y. simp y at e)
+        (λ y. let q : refused 6 ≡ result f = simp y at e in
+        let z : _≡_ {A = ℕ} 0 1 = cc in absurd (omega arith))
+
+    of-verdict : (v : Verdict) → verdict (candidateOf kind (take n s)) ≡ v → length (leftIn v s) ≡ length s
     of-verdict (refused m) e = refl
     of-verdict (result f) e =
+        let j = judge-shrinks kind (take n s) f (accepted f (sym (candidate-verdict kind (take n s)) ∙ e)) in
         omega (
           arith,
           length-append (contentsOf f) (drop (length (contentsOf f)) s),
           length-drop
               (length (contentsOf f)) s,
-          judge-shrinks kind (take n s) f e .0,
+          j .0,
           take-shorter n s,
         )
 

@@ -9,7 +9,7 @@ use lib.Seq.{take-at}
 use Rattle.answer.specs.Answer.{Answer, result, refused}
 use Rattle.answer.specs.Draft.{Writes}
 use Rattle.frame.specs.Stuffing.{stuff, bytes}
-use Rattle.frame.specs.Flags.{startFlag, stopFlag}
+use Rattle.frame.specs.Flags.{startFlag, stopFlag, candidateOf}
 use Rattle.frame.specs.Frame.{Frame, standard, extended, contentsOf, frameKind, payload, wireOf}
 use Rattle.frame.specs.Verdict.{judgeBytes, verdict}
 use Rattle.frame.specs.Answers.{FrameOutline, outlineOf, frameDraft, frameRead, Reads}
@@ -18,7 +18,7 @@ use Rattle.frame.specs.Conditions.{WriteJudged, overLimit, noRoomToWrite
 use Rattle.frame.specs.declared.Kind.{Kind}
 use Rattle.frame.proofs.StuffingLaws.{unstuff-stuff, flagless-stuff, stuff-unstuff}
 use Rattle.frame.proofs.FlagLaws.{free-flagless}
-use Rattle.frame.proofs.VerdictLaws.{whole, whole-length, whole-verdict, judge-bytes, judge-payload}
+use Rattle.frame.proofs.VerdictLaws.{whole-length, whole-verdict, judge-bytes, judge-payload}
 use Rattle.frame.proofs.ContentsLaws.{accepted-short}
 use Rattle.frame.proofs.Table.{accepted-exactly, accepted-when, unstuffs-bytes, read-by-table, reads-exactly}
 use Rattle.frame.proofs.Table.{written-by-table, writes-exactly}
@@ -30,7 +30,7 @@ pub reads-back : (f : Frame) → length (wireOf f) ≤ 120 → verdict (wireOf f
 unfolding wireOf
 reads-back f l =
     let b = stuff (payload f) in
-    let e : wireOf f ≡ whole (frameKind f) b = refl in
+    let e : wireOf f ≡ candidateOf (frameKind f) b = refl in
     whole-verdict (frameKind f) b (flagless-stuff (payload f))
     ∙ judge-bytes (frameKind f) b (omega (arith, ap length e, whole-length (frameKind f) b))
     ∙ ap (judgeBytes (frameKind f)) (unstuff-stuff (payload f)) ∙ judge-payload f
