@@ -2,3 +2,5 @@ pub mod PackedLaws
 pub mod AnswerLaws
 pub mod LineStateLaws
 pub mod LineAnswerLaws
+pub mod ToldLaws
+pub mod LineToldLaws

@@ -2,3 +2,4 @@ pub mod Packed
 pub mod Answers
 pub mod LineState
 pub mod LineAnswers
+pub mod Told

@@ -9,3 +9,4 @@ pub mod ContentsLaws
 pub mod Table
 pub mod JudgeCalls
 pub mod RoundTrip
+pub mod Calls

@@ -16,7 +16,7 @@ use Rattle.lists.proofs.Tests.{within-yes, within-true, none-drop, none-stronge
 use Rattle.frame.specs.Flags.{isFlag, flagless, kindOf, startFlag, candidateOf}
 use Rattle.frame.specs.Stuffing.{isStuffed, Unstuffed, badEscape, bytes, prepend, unstuff}
 use Rattle.frame.specs.Checksum.{sumFrom, checksum}
-use Rattle.frame.specs.Frame.{Frame, contentsOf}
+use Rattle.frame.specs.Frame.{Frame, standard, extended, contentsOf, frameKind, addressesOf, payload}
 use Rattle.frame.specs.Verdict.{Verdict, addressCount, contentsIn, lastOf, frameIn, judgeBytes, judge, bodyOf}
 use Rattle.frame.specs.Verdict.{isTerminated, verdict}
 use Rattle.answer.specs.Answer.{result, refused}
@@ -167,6 +167,23 @@ module _ (kind : Kind) (body : List ℕ) (limit : length body ≤ 118) where
           eq-eqb (lastOf u)
               (checksum (contentsIn (addressCount kind) u)) q,
         )
+
+-- ---- the verdict on a frame's own bytes
+
+pub judge-payload : (f : Frame) → judgeBytes (frameKind f) (bytes (payload f)) ≡ result f
+unfolding judgeBytes payload addressesOf contentsOf frameIn
+judge-payload (standard c) =
+    let u = c ++ (checksum c ∷ []) in
+    let n : length u ≡ length c + 1 = length-append c (checksum c ∷ []) in
+    let p : contentsIn 0 u ≡ c = take-at c (checksum c ∷ []) (length u - 1) (omega arith) in
+    let q : lastOf u ≡ checksum c = getD-at c (checksum c) [] 0 (length u - 1) (omega arith) in
+    simp (le-leb 1 (length u) (omega arith), q, p, eq-eqb (checksum c) (checksum c) refl)
+judge-payload (extended to from c) =
+    let u = to ∷ from ∷ c ++ (checksum c ∷ []) in
+    let n : length (c ++ (checksum c ∷ [])) ≡ length c + 1 = length-append c (checksum c ∷ []) in
+    let p : contentsIn 2 u ≡ c = take-at c (checksum c ∷ []) (length u - 3) (omega arith) in
+    let q : lastOf u ≡ checksum c = getD-at (to ∷ from ∷ c) (checksum c) [] 0 (length u - 1) (omega arith) in
+    simp (le-leb 3 (length u) (omega arith), q, p, eq-eqb (checksum c) (checksum c) refl)
 
 -- ---- the verdict on the bytes after the addresses
 

@@ -1,5 +1,6 @@
 // CSAFE frames: one frame written, one slice read, and the bytes between two flags judged.
 // Document 01, "Frames on the wire".
+pub mod address;
 mod bytes;
 mod candidate;
 pub mod flags;
