@@ -4,3 +4,4 @@ pub mod LineStateLaws
 pub mod LineAnswerLaws
 pub mod ToldLaws
 pub mod LineToldLaws
+pub mod LineCalls
