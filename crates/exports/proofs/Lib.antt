@@ -5,3 +5,5 @@ pub mod LineAnswerLaws
 pub mod ToldLaws
 pub mod LineToldLaws
 pub mod LineCalls
+pub mod FrameCalls
+pub mod WorkoutCalls
