@@ -9,11 +9,11 @@ use Rattle.frame.specs.Answers.{frameDraft}
 use Rattle.command.specs.Entries.{withEntry, parse}
 use Rattle.reply.specs.Status.{soundStatus, statusIn}
 use Rattle.reply.specs.Replies.{headIn, afterStatus, replyIn}
-use Rattle.lease.specs.Lease.{stopFrame, answerOf, heldAfter}
+use Rattle.lease.specs.Lease.{stopFrame, answerOf}
 use Rattle.examples.specs.Worked.{AllHold, markedExamples}
 
 pub examples-hold : AllHold markedExamples
 unfolding noneOf stuffByte stuff prepend unstuff sumFrom contentsOf addressesOf payload wireOf frameIn
     judgeBytes judge isTerminated verdict frameDraft withEntry parse soundStatus statusIn headIn afterStatus replyIn
-    stopFrame answerOf heldAfter
+    stopFrame answerOf
 examples-hold = (refl, (refl, (refl, (refl, (refl, (refl, (refl, (refl, (refl, (refl, (refl, (refl, tt))))))))))))

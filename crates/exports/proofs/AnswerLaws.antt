@@ -9,6 +9,7 @@ use borrow.Author.Tests.{leb-true}
 use Rattle.answer.specs.Draft.{Draft, draftAnswer}
 use Rattle.answer.specs.Answer.{result, refused}
 use Rattle.lists.proofs.Cases.{by-bool}
+use Rattle.frame.specs.Address.{inRange}
 use Rattle.frame.specs.Frame.{Frame, standard, extended, contentsOf, wireOf}
 use Rattle.frame.specs.Verdict.{Verdict, verdict}
 use Rattle.frame.specs.Answers.{frameDraft, readAnswer}
@@ -17,7 +18,7 @@ use Rattle.workout.specs.Limits.{Limits}
 use Rattle.workout.specs.Workout.{Programmed, withinLimits}
 use Rattle.workout.specs.Answers.{workoutDraft}
 use Rattle.workout.proofs.WriteLaws.{contents-length}
-use Rattle.lease.specs.Lease.{stop, inRange, owns, stopFrame, answerOf, lentAnswer, tableOf}
+use Rattle.lease.specs.Lease.{stop, owns, stopFrame, answerOf, lentAnswer, tableOf}
 use Rattle.lease.specs.Answers.{writtenLength}
 use Rattle.lease.proofs.LeaseLaws.{stop-short}
 use Rattle.exports.specs.Answers.{WriteShort, ReadShort}

@@ -4,6 +4,7 @@ pub mod LineStateLaws
 pub mod LineAnswerLaws
 pub mod ToldLaws
 pub mod LineToldLaws
-pub mod LineCalls
 pub mod FrameCalls
+pub mod LineCalls
 pub mod WorkoutCalls
+pub mod LeaseCalls

@@ -10,6 +10,7 @@ use borrow.Author.Tests.{ne-eqb}
 use Rattle.lists.proofs.Cases.{by-bool}
 use Rattle.answer.specs.Answer.{Answer, result, refused, through}
 use Rattle.answer.specs.Draft.{Draft, draftAnswer}
+use Rattle.frame.specs.Address.{inRange}
 use Rattle.frame.specs.Frame.{Frame, contentsOf, wireOf}
 use Rattle.frame.specs.Verdict.{Verdict, verdict}
 use Rattle.frame.specs.Answers.{frameDraft, FrameOutline, standardOutline, extendedOutline, readAnswer}
@@ -18,7 +19,7 @@ use Rattle.frame.proofs.Table.{verdict-by-table}
 use Rattle.workout.specs.Limits.{Limits}
 use Rattle.workout.specs.Workout.{Programmed, withinLimits}
 use Rattle.workout.specs.Answers.{workoutDraft}
-use Rattle.lease.specs.Lease.{LeaseCall, hold, release, stop, inRange, owns, stopFrame, answerOf, addressOf, tableOf}
+use Rattle.lease.specs.Lease.{LeaseCall, hold, release, stop, owns, stopFrame, answerOf, addressOf, tableOf}
 use Rattle.lease.specs.Lease.{lentAnswer}
 use Rattle.lease.specs.Answers.{writtenLength}
 use Rattle.exports.specs.Packed.{Fields, Tells}

@@ -21,6 +21,7 @@ ghost use Rattle.workout.specs.Workout.{distance, time};
 ghost use Rattle.workout.specs.Answers.{workoutDraft};
 ghost use Rattle.lease.specs.Lease.{hold, release, stop, lentAnswer, lentAfter};
 ghost use Rattle.lease.specs.Answers.{writtenLength, outAfter};
+ghost use Rattle.lease.specs.Contracts.{Real};
 ghost use Rattle.exports.specs.Packed.{Tells};
 ghost use Rattle.exports.specs.Answers.{writeFields, readFields, leaseFields};
 ghost use Rattle.exports.specs.LineAnswers.{fedTo, finished, FedAs, FinishedAs};
@@ -143,6 +144,7 @@ pub extern "C" fn csafe_write_time_workout(
 pub extern "C" fn csafe_hold(table: &mut [u8], address: u32, token: u64) -> u64
     ensures { λ r. ⌜ Tells r (leaseFields (lentAnswer (now (table .entry)) (hold address token))) ⌝ }
     ensures { λ r. ⌜ now (table .exit) ≡ lentAfter (now (table .entry)) (hold address token) ⌝ }
+    ensures { λ r. ⌜ Real (now (table .entry)) token ⌝ }
 {
     let answer = lease::hold_lent(table, address, token);
     packed::of_lease(answer)
@@ -153,6 +155,7 @@ pub extern "C" fn csafe_hold(table: &mut [u8], address: u32, token: u64) -> u64
 pub extern "C" fn csafe_release(table: &mut [u8], address: u32, token: u64) -> u64
     ensures { λ r. ⌜ Tells r (leaseFields (lentAnswer (now (table .entry)) (release address token))) ⌝ }
     ensures { λ r. ⌜ now (table .exit) ≡ lentAfter (now (table .entry)) (release address token) ⌝ }
+    ensures { λ r. ⌜ Real (now (table .entry)) token ⌝ }
 {
     let answer = lease::release_lent(table, address, token);
     packed::of_lease(answer)
@@ -166,6 +169,7 @@ pub extern "C" fn csafe_stop(table: &[u8], address: u32, token: u64, out: &mut [
     ensures { λ r. ⌜ now (out .exit)
         ≡ outAfter (lentAnswer (now (table .entry)) (stop address token (length (now (out .entry)))))
         (now (out .entry)) ⌝ }
+    ensures { λ r. ⌜ Real (now (table .entry)) token ⌝ }
 {
     let written = lease::stop_lent(table, address, token, out);
     packed::of_written(written)

@@ -1,6 +1,6 @@
 -- The theorems of the functions themselves: any run of calls, known by nothing but what the contracts tell a caller.
 use Prim.Native.Nat.{ℕ}
-use mathlib.Core.Path.{_≡_, sym, ap, _∙_}
+use mathlib.Core.Path.{_≡_, refl, sym, ap, _∙_}
 use mathlib.Core.List.{List}
 use lib.ListN.{length, take, drop}
 use lib.Seq.{take-append-seam}
@@ -15,12 +15,14 @@ use Rattle.answer.specs.declared.Written.{Written}
 use Rattle.lease.specs.Lease.{LeaseCall, hold, release, stop, tableAnswer, tableAfter, lentAnswer, lentAfter}
 use Rattle.lease.specs.Answers.{leaseMeans, writtenLength, outAfter, stopTold}
 use Rattle.lease.specs.History.{newTable, newBytes, answersOn, tableOn, lentAnswersOn, lentOn, Tokens, TokenFits}
-use Rattle.lease.specs.History.{callsAt, answersAt}
+use Rattle.lease.specs.History.{Exchange, callsOf, answersOf}
+use Rattle.lease.specs.Leases.{Leases, LentLeases}
 use Rattle.lease.specs.declared.LeaseTable.{LeaseTable}
 use Rattle.lease.specs.declared.Leased.{Leased}
 use Rattle.lease.specs.declared.LeaseAnswer.{LeaseAnswer}
-use Rattle.lease.proofs.Isolation.{isolation}
-use Rattle.lease.proofs.Lent.{stop-table, stop-lent, new-lent}
+use Rattle.lease.proofs.TableHistory.{follows-answers}
+use Rattle.lease.proofs.Sentences.{sentences}
+use Rattle.lease.proofs.Lent.{stop-table, stop-lent, new-lent, lent-sentences}
 use Rattle.lease.proofs.LeaseTable.new.Reads as new-reads
 use Rattle.lease.proofs.LeaseTable.hold.Reads as hold-reads
 use Rattle.lease.proofs.LeaseTable.release.Reads as release-reads
@@ -30,7 +32,7 @@ use Rattle.lease.proofs.release_lent.Reads as release-lent-reads
 use Rattle.lease.proofs.stop_lent.Reads as stop-lent-reads
 
 -- What a caller of stop has is the answer that the contract names.
-told-is : (a : Answer ℕ) (out last : List ℕ) (x : Answer (List ℕ)) → a ≡ writtenLength x → last ≡ outAfter x out
+pub told-is : (a : Answer ℕ) (out last : List ℕ) (x : Answer (List ℕ)) → a ≡ writtenLength x → last ≡ outAfter x out
     → stopTold a last ≡ x
 unfolding stopTold
 told-is a out last (result w) e o =
@@ -75,6 +77,27 @@ table-calls {cs} k =
       r .1 ∙ ap (λ (ts : List ℕ). tableOn ts cs) (k .made),
     )
 
+-- A run on a table with these 256 tokens.
+abbrev pub TableRun : List ℕ → List Exchange → Type 0
+TableRun tokens history =
+    Answered Called (λ (t : LeaseTable). (t .tokens ≡ tokens) × (length tokens ≡ 256)) (callsOf history)
+    (answersOf history)
+
+-- A run on a table that `new` gave is one on a new table.
+pub new-run : (history : List Exchange) → Answered Called Made (callsOf history) (answersOf history)
+    → TableRun newTable history
+new-run history k = record { start = k .start; made = (k .made, refl); last = k .last; ran = k .ran }
+
+-- Document 01's sentences of every run of `new`, `hold`, `release` and `stop`.
+pub table-leases : Leases TableRun
+table-leases =
+    sentences TableRun (λ ts es k. (
+      k .made .1,
+      follows-answers ts es
+          (ran-run Called tableAnswer tableAfter (λ (t : LeaseTable). t .tokens) called (k .ran) .0
+          ∙ ap (λ (us : List ℕ). answersOn us (callsOf es)) (k .made .0)),
+    ))
+
 -- ---- calls on lent bytes
 
 -- A call on lent bytes, with its answer and the bytes afterwards: what its contract tells the caller.
@@ -97,7 +120,7 @@ called-lent s s′ c x (lent-released r κs t t′ e) = (e .answered, e .left)
 called-lent s s′ c x (lent-stopped {a = a} {u = u} r κs t out out′ e) = (
   told-is (writtenMeans r) (out .now) (out′ .now) (lentAnswer (t .now) (stop a u (length (out .now)))) (e .answered)
       (e .written),
-  sym (stop-lent (t .now) a u (length (out .now)) (e .real .bytes)),
+  sym (stop-lent (t .now) a u (length (out .now))),
 )
 
 token-fits : (s s′ : List ℕ) (c : LeaseCall) (x : Answer (List ℕ)) → CalledLent s c x s′ → TokenFits c
@@ -121,22 +144,7 @@ lent-calls {cs} k =
       r .1 ∙ ap (λ (s : List ℕ). lentOn s cs) (k .made) ∙ n .1,
     )
 
--- ---- isolation
-
--- Answers that are a new table's to calls that agree on one address's calls are equal at that address.
-alike : (a : ℕ) (cs ds : List LeaseCall) (rs ss : List (Answer (List ℕ))) → rs ≡ answersOn newTable cs
-    → ss ≡ answersOn newTable ds → callsAt a cs ≡ callsAt a ds → answersAt a cs rs ≡ answersAt a ds ss
-alike a cs ds rs ss e f q = ap (answersAt a cs) e ∙ isolation a cs ds q ∙ sym (ap (answersAt a ds) f)
-
--- Two runs on new tables that agree on one address's calls, with the lengths of their outputs, give that address equal
--- answers.
-pub table-isolated : (a : ℕ) (cs ds : List LeaseCall) (rs ss : List (Answer (List ℕ))) → Answered Called Made cs rs
-    → Answered Called Made ds ss → callsAt a cs ≡ callsAt a ds → answersAt a cs rs ≡ answersAt a ds ss
-table-isolated a cs ds rs ss k l q = alike a cs ds rs ss (table-calls k .0) (table-calls l .0) q
-
--- Two runs on the bytes of new tables that agree on one address's calls, with the lengths of their outputs, give that
--- address equal answers.
-pub lent-isolated : (a : ℕ) (cs ds : List LeaseCall) (rs ss : List (Answer (List ℕ)))
-    → Answered CalledLent (_≡ newBytes) cs rs → Answered CalledLent (_≡ newBytes) ds ss → callsAt a cs ≡ callsAt a ds
-    → answersAt a cs rs ≡ answersAt a ds ss
-lent-isolated a cs ds rs ss k l q = alike a cs ds rs ss (lent-calls k .0) (lent-calls l .0) q
+-- Document 01's sentences of every run of `hold_lent`, `release_lent` and `stop_lent`.
+pub lent-leases : LentLeases CalledLent
+lent-leases =
+    lent-sentences CalledLent (λ s s′ c x k. let e = called-lent s s′ c x k in (e .0, e .1, token-fits s s′ c x k))

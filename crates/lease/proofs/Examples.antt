@@ -4,7 +4,7 @@ use mathlib.Core.List.{[], _∷_}
 use Rattle.frame.specs.Stuffing.{stuff, stuffByte}
 use Rattle.frame.specs.Checksum.{sumFrom}
 use Rattle.frame.specs.Frame.{wireOf, payload, addressesOf, contentsOf}
-use Rattle.lease.specs.Lease.{hold, release, stop, stopFrame, answerOf, heldAfter}
+use Rattle.lease.specs.Lease.{hold, release, stop, stopFrame, answerOf}
 use Rattle.answer.specs.Answer.{result, refused}
 use Rattle.lease.specs.History.{answersOn, newTable}
 
@@ -17,5 +17,5 @@ pub a-day : answersOn newTable
     ≡ result [] ∷ refused 10 ∷ refused 10 ∷ refused 14 ∷ refused 9
     ∷ refused 11 ∷ refused 11 ∷ refused 11 ∷ refused 1 ∷ result (stopFrame 5)
     ∷ result [] ∷ refused 11 ∷ result [] ∷ result (stopFrame 5) ∷ []
-unfolding answerOf heldAfter stopFrame wireOf payload addressesOf contentsOf stuff stuffByte sumFrom
+unfolding answerOf stopFrame wireOf payload addressesOf contentsOf stuff stuffByte sumFrom
 a-day = refl

@@ -1,51 +1,130 @@
--- An address's answers depend on its own calls alone.
+-- An address's answers depend on its own calls alone, and are the same for a wrong token as for a free address.
 use Prim.Native.Nat.{ℕ}
-use mathlib.Core.Path.{_≡_, sym, ap, _∙_}
+use mathlib.Core.Path.{_≡_, refl, sym, ap, ap₂, _∙_, subst}
 use mathlib.Core.Bool.{true, false}
-use mathlib.Core.List.{List}
+use mathlib.Core.List.{List, [], _∷_}
+use native.Mathlib.Omega.{arith}
+use lib.Dec.{eqb}
 use lib.ListN.{length, getD}
 use borrow.Author.Tests.{eqb-true}
-use Rattle.lists.specs.Machine.{run}
-use Rattle.lists.proofs.Machines.{only-run}
-use Rattle.answer.specs.Answer.{Answer}
-use Rattle.lease.specs.Lease.{LeaseCall, addressOf, answerOf, heldAfter, tableAnswer, tableAfter}
-use Rattle.lease.specs.History.{newTable, answersOn, atAddress, callsAt, answersAt}
-use Rattle.lease.proofs.HistoryLaws.{token-after, length-after, new-length, new-free}
+use Rattle.lists.specs.Choice.{pick, Every}
+use Rattle.lists.proofs.Cases.{by-bool}
+use Rattle.frame.specs.Address.{inRange}
+use Rattle.answer.specs.Answer.{Answer, result, refused}
+use Rattle.lease.specs.Lease.{LeaseCall, hold, release, stop, addressOf, owns, answerOf, tableAfter}
+use Rattle.lease.specs.History.{Exchange, exchange, callsOf, historyAt}
+use Rattle.lease.proofs.HistoryLaws.{leaseLeft, leaseStep}
+use Rattle.lease.proofs.TableHistory.{Follows, token-after, length-after}
 
--- One address by itself: the answers to calls at it, where `held` is its token before them.
-abbrev alone : (held : ℕ) → List LeaseCall → List (Answer (List ℕ))
-alone held calls = run answerOf heldAfter held calls
+-- ---- one address by itself
 
--- A table of 256 tokens has token h at address a.
-record Has (a : ℕ) (ts : List ℕ) (h : ℕ) : Type 0 where
-  size : length ts ≡ 256
-  token : getD ts a 0 ≡ h
+-- Each call of a history at address a was answered by the token that the call before it left there.
+abbrev pub Alone : (a held : ℕ) → List Exchange → Type 0
+Alone a held [] = Unit {0}
+Alone a held (e ∷ es) = (e .answer ≡ answerOf held (e .call)) × Alone a (leaseStep a held e) es
 
--- A call at the address is answered, and leaves its token, as by the address alone.
-own : (a : ℕ) (ts : List ℕ) (h : ℕ) (c : LeaseCall) → atAddress a c ≡ true → Has a ts h
-    → (tableAnswer ts c ≡ answerOf h c) × Has a (tableAfter ts c) (heldAfter h c)
-own a ts h c y k = (
-  ap (λ (b : ℕ). answerOf (getD ts b 0) c) (eqb-true (addressOf c) a y) ∙ ap (λ (g : ℕ). answerOf g c) (k .token),
-  record {
-    size = length-after ts c ∙ k .size;
-    token = (simp y at (token-after ts c a (k .size))) ∙ ap (λ (g : ℕ). heldAfter g c) (k .token);
-  },
-)
+-- A call at another address leaves the token.
+away : (a h : ℕ) (x : Answer (List ℕ)) (c : LeaseCall) → eqb (addressOf c) a ≡ false → leaseLeft a h x c ≡ h
+away a h (refused n) c k = refl
+away a h (result w) (hold b t) k = simp k
+away a h (result w) (release b t) k = simp k
+away a h (result w) (stop b t room) k = refl
 
--- A call at another address leaves its token.
-other : (a : ℕ) (ts : List ℕ) (h : ℕ) (c : LeaseCall) → atAddress a c ≡ false → Has a ts h → Has a (tableAfter ts c) h
-other a ts h c n k =
-    record { size = length-after ts c ∙ k .size; token = (simp n at (token-after ts c a (k .size))) ∙ k .token }
+-- An address's exchanges are those that it has by itself.
+pub alone : (a : ℕ) (ts : List ℕ) (es : List Exchange) → length ts ≡ 256 → Follows ts es
+    → Alone a (getD ts a 0) (historyAt a es)
+alone a ts [] l f = tt
+alone a ts (e ∷ es) l f =
+    let rest = alone a (tableAfter ts (e .call)) es (length-after ts (e .call) ∙ l) (f .1) in
+    let after = token-after ts a (e .answer) (e .call) l (f .0) in
+    by-bool (eqb (addressOf (e .call)) a)
+    (λ y. simp y (
+      f .0 ∙ ap (λ (b : ℕ). answerOf (getD ts b 0) (e .call)) (eqb-true (addressOf (e .call)) a y),
+      subst (λ (h : ℕ). Alone a h (historyAt a es)) after rest,
+    ))
+    (λ n. simp n
+    (subst (λ (h : ℕ). Alone a h (historyAt a es)) (after ∙ away a (getD ts a 0) (e .answer) (e .call) n) rest))
 
--- An address's answers are those that it gives by itself to its own calls.
-answers-alone : (a : ℕ) (cs : List LeaseCall) → answersAt a cs (answersOn newTable cs) ≡ alone 0 (callsAt a cs)
-answers-alone a cs =
-    only-run (atAddress a) tableAnswer tableAfter answerOf heldAfter (Has a) (own a) (other a) newTable 0
-    (record { size = new-length; token = new-free a })
-    cs
+-- ---- equal calls get equal answers
 
--- Two lists of calls that agree on one address's calls, with the lengths of outputs, give that address equal answers
--- and equal bytes written.
-pub isolation : (a : ℕ) (cs ds : List LeaseCall) → callsAt a cs ≡ callsAt a ds
-    → answersAt a cs (answersOn newTable cs) ≡ answersAt a ds (answersOn newTable ds)
-isolation a cs ds e = answers-alone a cs ∙ ap (alone 0) e ∙ sym (answers-alone a ds)
+-- Where two lists of exchanges at an address have equal calls, they are equal if each pair's answers are.
+module _ (a : ℕ) (P : ℕ → ℕ → LeaseCall → Type 0)
+    (step : (h k : ℕ) (c : LeaseCall) → P h k c → (answerOf h c ≡ answerOf k c))
+    (keeps : (h k : ℕ) (c : LeaseCall) (d : LeaseCall) → P h k c
+    → P h k d → P (leaseLeft a h (answerOf h c) c) (leaseLeft a k (answerOf k c) c) d) where
+  keeps-all : (h k : ℕ) (c : LeaseCall) (ds : List LeaseCall) → P h k c → Every (P h k) ds
+      → Every (P (leaseLeft a h (answerOf h c) c) (leaseLeft a k (answerOf k c) c)) ds
+  keeps-all h k c [] p q = tt
+  keeps-all h k c (d ∷ ds) p q = (keeps h k c d p (q .0), keeps-all h k c ds p (q .1))
+
+  same-exchanges : (h k : ℕ) (es fs : List Exchange) → Alone a h es → Alone a k fs → callsOf es ≡ callsOf fs
+      → Every (P h k) (callsOf es) → es ≡ fs
+  same-exchanges h k [] [] u v q p = refl
+  same-exchanges h k [] (f ∷ fs) u v q p = let z : _≡_ {A = ℕ} 0 1 = cc in absurd (omega arith)
+  same-exchanges h k (e ∷ es) [] u v q p = let z : _≡_ {A = ℕ} 0 1 = cc in absurd (omega arith)
+  same-exchanges h k (e ∷ es) (f ∷ fs) u v q p =
+      let calls : e .call ≡ f .call = cc in
+      let rest : callsOf es ≡ callsOf fs = cc in
+      let answers : e .answer ≡ f .answer =
+      u .0 ∙ step h k (e .call) (p .0) ∙ ap (answerOf k) calls ∙ sym (v .0) in
+      let first : leaseStep a h e ≡ leaseLeft a h (answerOf h (e .call)) (e .call) =
+      ap (λ (x : Answer (List ℕ)). leaseLeft a h x (e .call)) (u .0) in
+      let second : leaseStep a k f ≡ leaseLeft a k (answerOf k (e .call)) (e .call) =
+      ap (λ (x : Answer (List ℕ)). leaseLeft a k x (f .call)) (v .0)
+      ∙ ap (λ (c : LeaseCall). leaseLeft a k (answerOf k c) c) (sym calls) in
+      ap₂ (λ (x : Exchange) (l : List Exchange). x ∷ l) (ap₂ exchange calls answers)
+      (same-exchanges (leaseLeft a h (answerOf h (e .call)) (e .call)) (leaseLeft a k (answerOf k (e .call)) (e .call))
+      es fs
+      (subst (λ (t : ℕ). Alone a t es) first (u .1))
+      (subst (λ (t : ℕ). Alone a t fs) second (v .1))
+      rest
+      (keeps-all h k (e .call) (callsOf es) (p .0) (p .1)))
+
+-- Equal calls from equal tokens on get equal answers.
+pub isolation : (a h k : ℕ) (es fs : List Exchange) → Alone a h es → Alone a k fs → h ≡ k → callsOf es ≡ callsOf fs
+    → es ≡ fs
+isolation a h k es fs u v e q =
+    same-exchanges a (λ h k c. h ≡ k)
+    (λ h k c e. ap (λ (t : ℕ). answerOf t c) e)
+    (λ h k c d e f. ap (λ (t : ℕ). leaseLeft a t (answerOf t c) c) e)
+    h k es fs u v q (all (callsOf es))
+  where
+    all : (cs : List LeaseCall) → Every (λ (c : LeaseCall). h ≡ k) cs
+    all [] = tt
+    all (c ∷ cs) = (e, all cs)
+
+-- ---- a wrong token and a free address
+
+-- A release or a stop with a token that does not own an address with token h, nor one with token k.
+abbrev pub Wrong : (h k : ℕ) → LeaseCall → Type 0
+Wrong h k (hold a t) = ⊥
+Wrong h k (release a t) = (owns t h ≡ false) × (owns t k ≡ false)
+Wrong h k (stop a t room) = (owns t h ≡ false) × (owns t k ≡ false)
+
+-- It is refused with 9 or 11.
+wrong-answer : (h k : ℕ) (c : LeaseCall) → Wrong h k c
+    → (answerOf h c ≡ pick (inRange (addressOf c)) (refused 11) (refused 9))
+    × (answerOf k c ≡ pick (inRange (addressOf c)) (refused 11) (refused 9))
+unfolding answerOf
+wrong-answer h k (hold a t) w = absurd w
+wrong-answer h k (release a t) w = (simp (w .0), simp (w .1))
+wrong-answer h k (stop a t room) w = (simp (w .0), simp (w .1))
+
+refusal-leaves : (a h : ℕ) (c : LeaseCall) (x : Answer (List ℕ))
+    → x ≡ pick (inRange (addressOf c)) (refused 11) (refused 9) → leaseLeft a h x c ≡ h
+refusal-leaves a h c x e =
+    ap (λ (y : Answer (List ℕ)). leaseLeft a h y c) e
+    ∙ by-bool {P = leaseLeft a h (pick (inRange (addressOf c)) (refused 11) (refused 9)) c ≡ h} (inRange (addressOf c))
+    (λ y. simp y)
+    (λ n. simp n)
+
+-- Equal releases and stops with tokens that own neither get equal answers.
+pub wrong-alike : (a h k : ℕ) (es fs : List Exchange) → Alone a h es → Alone a k fs → callsOf es ≡ callsOf fs
+    → Every (Wrong h k) (callsOf es) → es ≡ fs
+wrong-alike a h k es fs u v q w =
+    same-exchanges a Wrong
+    (λ h k c p. let m = wrong-answer h k c p in m .0 ∙ sym (m .1))
+    (λ h k c d p r. let m = wrong-answer h k c p in
+    subst (λ (t : ℕ). Wrong t (leaseLeft a k (answerOf k c) c) d) (sym (refusal-leaves a h c (answerOf h c) (m .0)))
+    (subst (λ (t : ℕ). Wrong h t d) (sym (refusal-leaves a k c (answerOf k c) (m .1))) r))
+    h k es fs u v q w

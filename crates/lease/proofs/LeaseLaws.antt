@@ -5,24 +5,23 @@ use mathlib.Core.Bool.{true, false}
 use mathlib.Core.List.{List, [], _∷_}
 use native.Mathlib.Omega.{arith}
 use native.Mathlib.Nat.{zero-add}
-use lib.Dec.{leb, ltb}
-use lib.ListN.{length, getD, set, List·getD-eq-default}
-use lib.Seq.{set-getD, getD-set-same}
-use borrow.Author.Tests.{ltb-true, ltb-false, eq-eqb, ne-eqb}
+use lib.Dec.{leb}
+use lib.ListN.{length, getD, List·getD-eq-default}
+use borrow.Author.Tests.{eq-eqb, ne-eqb}
 use Rattle.answer.specs.Draft.{draftAnswer, draftOut}
 use Rattle.answer.specs.Answer.{refused, result, Answer}
-use Rattle.numbers.specs.Number.{number, put, Bytes}
+use Rattle.numbers.specs.Number.{number}
 use Rattle.lists.proofs.Cases.{by-bool}
 use Rattle.lists.proofs.Tests.{within-true}
-use Rattle.numbers.proofs.Numbers.{numbers-at, length-numbers, put-number, put-out}
+use Rattle.numbers.proofs.Numbers.{numbers-at, length-numbers}
+use Rattle.frame.specs.Address.{inRange}
 use Rattle.frame.specs.Stuffing.{isStuffed, stuff, stuffByte}
 use Rattle.frame.specs.Checksum.{sumFrom}
 use Rattle.frame.specs.Frame.{wireOf, payload, addressesOf, contentsOf, extended}
 use Rattle.frame.specs.Answers.{frameDraft}
 use Rattle.frame.proofs.WireLaws.{draft-fits}
-use Rattle.lease.specs.Lease.{LeaseCall, hold, release, stop, addressOf, tokenOf, inRange, owns, stopFrame}
-use Rattle.lease.specs.Lease.{answerOf, leaves, ifAccepted, heldAfter, tableAnswer, tableAfter, tableOf}
-use Rattle.lease.specs.Lease.{lentAnswer, lentAfter}
+use Rattle.lease.specs.Lease.{LeaseCall, hold, release, stop, addressOf, tokenOf, owns, stopFrame, answerOf}
+use Rattle.lease.specs.Lease.{tableAnswer, tableLeft, tableOf, lentAnswer, lentLeft, lentAfter}
 use Rattle.lease.specs.Answers.{writtenLength, outAfter}
 use Rattle.lease.specs.Contracts.{TableCall, Real, LentCall}
 use Rattle.lease.specs.Private.{Settles, settled, settledLent}
@@ -33,7 +32,7 @@ pub range-means : (a : ℕ) → inRange a ≡ true → (1 ≤ a) × (a ≤ 252)
 range-means a h = within-true 1 252 a h
 
 -- An accepted call has an address in range.
-accepted-range : (h : ℕ) (c : LeaseCall) (w : List ℕ) → answerOf h c ≡ result w → inRange (addressOf c) ≡ true
+pub accepted-range : (h : ℕ) (c : LeaseCall) (w : List ℕ) → answerOf h c ≡ result w → inRange (addressOf c) ≡ true
 unfolding answerOf
 accepted-range h c w e = by-bool (inRange (addressOf c)) (λ y. y) (λ n. absurd (outside c n e))
   where
@@ -49,45 +48,25 @@ pub settles : (h : ℕ) (c : LeaseCall) (x : Answer (List ℕ)) → x ≡ answer
 settles h c (result w) e = range-means (addressOf c) (accepted-range h c w (sym e))
 settles h c (refused n) e = tt
 
--- ---- the token afterwards
-
-after-accepted : (h : ℕ) (c : LeaseCall) (w : List ℕ) → answerOf h c ≡ result w → heldAfter h c ≡ leaves h c
-unfolding heldAfter
-after-accepted h c w e = ap (λ (r : Answer (List ℕ)). ifAccepted r (leaves h c) h) e
-
-pub after-refused : (h : ℕ) (c : LeaseCall) (n : ℕ) → answerOf h c ≡ refused n → heldAfter h c ≡ h
-unfolding heldAfter
-after-refused h c n e = ap (λ (r : Answer (List ℕ)). ifAccepted r (leaves h c) h) e
-
--- A stop leaves the token.
-pub stop-held : (h a t room : ℕ) → heldAfter h (stop a t room) ≡ h
-unfolding heldAfter
-stop-held h a t room = either (answerOf h (stop a t room))
-  where
-    either : (r : Answer (List ℕ)) → ifAccepted r h h ≡ h
-    either (result w) = refl
-    either (refused n) = refl
-
 -- ---- a call on a table
 
--- A call that leaves its address's token leaves the table.
-pub keeps-table : (ts : List ℕ) (c : LeaseCall) → heldAfter (getD ts (addressOf c) 0) c ≡ getD ts (addressOf c) 0
-    → tableAfter ts c ≡ ts
-keeps-table ts c e = ap (set ts (addressOf c)) e ∙ set-getD ts (addressOf c) 0
+-- What an accepted or refused hold or release stores is what it leaves.
+pub hold-stored : (a t : ℕ) (ts : List ℕ) (x : Answer (List ℕ)) → settled x a t ts ≡ tableLeft x (hold a t) ts
+hold-stored a t ts (result w) = refl
+hold-stored a t ts (refused n) = refl
+
+pub release-stored : (a t : ℕ) (ts : List ℕ) (x : Answer (List ℕ)) → settled x a 0 ts ≡ tableLeft x (release a t) ts
+release-stored a t ts (result w) = refl
+release-stored a t ts (refused n) = refl
 
 -- What was judged and stored is the table after the call.
-settled-table : (ts : List ℕ) (c : LeaseCall) (h : ℕ) (x : Answer (List ℕ)) → h ≡ getD ts (addressOf c) 0
-    → x ≡ answerOf h c → settled x (addressOf c) (leaves h c) ts ≡ tableAfter ts c
-settled-table ts c h (result w) held e =
-    ap (set ts (addressOf c)) (sym (after-accepted h c w (sym e)) ∙ ap (λ (k : ℕ). heldAfter k c) held)
-settled-table ts c h (refused n) held e =
-    sym (keeps-table ts c (ap (λ (k : ℕ). heldAfter k c) (sym held) ∙ after-refused h c n (sym e) ∙ held))
-
-pub table-call : (ts : List ℕ) (c : LeaseCall) (h : ℕ) (x a : Answer (List ℕ)) (after : List ℕ)
-    → h ≡ getD ts (addressOf c) 0 → x ≡ answerOf h c → (a ≡ x) × (after ≡ settled x (addressOf c) (leaves h c) ts)
-    → TableCall ts c a after
-table-call ts c h x a after held e s =
-    record { answered = s .0 ∙ e ∙ ap (λ (k : ℕ). answerOf k c) held; left = s .1 ∙ settled-table ts c h x held e }
+pub table-call : (ts : List ℕ) (c : LeaseCall) (v : ℕ)
+    → ((x : Answer (List ℕ)) → settled x (addressOf c) v ts ≡ tableLeft x c ts)
+    → (h : ℕ) (x a : Answer (List ℕ)) (after : List ℕ) → h ≡ getD ts (addressOf c) 0 → x ≡ answerOf h c
+    → (a ≡ x) × (after ≡ settled x (addressOf c) v ts) → TableCall ts c a after
+table-call ts c v stored h x a after held e s =
+    let y = e ∙ ap (λ (g : ℕ). answerOf g c) held in
+    record { answered = s .0 ∙ y; left = s .1 ∙ stored x ∙ ap (λ (r : Answer (List ℕ)). tableLeft r c ts) y }
 
 -- ---- a call on lent bytes
 
@@ -100,50 +79,36 @@ token-none s a h = List·getD-eq-default (tableOf s) 0 (omega (arith, length-num
 
 pub lent-size : (s : List ℕ) (c : LeaseCall) → (length s ≡ 2048 → ⊥)
     → (refused 18 ≡ lentAnswer s c) × (s ≡ lentAfter s c)
-unfolding lentAnswer lentAfter
-lent-size s c n = (simp (ne-eqb (length s) 2048 n), simp (ne-eqb (length s) 2048 n))
+unfolding lentAnswer
+lent-size s c n =
+    let e : refused 18 ≡ lentAnswer s c = simp (ne-eqb (length s) 2048 n) in
+    (e, ap (λ (r : Answer (List ℕ)). lentLeft r c s) e)
 
-module _ (s : List ℕ) (c : LeaseCall) (size : length s ≡ 2048) where
-  pub lent-answer : lentAnswer s c ≡ tableAnswer (tableOf s) c
-  unfolding lentAnswer
-  lent-answer = simp (eq-eqb (length s) 2048 size)
+pub lent-answer : (s : List ℕ) (c : LeaseCall) → length s ≡ 2048 → lentAnswer s c ≡ tableAnswer (tableOf s) c
+unfolding lentAnswer
+lent-answer s c size = simp (eq-eqb (length s) 2048 size)
 
-  pub lent-bytes : lentAfter s c ≡ put 8 (8 * addressOf c) (getD (tableAfter (tableOf s) c) (addressOf c) 0) s
-  unfolding lentAfter
-  lent-bytes = simp (eq-eqb (length s) 2048 size)
+pub hold-stored-lent : (a t : ℕ) (s : List ℕ) (x : Answer (List ℕ)) → settledLent x a t s ≡ lentLeft x (hold a t) s
+hold-stored-lent a t s (result w) = refl
+hold-stored-lent a t s (refused n) = refl
 
-  -- A call that leaves its address's token leaves the bytes.
-  pub keeps-lent : Bytes s → heldAfter (getD (tableOf s) (addressOf c) 0) c ≡ getD (tableOf s) (addressOf c) 0
-      → lentAfter s c ≡ s
-  keeps-lent b e =
-      lent-bytes
-      ∙ ap (λ (us : List ℕ). put 8 (8 * addressOf c) (getD us (addressOf c) 0) s) (keeps-table (tableOf s) c e)
-      ∙ by-bool {P = put 8 (8 * addressOf c) (getD (tableOf s) (addressOf c) 0) s ≡ s} (ltb (addressOf c) 256)
-      (λ k. ap (λ (n : ℕ). put 8 (8 * addressOf c) n s) (token-lent s (addressOf c) (ltb-true (addressOf c) 256 k))
-      ∙ put-number 8 (8 * addressOf c) s b)
-      (λ k. put-out 8 (8 * addressOf c) (getD (tableOf s) (addressOf c) 0) s
-      (omega (arith, ltb-false (addressOf c) 256 k)))
+pub release-stored-lent : (a t : ℕ) (s : List ℕ) (x : Answer (List ℕ)) → settledLent x a 0 s ≡ lentLeft x (release a t) s
+release-stored-lent a t s (result w) = refl
+release-stored-lent a t s (refused n) = refl
 
-  settled-lent : Bytes s → (h : ℕ) (x : Answer (List ℕ)) → h ≡ getD (tableOf s) (addressOf c) 0 → x ≡ answerOf h c
-      → settledLent x (addressOf c) (leaves h c) s ≡ lentAfter s c
-  settled-lent b h (result w) held e =
-      let r = range-means (addressOf c) (accepted-range h c w (sym e)) in
-      ap (λ (n : ℕ). put 8 (8 * addressOf c) n s)
-      (sym (getD-set-same (tableOf s) (addressOf c) (leaves h c) 0 (omega (arith, length-numbers 8 256 0 s)))
-      ∙ ap (λ (ts : List ℕ). getD ts (addressOf c) 0) (settled-table (tableOf s) c h (result w) held e))
-      ∙ sym lent-bytes
-  settled-lent b h (refused n) held e =
-      sym (keeps-lent b (ap (λ (k : ℕ). heldAfter k c) (sym held) ∙ after-refused h c n (sym e) ∙ held))
-
-  pub lent-call : Real s (tokenOf c) → (h : ℕ) (x a : Answer (List ℕ)) (after : List ℕ)
-      → h ≡ getD (tableOf s) (addressOf c) 0 → x ≡ answerOf h c
-      → (a ≡ x) × (after ≡ settledLent x (addressOf c) (leaves h c) s) → LentCall s c a after
-  lent-call real h x a after held e k =
-      record {
-        answered = k .0 ∙ e ∙ ap (λ (l : ℕ). answerOf l c) held ∙ sym lent-answer;
-        left = k .1 ∙ settled-lent (real .bytes) h x held e;
-        real = real;
-      }
+-- What was judged and stored in 2,048 bytes are the bytes after the call.
+pub lent-call : (s : List ℕ) (c : LeaseCall) (v : ℕ)
+    → ((x : Answer (List ℕ)) → settledLent x (addressOf c) v s ≡ lentLeft x c s)
+    → length s ≡ 2048 → Real s (tokenOf c) → (h : ℕ) (x a : Answer (List ℕ)) (after : List ℕ)
+    → h ≡ getD (tableOf s) (addressOf c) 0 → x ≡ answerOf h c
+    → (a ≡ x) × (after ≡ settledLent x (addressOf c) v s) → LentCall s c a after
+lent-call s c v stored size real h x a after held e k =
+    let y = e ∙ ap (λ (g : ℕ). answerOf g c) held ∙ sym (lent-answer s c size) in
+    record {
+      answered = k .0 ∙ y;
+      left = k .1 ∙ stored x ∙ ap (λ (r : Answer (List ℕ)). lentLeft r c s) y;
+      real = real;
+    }
 
 -- ---- a stop
 

@@ -5,84 +5,76 @@ use mathlib.Core.Logic.{_⊎_, inl, inr}
 use mathlib.Core.List.{List, [], _∷_, map}
 use native.Mathlib.Omega.{arith}
 use native.Mathlib.Nat.{zero-add}
-use lib.Dec.{ltb, eqb}
 use lib.ListN.{length, getD, set, replicate}
-use lib.Seq.{getD-set-same, set-out, take-all}
-use borrow.Author.Tests.{ltb-true, ltb-false, eqb-true, eqb-false}
-use Rattle.lists.proofs.Cases.{by-bool}
+use lib.Seq.{take-all}
 use Rattle.lists.proofs.Machines.{simulates-every}
 use Rattle.numbers.specs.Number.{number, numbers, put, bytesOfAll, Bytes}
-use Rattle.numbers.proofs.Numbers.{length-numbers, numbers-put, number-bound, put-out, length-put, put-bytes}
-use Rattle.numbers.proofs.Numbers.{bytes-numbers, put-before, put-after}
+use Rattle.numbers.proofs.Numbers.{length-numbers, numbers-put, length-put, put-bytes, bytes-numbers, put-before}
+use Rattle.numbers.proofs.Numbers.{put-after}
 use Rattle.answer.specs.Answer.{result, refused, Answer}
-use Rattle.lease.specs.Lease.{LeaseCall, hold, release, stop, addressOf, answerOf, leaves, ifAccepted, heldAfter}
-use Rattle.lease.specs.Lease.{tableAnswer, tableAfter, tableOf, lentAnswer, lentAfter}
+use Rattle.lease.specs.Lease.{LeaseCall, hold, release, stop, addressOf, tableAnswer, tableLeft, tableAfter}
+use Rattle.lease.specs.Lease.{tableOf, lentAnswer, lentLeft, lentAfter}
 use Rattle.lease.specs.History.{newTable, newBytes, tableOn, answersOn, lentOn, lentAnswersOn, Tokens, TokenFits}
-use Rattle.lease.specs.History.{callsAt, answersAt, holder}
-use Rattle.lease.specs.Statements.{Sends}
-use Rattle.lease.proofs.LeaseLaws.{after-refused, stop-held, token-lent, lent-answer, lent-bytes, lent-size}
-use Rattle.lease.proofs.LeaseLaws.{keeps-table, keeps-lent}
-use Rattle.lease.proofs.HistoryLaws.{history}
-use Rattle.lease.proofs.Isolation.{isolation}
-use Rattle.lease.proofs.Stops.{stop-exactly, wrong-or-free}
+use Rattle.lease.specs.History.{Exchange, RanLent, ended, call, aside}
+use Rattle.lease.specs.Leases.{LentRun, LentLeases}
+use Rattle.lease.proofs.LeaseLaws.{range-means, accepted-range, lent-answer, lent-size}
+use Rattle.lease.proofs.TableHistory.{Follows}
+use Rattle.lease.proofs.Sentences.{sentences}
 
 -- ---- one call
 
--- The token at an address has 64 bits after a call, if it and the call's token have.
-after-bound : (h : ℕ) (c : LeaseCall) → TokenFits c → h < 2 ^ 64 → heldAfter h c < 2 ^ 64
-unfolding heldAfter
-after-bound h c b k = by (answerOf h c) (left c b)
-  where
-    left : (c : LeaseCall) → TokenFits c → leaves h c < 2 ^ 64
-    left (hold a t) b = b
-    left (release a t) b = omega arith
-    left (stop a t room) b = k
+-- What the bytes keep, whatever the answer: their number, and that they are bytes.
+length-left : (s : List ℕ) (x : Answer (List ℕ)) (c : LeaseCall) → length (lentLeft x c s) ≡ length s
+length-left s (refused n) c = refl
+length-left s (result w) (hold a t) = length-put 8 (8 * a) t s
+length-left s (result w) (release a t) = length-put 8 (8 * a) 0 s
+length-left s (result w) (stop a t room) = refl
 
-    by : (r : Answer (List ℕ)) → leaves h c < 2 ^ 64 → ifAccepted r (leaves h c) h < 2 ^ 64
-    by (result w) l = l
-    by (refused n) l = k
+bytes-left : (s : List ℕ) (x : Answer (List ℕ)) (c : LeaseCall) → Bytes s → Bytes (lentLeft x c s)
+bytes-left s (refused n) c b = b
+bytes-left s (result w) (hold a t) b = put-bytes 8 (8 * a) t s b
+bytes-left s (result w) (release a t) b = put-bytes 8 (8 * a) 0 s b
+bytes-left s (result w) (stop a t room) b = b
 
-module _ (s : List ℕ) (c : LeaseCall) (size : length s ≡ 2048) (bytes : Bytes s) where
-  length-lent : length (lentAfter s c) ≡ 2048
-  length-lent =
-      ap length (lent-bytes s c size)
-      ∙ length-put 8 (8 * addressOf c) (getD (tableAfter (tableOf s) c) (addressOf c) 0) s
-      ∙ size
+-- A token of 64 bits written over an address's bytes is put into the table that they are.
+table-put : (s : List ℕ) (a t : ℕ) → length s ≡ 2048 → a < 256 → t < 2 ^ 64
+    → tableOf (put 8 (8 * a) t s) ≡ set (tableOf s) a t
+table-put s a t size k b =
+    ap (λ (i : ℕ). tableOf (put 8 i t s)) (sym (zero-add (8 * a))) ∙ numbers-put 8 256 0 t s a k (omega arith) b
 
-  bytes-lent : Bytes (lentAfter s c)
-  bytes-lent =
-      subst Bytes (sym (lent-bytes s c size))
-      (put-bytes 8 (8 * addressOf c) (getD (tableAfter (tableOf s) c) (addressOf c) 0) s bytes)
+-- The bytes after a call, read as a table, are the table after it.
+table-left : (s : List ℕ) (x : Answer (List ℕ)) (c : LeaseCall) → length s ≡ 2048 → TokenFits c
+    → tableAnswer (tableOf s) c ≡ x → tableOf (lentLeft x c s) ≡ tableLeft x c (tableOf s)
+table-left s (refused n) c size b e = refl
+table-left s (result w) (hold a t) size b e =
+    let r = range-means a (accepted-range (getD (tableOf s) a 0) (hold a t) w e) in
+    table-put s a t size (omega (arith, r .1)) b
+table-left s (result w) (release a t) size b e =
+    let r = range-means a (accepted-range (getD (tableOf s) a 0) (release a t) w e) in
+    table-put s a 0 size (omega (arith, r .1)) (omega arith)
+table-left s (result w) (stop a t room) size b e = refl
 
-  -- The bytes after a call, read as a table, are the table after it.
-  table-lent : TokenFits c → tableOf (lentAfter s c) ≡ tableAfter (tableOf s) c
-  table-lent b =
-      let a = addressOf c in
-      let v = heldAfter (getD (tableOf s) a 0) c in
-      ap tableOf (lent-bytes s c size)
-      ∙ by-bool {P = tableOf (put 8 (8 * a) (getD (set (tableOf s) a v) a 0) s) ≡ set (tableOf s) a v} (ltb a 256)
-      (λ y. let k : a < 256 = ltb-true a 256 y in
-      let h : getD (tableOf s) a 0 < 2 ^ 64 = omega (arith, token-lent s a k, number-bound 8 (8 * a) s bytes) in
-      ap₂ (λ (i n : ℕ). tableOf (put 8 i n s)) (sym (zero-add (8 * a)))
-      (getD-set-same (tableOf s) a v 0 (omega (arith, length-numbers 8 256 0 s)))
-      ∙ numbers-put 8 256 0 v s a k (omega arith) (after-bound (getD (tableOf s) a 0) c b h))
-      (λ n. let k : 256 ≤ a = ltb-false a 256 n in
-      ap tableOf (put-out 8 (8 * a) (getD (set (tableOf s) a v) a 0) s (omega arith))
-      ∙ sym (set-out (tableOf s) a v (omega (arith, length-numbers 8 256 0 s))))
+table-lent : (s : List ℕ) (c : LeaseCall) → length s ≡ 2048 → TokenFits c
+    → tableOf (lentAfter s c) ≡ tableAfter (tableOf s) c
+table-lent s c size b =
+    ap (λ (x : Answer (List ℕ)). tableOf (lentLeft x c s)) (lent-answer s c size)
+    ∙ table-left s (tableAnswer (tableOf s) c) c size b refl
 
 -- Bytes of other addresses are untouched, by any call on any bytes.
 pub others-untouched : (s : List ℕ) (c : LeaseCall) (i : ℕ) → (i < 8 * addressOf c) ⊎ (8 * addressOf c + 8 ≤ i)
     → getD (lentAfter s c) i 0 ≡ getD s i 0
-unfolding lentAfter
-others-untouched s c i o =
-    by-bool (eqb (length s) 2048)
-    (λ y. simp y (apart o))
-    (λ n. simp n)
+others-untouched s c i o = by (lentAnswer s c) c o
   where
-    apart : (i < 8 * addressOf c) ⊎ (8 * addressOf c + 8 ≤ i)
-        → getD (put 8 (8 * addressOf c) (getD (tableAfter (tableOf s) c) (addressOf c) 0) s) i 0 ≡ getD s i 0
-    apart (inl h) = put-before 8 (8 * addressOf c) (getD (tableAfter (tableOf s) c) (addressOf c) 0) s i h
-    apart (inr h) = put-after 8 (8 * addressOf c) (getD (tableAfter (tableOf s) c) (addressOf c) 0) s i h
+    apart : (a t : ℕ) → (i < 8 * a) ⊎ (8 * a + 8 ≤ i) → getD (put 8 (8 * a) t s) i 0 ≡ getD s i 0
+    apart a t (inl h) = put-before 8 (8 * a) t s i h
+    apart a t (inr h) = put-after 8 (8 * a) t s i h
+
+    by : (x : Answer (List ℕ)) (c : LeaseCall) → (i < 8 * addressOf c) ⊎ (8 * addressOf c + 8 ≤ i)
+        → getD (lentLeft x c s) i 0 ≡ getD s i 0
+    by (refused n) c o = refl
+    by (result w) (hold a t) o = apart a t o
+    by (result w) (release a t) o = apart a 0 o
+    by (result w) (stop a t room) o = refl
 
 -- ---- bytes that are a table
 
@@ -102,9 +94,9 @@ call-as : (s ts : List ℕ) (c : LeaseCall) → TokenFits c → IsTable s ts
 call-as s ts c b k = (
   answer-as s ts c k,
   record {
-    size = length-lent s c (k .size) (k .bytes);
-    bytes = bytes-lent s c (k .size) (k .bytes);
-    table = table-lent s c (k .size) (k .bytes) b ∙ ap (λ (us : List ℕ). tableAfter us c) (k .table);
+    size = length-left s (lentAnswer s c) c ∙ k .size;
+    bytes = bytes-left s (lentAnswer s c) c (k .bytes);
+    table = table-lent s c (k .size) b ∙ ap (λ (us : List ℕ). tableAfter us c) (k .table);
   },
 )
 
@@ -144,26 +136,27 @@ lent-bytes-on s cs size b t =
 
 -- A refused call changes no token.
 pub refused-table : (ts : List ℕ) (c : LeaseCall) (n : ℕ) → tableAnswer ts c ≡ refused n → tableAfter ts c ≡ ts
-refused-table ts c n e = keeps-table ts c (after-refused (getD ts (addressOf c) 0) c n e)
+refused-table ts c n e = ap (λ (x : Answer (List ℕ)). tableLeft x c ts) e
 
 -- A stop changes no token.
 pub stop-table : (ts : List ℕ) (a t room : ℕ) → tableAfter ts (stop a t room) ≡ ts
-stop-table ts a t room = keeps-table ts (stop a t room) (stop-held (getD ts a 0) a t room)
+stop-table ts a t room = by (tableAnswer ts (stop a t room))
+  where
+    by : (x : Answer (List ℕ)) → tableLeft x (stop a t room) ts ≡ ts
+    by (result w) = refl
+    by (refused n) = refl
 
 -- A refused call changes no byte.
-pub refused-lent : (s : List ℕ) (c : LeaseCall) (n : ℕ) → Bytes s → lentAnswer s c ≡ refused n → lentAfter s c ≡ s
-refused-lent s c n b e =
-    by-bool (eqb (length s) 2048)
-    (λ y. let size = eqb-true (length s) 2048 y in
-    keeps-lent s c size b (after-refused (getD (tableOf s) (addressOf c) 0) c n (sym (lent-answer s c size) ∙ e)))
-    (λ k. sym (lent-size s c (eqb-false (length s) 2048 k) .1))
+pub refused-lent : (s : List ℕ) (c : LeaseCall) (n : ℕ) → lentAnswer s c ≡ refused n → lentAfter s c ≡ s
+refused-lent s c n e = ap (λ (x : Answer (List ℕ)). lentLeft x c s) e
 
 -- A stop changes no byte.
-pub stop-lent : (s : List ℕ) (a t room : ℕ) → Bytes s → lentAfter s (stop a t room) ≡ s
-stop-lent s a t room b =
-    by-bool (eqb (length s) 2048)
-    (λ y. keeps-lent s (stop a t room) (eqb-true (length s) 2048 y) b (stop-held (getD (tableOf s) a 0) a t room))
-    (λ n. sym (lent-size s (stop a t room) (eqb-false (length s) 2048 n) .1))
+pub stop-lent : (s : List ℕ) (a t room : ℕ) → lentAfter s (stop a t room) ≡ s
+stop-lent s a t room = by (lentAnswer s (stop a t room))
+  where
+    by : (x : Answer (List ℕ)) → lentLeft x (stop a t room) s ≡ s
+    by (result w) = refl
+    by (refused n) = refl
 
 -- Bytes of another length are answered 18, whatever the call, and stay.
 pub wrong-size : (s : List ℕ) (cs : List LeaseCall) → (length s ≡ 2048 → ⊥)
@@ -195,56 +188,55 @@ zeros zero i = refl
 zeros (suc n) zero = refl
 zeros (suc n) (suc i) = zeros n i
 
-new-bytes : IsTable newBytes newTable
-new-bytes =
-    record {
-      size = refl;
-      bytes = λ i. omega (arith, zeros 2048 i);
-      table = numbers-zero 8 256 0 newBytes (zeros 2048);
-    }
+-- 2,048 bytes that are all 00 are those of a new table.
+pub new-bytes : tableOf newBytes ≡ newTable
+new-bytes = numbers-zero 8 256 0 newBytes (zeros 2048)
+
+new-table : IsTable newBytes newTable
+new-table = record { size = refl; bytes = λ i. omega (arith, zeros 2048 i); table = new-bytes }
 
 -- Any calls on the bytes of a new table are answered as a new table answers them, and leave the bytes of the table
 -- that they leave.
 pub new-lent : (cs : List LeaseCall) → Tokens cs
     → (lentAnswersOn newBytes cs ≡ answersOn newTable cs) × (lentOn newBytes cs ≡ bytesOfAll 8 (tableOn newTable cs))
 new-lent cs t =
-    let k = run-as newBytes newTable new-bytes cs t in
+    let k = run-as newBytes newTable new-table cs t in
     (k .0, bytes-as (lentOn newBytes cs) (tableOn newTable cs) (k .1))
 
--- After any calls on the bytes of a new table, every call is answered as a new table answers it after those calls.
-pub lent-as-table : (cs : List LeaseCall) (c : LeaseCall) → Tokens cs
-    → lentAnswer (lentOn newBytes cs) c ≡ tableAnswer (tableOn newTable cs) c
-lent-as-table cs c t =
-    answer-as (lentOn newBytes cs) (tableOn newTable cs) c (run-as newBytes newTable new-bytes cs t .1)
+-- ---- runs on lent bytes, known by what is known of each call
 
--- The token in an address's bytes is that of the last accepted hold not released since.
-pub lent-history : (a : ℕ) (cs : List LeaseCall) → Tokens cs → getD (tableOf (lentOn newBytes cs)) a 0 ≡ holder a cs
-lent-history a cs t =
-    ap (λ (us : List ℕ). getD us a 0) (run-as newBytes newTable new-bytes cs t .1 .table) ∙ history a cs
+module _ (called : List ℕ → LeaseCall → Answer (List ℕ) → List ℕ → Type 0)
+    (each : (s s′ : List ℕ) (c : LeaseCall) (x : Answer (List ℕ)) → called s c x s′
+    → (x ≡ lentAnswer s c) × (s′ ≡ lentAfter s c) × TokenFits c) where
+  other-length : (s s′ : List ℕ) (c : LeaseCall) (x : Answer (List ℕ)) → (length s ≡ 2048 → ⊥) → called s c x s′
+      → (x ≡ refused 18) × (s′ ≡ s)
+  other-length s s′ c x n k =
+      let e = each s s′ c x k in let q = lent-size s c n in (e .0 ∙ sym (q .0), e .1 ∙ sym (q .1))
 
--- After any calls on the bytes of a new table a stop writes exactly for the holder.
-pub lent-stop-exactly : (cs : List LeaseCall) (a t room : ℕ) (w : List ℕ) → Tokens cs
-    → (lentAnswer (lentOn newBytes cs) (stop a t room) ≡ result w → Sends a t room (holder a cs) w)
-    × (Sends a t room (holder a cs) w → lentAnswer (lentOn newBytes cs) (stop a t room) ≡ result w)
-lent-stop-exactly cs a t room w ts =
-    let e = lent-as-table cs (stop a t room) ts in
-    let k = stop-exactly cs a t room w in
-    ((λ q. k .0 (sym e ∙ q)), (λ s. e ∙ k .1 s))
+  -- A run on 2,048 bytes follows the table that they are.
+  follows-lent : {s u : List ℕ} {es : List Exchange} → RanLent called s es u → length s ≡ 2048 → Follows (tableOf s) es
+  follows-lent ended size = tt
+  follows-lent (call s t c x {history = es} k rest) size =
+      let e = each s t c x k in
+      let after = ap tableOf (e .1) ∙ table-lent s c size (e .2) in
+      let l = ap length (e .1) ∙ length-left s (lentAnswer s c) c ∙ size in
+      (e .0 ∙ lent-answer s c size, subst (λ (ts : List ℕ). Follows ts es) after (follows-lent rest l))
+  follows-lent (aside s t table o o′ c x {history = es} n k p q rest) size =
+      let same : t ≡ s = q ∙ ap table (other-length o o′ c x n k .1) ∙ sym p in
+      subst (λ (v : List ℕ). Follows (tableOf v) es) same (follows-lent rest (ap length same ∙ size))
 
--- After any calls on the bytes of a new table nothing tells a wrong token from a free address.
-pub lent-wrong-or-free : (a t room : ℕ) (cs ds : List LeaseCall) → Tokens cs → Tokens ds → (holder a cs ≡ t → ⊥)
-    → holder a ds ≡ 0
-    → (lentAnswer (lentOn newBytes cs) (release a t) ≡ lentAnswer (lentOn newBytes ds) (release a t))
-    × (lentAnswer (lentOn newBytes cs) (stop a t room) ≡ lentAnswer (lentOn newBytes ds) (stop a t room))
-lent-wrong-or-free a t room cs ds ts us n f =
-    let k = wrong-or-free a t room cs ds n f in (
-      lent-as-table cs (release a t) ts ∙ k .0 ∙ sym (lent-as-table ds (release a t) us),
-      lent-as-table cs (stop a t room) ts ∙ k .1 ∙ sym (lent-as-table ds (stop a t room) us),
-    )
+  -- All of document 01's sentences hold of such runs.
+  pub lent-sentences : LentLeases called
+  lent-sentences =
+      record {
+        leases = sentences (LentRun called) (λ ts es r. (
+          ap length (sym (r .table)) ∙ length-numbers 8 256 0 (r .start),
+          subst (λ (us : List ℕ). Follows us es) (r .table) (follows-lent (r .ran) (r .size)),
+        ));
+        other-length = other-length;
+      }
 
--- Two lists of calls on the bytes of a new table that agree on one address's calls, with the lengths of outputs, give
--- that address equal answers.
-pub lent-isolation : (a : ℕ) (cs ds : List LeaseCall) → Tokens cs → Tokens ds → callsAt a cs ≡ callsAt a ds
-    → answersAt a cs (lentAnswersOn newBytes cs) ≡ answersAt a ds (lentAnswersOn newBytes ds)
-lent-isolation a cs ds t u e =
-    ap (answersAt a cs) (new-lent cs t .0) ∙ isolation a cs ds e ∙ sym (ap (answersAt a ds) (new-lent ds u .0))
+-- A run on bytes that are all 00 is one on the bytes of a new table.
+pub new-lent-run : {called : List ℕ → LeaseCall → Answer (List ℕ) → List ℕ → Type 0} {u : List ℕ} {es : List Exchange}
+    → RanLent called newBytes es u → LentRun called newTable es
+new-lent-run {u = u} r = record { start = newBytes; size = refl; table = new-bytes; end = u; ran = r }

@@ -1,7 +1,9 @@
 pub mod LeaseLaws
 pub mod HistoryLaws
+pub mod TableHistory
+pub mod CallLaws
 pub mod Isolation
-pub mod Stops
+pub mod Sentences
 pub mod Lent
 pub mod Calls
 pub mod Examples

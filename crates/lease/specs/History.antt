@@ -1,16 +1,16 @@
--- Lists of calls: what they are answered, by a table and by lent bytes, and whose token an address has, by the calls
--- alone.
+-- Lists of calls: what they are answered by a table and by lent bytes, and whose token an address has, by the calls and
+-- the answers that they got.
 use Prim.Native.Nat.{ℕ, _^_, _<_}
-use mathlib.Core.Bool.{Bool, true, false}
+use mathlib.Core.Bool.{Bool}
 use mathlib.Core.Path.{_≡_}
-use mathlib.Core.List.{List, [], _∷_, _++_}
+use mathlib.Core.List.{List, [], _∷_, _++_, map}
 use lib.Dec.{eqb}
-use lib.ListN.{replicate}
-use Rattle.lists.specs.Choice.{pick, Every}
-use Rattle.lists.specs.Machine.{run, leftAfter, only, answersOnly}
-use Rattle.answer.specs.Answer.{Answer}
-use Rattle.lease.specs.Lease.{LeaseCall, hold, release, stop, addressOf, tokenOf, inRange, tableAnswer}
-use Rattle.lease.specs.Lease.{tableAfter, lentAnswer, lentAfter}
+use lib.ListN.{length, replicate}
+use Rattle.lists.specs.Choice.{Every}
+use Rattle.lists.specs.Machine.{run, leftAfter, only}
+use Rattle.answer.specs.Answer.{Answer, result, refused}
+use Rattle.lease.specs.Lease.{LeaseCall, hold, release, addressOf, tokenOf, tableAnswer, tableAfter, lentAnswer}
+use Rattle.lease.specs.Lease.{lentAfter}
 
 -- ---- runs: the first call first
 
@@ -46,64 +46,69 @@ TokenFits c = tokenOf c < 2 ^ 64
 abbrev pub Tokens : List LeaseCall → Type 0
 Tokens calls = Every TokenFits calls
 
--- ---- one address's calls
+-- ---- calls and the answers that they got
 
--- Whether a call is at an address.
-abbrev pub atAddress : ℕ → LeaseCall → Bool
-atAddress a c = eqb (addressOf c) a
+-- A call, and the answer that it got.
+pub record Exchange : Type 0 where
+  pub call : LeaseCall
+  pub answer : Answer (List ℕ)
 
--- The calls at an address.
-abbrev pub callsAt : ℕ → List LeaseCall → List LeaseCall
-callsAt a calls = only (atAddress a) calls
+abbrev pub exchange : LeaseCall → Answer (List ℕ) → Exchange
+exchange c x = record { call = c; answer = x }
 
--- Of the answers to calls, those to the calls at an address.
-abbrev pub answersAt : ℕ → List LeaseCall → List (Answer (List ℕ)) → List (Answer (List ℕ))
-answersAt a calls answers = answersOnly (atAddress a) calls answers
+-- A history is a list of exchanges, the first one first.
+abbrev pub callsOf : List Exchange → List LeaseCall
+callsOf history = map (λ (e : Exchange). e .call) history
 
--- ---- the holder, by the calls alone
+abbrev pub answersOf : List Exchange → List (Answer (List ℕ))
+answersOf history = map (λ (e : Exchange). e .answer) history
 
-abbrev pub both : Bool → Bool → Bool
-both x y = pick x y false
+-- The exchanges of an address.
+abbrev pub historyAt : ℕ → List Exchange → List Exchange
+historyAt a history = only (λ (e : Exchange). eqb (addressOf (e .call)) a) history
 
--- 0 is no token.
-abbrev pub isToken : ℕ → Bool
-isToken t = pick (eqb t 0) false true
+-- ---- the holder
 
--- With h at address a, a hold at b with token t is accepted and is of a: that address, in range, a token, and free.
-abbrev pub takes : (a h b t : ℕ) → Bool
-takes a h b t = both (eqb b a) (both (inRange a) (both (isToken t) (eqb h 0)))
+abbrev pub Accepted : Answer (List ℕ) → Type 0
+Accepted (result w) = Unit {0}
+Accepted (refused n) = ⊥
 
--- With h at address a, a release at b with token t is accepted and is of a: that address, in range, a token, and the
--- one it has.
-abbrev pub frees : (a h b t : ℕ) → Bool
-frees a h b t = both (eqb b a) (both (inRange a) (both (isToken t) (eqb t h)))
+-- Neither a hold nor a release at address a was accepted.
+pub record Passes (a : ℕ) (e : Exchange) : Type 0 where
+  pub no-hold : (t : ℕ) → e .call ≡ hold a t → Accepted (e .answer) → ⊥
+  pub no-release : (t : ℕ) → e .call ≡ release a t → Accepted (e .answer) → ⊥
 
--- The token of address a after a call, where it was h before it.
-abbrev pub holderAfter : (a h : ℕ) → LeaseCall → ℕ
-holderAfter a h (hold b t) = pick (takes a h b t) t h
-holderAfter a h (release b t) = pick (frees a h b t) 0 h
-holderAfter a h (stop b t room) = h
+-- Token t is that of the last accepted hold of address a, which was not released since (document 01: the holder's
+-- pass).
+pub record LastHold (a t : ℕ) (history : List Exchange) : Type 0 where
+  pub before : List Exchange
+  pub last : Exchange
+  pub after : List Exchange
+  pub splits : history ≡ before ++ last ∷ after
+  pub held : last .call ≡ hold a t
+  pub accepted : Accepted (last .answer)
+  pub since : Every (Passes a) after
 
--- The token of address a after calls, where it was h before them.
-abbrev pub holderFrom : (a h : ℕ) → List LeaseCall → ℕ
-holderFrom a h calls = leftAfter (holderAfter a) h calls
+-- Some token is.
+pub record Held (a : ℕ) (history : List Exchange) : Type 0 where
+  pub token : ℕ
+  pub last-hold : LastHold a token history
 
--- The token of the last hold of address a that was accepted and not released since, 0 if there is none.
-abbrev pub holder : ℕ → List LeaseCall → ℕ
-holder a calls = holderFrom a 0 calls
+-- No token is.
+abbrev pub Free : ℕ → List Exchange → Type 0
+Free a history = (t : ℕ) → LastHold a t history → ⊥
 
--- A release of address a with token t is among the calls.
-unfoldable pub releasedIn : (a t : ℕ) → List LeaseCall → Bool
-releasedIn a t [] = false
-releasedIn a t (hold b u ∷ cs) = releasedIn a t cs
-releasedIn a t (release b u ∷ cs) = pick (both (eqb b a) (eqb u t)) true (releasedIn a t cs)
-releasedIn a t (stop b u room ∷ cs) = releasedIn a t cs
+-- ---- lent bytes in a row of calls
 
--- Address a has token t after the calls: it was free, was held with t, and was not released with t since.
-pub record HeldBy (a t : ℕ) (cs : List LeaseCall) : Type 0 where
-  pub before : List LeaseCall
-  pub after : List LeaseCall
-  pub calls : cs ≡ before ++ (hold a t ∷ after)
-  pub free : holder a before ≡ 0
-  pub range : inRange a ≡ true
-  pub kept : releasedIn a t after ≡ false
+-- `called s c x t`: the call c on the bytes s was answered x and left the bytes t.
+module _ (called : List ℕ → LeaseCall → Answer (List ℕ) → List ℕ → Type 0) where
+  -- Calls in a row that lend the bytes of a table, with their answers, and the bytes that the last one left. A call
+  -- between them may lend bytes of another length. It has no place in the history, whatever the table's bytes have in
+  -- common with those that it lends: `table` says how they follow from them.
+  pub data RanLent : List ℕ → List Exchange → List ℕ → Type 0 where
+    ended : {s : List ℕ} → RanLent s [] s
+    call : (s t : List ℕ) (c : LeaseCall) (x : Answer (List ℕ)) {u : List ℕ} {history : List Exchange}
+        → called s c x t → RanLent t history u → RanLent s (exchange c x ∷ history) u
+    aside : (s t : List ℕ) (table : List ℕ → List ℕ) (o o′ : List ℕ) (c : LeaseCall) (x : Answer (List ℕ))
+        {u : List ℕ} {history : List Exchange} → (length o ≡ 2048 → ⊥) → called o c x o′ → s ≡ table o → t ≡ table o′
+        → RanLent t history u → RanLent s history u

@@ -5,8 +5,9 @@ use mathlib.Core.Bool.{Bool, false}
 use mathlib.Core.List.{List, [], _∷_}
 use lib.Dec.{leb, eqb}
 use lib.ListN.{length, getD, set}
-use Rattle.lists.specs.Choice.{pick, within}
+use Rattle.lists.specs.Choice.{pick}
 use Rattle.answer.specs.Answer.{Answer, result, refused}
+use Rattle.frame.specs.Address.{inRange}
 use Rattle.frame.specs.Frame.{wireOf, extended}
 use Rattle.numbers.specs.Number.{numbers, put}
 
@@ -25,10 +26,6 @@ abbrev pub tokenOf : LeaseCall → ℕ
 tokenOf (hold a t) = t
 tokenOf (release a t) = t
 tokenOf (stop a t room) = t
-
--- The addresses of machines and consoles.
-abbrev pub inRange : ℕ → Bool
-inRange a = within 0x01 0xFC a
 
 -- The holder's token: not 0, and the one that is held.
 abbrev pub owns : (token held : ℕ) → Bool
@@ -49,28 +46,21 @@ answerOf held (stop a t room) =
     (pick (owns t held) (pick (leb (length (stopFrame a)) room) (result (stopFrame a)) (refused 1)) (refused 11))
     (refused 9)
 
--- What an accepted call leaves at its address.
-abbrev pub leaves : (held : ℕ) → LeaseCall → ℕ
-leaves held (hold a t) = t
-leaves held (release a t) = 0
-leaves held (stop a t room) = held
-
-abbrev pub ifAccepted : Answer (List ℕ) → (new old : ℕ) → ℕ
-ifAccepted (result w) new old = new
-ifAccepted (refused n) new old = old
-
--- The token at the call's address afterwards.
-unfoldable pub heldAfter : (held : ℕ) → LeaseCall → ℕ
-heldAfter held c = ifAccepted (answerOf held c) (leaves held c) held
-
 -- ---- a table: a list of 256 tokens
 
 abbrev pub tableAnswer : List ℕ → LeaseCall → Answer (List ℕ)
 tableAnswer tokens c = answerOf (getD tokens (addressOf c) 0) c
 
--- The table afterwards: only the call's address may have changed.
+-- The table after a call, by its answer. A refusal leaves the table as it is. An accepted hold puts its token at its
+-- address, an accepted release puts 0 there, and a stop leaves the table.
+abbrev pub tableLeft : Answer (List ℕ) → LeaseCall → List ℕ → List ℕ
+tableLeft (refused n) c tokens = tokens
+tableLeft (result w) (hold a t) tokens = set tokens a t
+tableLeft (result w) (release a t) tokens = set tokens a 0
+tableLeft (result w) (stop a t room) tokens = tokens
+
 abbrev pub tableAfter : List ℕ → LeaseCall → List ℕ
-tableAfter tokens c = set tokens (addressOf c) (heldAfter (getD tokens (addressOf c) 0) c)
+tableAfter tokens c = tableLeft (tableAnswer tokens c) c tokens
 
 -- ---- lent bytes: eight for each address in order, lowest first
 
@@ -81,9 +71,13 @@ tableOf bytes = numbers 8 256 0 bytes
 unfoldable pub lentAnswer : List ℕ → LeaseCall → Answer (List ℕ)
 lentAnswer bytes c = pick (eqb (length bytes) 2048) (tableAnswer (tableOf bytes) c) (refused 18)
 
--- The address's own eight bytes are those of its token in the table afterwards.
-unfoldable pub lentAfter : List ℕ → LeaseCall → List ℕ
-lentAfter bytes c =
-    pick (eqb (length bytes) 2048)
-    (put 8 (8 * addressOf c) (getD (tableAfter (tableOf bytes) c) (addressOf c) 0) bytes)
-    bytes
+-- The bytes after a call, by its answer. A refusal leaves them as they are. An accepted hold writes its token over its
+-- address's own eight bytes, an accepted release writes 0 there, and a stop leaves them.
+abbrev pub lentLeft : Answer (List ℕ) → LeaseCall → List ℕ → List ℕ
+lentLeft (refused n) c bytes = bytes
+lentLeft (result w) (hold a t) bytes = put 8 (8 * a) t bytes
+lentLeft (result w) (release a t) bytes = put 8 (8 * a) 0 bytes
+lentLeft (result w) (stop a t room) bytes = bytes
+
+abbrev pub lentAfter : List ℕ → LeaseCall → List ℕ
+lentAfter bytes c = lentLeft (lentAnswer bytes c) c bytes

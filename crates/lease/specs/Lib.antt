@@ -3,4 +3,4 @@ pub mod Answers
 pub mod Contracts
 pub mod Private
 pub mod History
-pub mod Statements
+pub mod Leases

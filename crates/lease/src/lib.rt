@@ -4,18 +4,14 @@ mod tokens;
 
 use answer::Refusal;
 use answer::Written;
+use frame::address;
 ghost use mathlib.Core.Path.{_≡_};
 ghost use lib.ListN.{length, replicate};
 ghost use Rattle.answer.specs.Draft.{writtenMeans};
-ghost use Rattle.lease.specs.Lease.{hold, release, stop, answerOf, inRange, owns};
+ghost use Rattle.lease.specs.Lease.{hold, release, stop, answerOf, owns};
 ghost use Rattle.lease.specs.Answers.{leaseMeans, writtenLength, outAfter};
 ghost use Rattle.lease.specs.Contracts.{TableCall, TableStop, LentCall, LentStop};
 ghost use Rattle.lease.specs.Private.{Settles, settled, settledLent};
-
-// The lowest and the highest address of a machine or a console.
-const FIRST: u32 = 0x01;
-
-const LAST: u32 = 0xFC;
 
 // The bytes of a lent table: eight for each of 256 addresses.
 const TABLE_BYTES: usize = 2048;
@@ -116,17 +112,6 @@ pub fn stop_lent(table: &[u8], address: u32, token: u64, out: &mut [u8]) -> Writ
     write_stop(address, token, held, out)
 }
 
-// Whether a number is an address of a machine or a console.
-fn in_range(address: u32) -> bool
-    ensures { λ r. ⌜ r ≡ inRange address ⌝ }
-{
-    if FIRST <= address {
-        address <= LAST
-    } else {
-        false
-    }
-}
-
 // Whether a token is the holder's: a free address has no holder.
 fn is_holder(token: u64, held: u64) -> bool
     ensures { λ r. ⌜ r ≡ owns token held ⌝ }
@@ -138,7 +123,7 @@ fn is_holder(token: u64, held: u64) -> bool
 fn judge_hold(address: u32, token: u64, held: u64) -> LeaseAnswer
     ensures { λ r. ⌜ leaseMeans r ≡ answerOf held (hold address token) ⌝ }
 {
-    if !in_range(address) {
+    if !address::in_range(address) {
         return LeaseAnswer::Refused(Refusal::BadAddress);
     }
     if token == FREE {
@@ -154,13 +139,13 @@ fn judge_hold(address: u32, token: u64, held: u64) -> LeaseAnswer
 fn judge_release(address: u32, token: u64, held: u64) -> LeaseAnswer
     ensures { λ r. ⌜ leaseMeans r ≡ answerOf held (release address token) ⌝ }
 {
-    if !in_range(address) {
+    if !address::in_range(address) {
         return LeaseAnswer::Refused(Refusal::BadAddress);
     }
-    if !is_holder(token, held) {
-        return LeaseAnswer::Refused(Refusal::NotHolder);
+    if is_holder(token, held) {
+        return LeaseAnswer::Done;
     }
-    LeaseAnswer::Done
+    LeaseAnswer::Refused(Refusal::NotHolder)
 }
 
 // Writes the stop frame where `held` is the address's token and the caller has it.
@@ -169,7 +154,7 @@ fn write_stop(address: u32, token: u64, held: u64, out: &mut [u8]) -> Written
     ensures { λ r. ⌜ now (out .exit)
         ≡ outAfter (answerOf held (stop address token (length (now (out .entry))))) (now (out .entry)) ⌝ }
 {
-    if !in_range(address) {
+    if !address::in_range(address) {
         return Written::Refused(Refusal::BadAddress);
     }
     if !is_holder(token, held) {

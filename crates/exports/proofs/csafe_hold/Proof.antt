@@ -22,7 +22,7 @@ returns c =
     let e = c .before .before .before .hold-lent .ensures in (
       subst (λ (a : Answer (List ℕ)). Tells (c .of-lease .result) (leaseFields a)) (e .answered)
           (c .of-lease .ensures),
-      e .left,
+      (e .left, e .real),
     )
 
 pub csafe-hold-spec : {M : Type 1} → statement M

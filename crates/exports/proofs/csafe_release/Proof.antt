@@ -22,7 +22,7 @@ returns c =
     let e = c .before .before .before .release-lent .ensures in (
       subst (λ (a : Answer (List ℕ)). Tells (c .of-lease .result) (leaseFields a)) (e .answered)
           (c .of-lease .ensures),
-      e .left,
+      (e .left, e .real),
     )
 
 pub csafe-release-spec : {M : Type 1} → statement M

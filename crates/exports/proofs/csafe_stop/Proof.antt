@@ -26,7 +26,7 @@ returns c =
     let e = c .before .before .before .stop-lent .ensures in (
       subst (λ (a : Answer ℕ). Tells (c .of-written .result) (writeFields a)) (e .answered)
           (c .of-written .ensures),
-      e .written,
+      (e .written, e .real),
     )
 
 pub csafe-stop-spec : {M : Type 1} → statement M

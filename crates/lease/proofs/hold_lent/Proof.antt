@@ -1,6 +1,6 @@
 use native.Mathlib.Omega.{arith}
 use Rattle.lease.specs.Lease.{hold}
-use Rattle.lease.proofs.LeaseLaws.{settles, lent-size, lent-call}
+use Rattle.lease.proofs.LeaseLaws.{settles, lent-size, lent-call, hold-stored-lent}
 use Rattle.lease.specs.Contracts.{Real}
 use borrow.Author.Needs.{needs}
 use Rattle.lease.proofs.hold_lent.Statement.{statement}
@@ -38,7 +38,8 @@ returns-2 c =
     let s = i .before .before in
     let real : Real (s .args .table .now) (s .args .token) =
     record { bytes = λ j. i .before .slice-known .given j .fits; fits = omega (arith, s) } in
-    lent-call (s .args .table .now) (hold (s .args .address) (s .args .token)) (i .if1 .left) real _ _ _ _
+    lent-call (s .args .table .now) (hold (s .args .address) (s .args .token)) (s .args .token)
+    (hold-stored-lent (s .args .address) (s .args .token) (s .args .table .now)) (i .if1 .left) real _ _ _ _
     (t .token-in .ensures)
     (c .before .before .before .before .judge-hold .ensures)
     (c .before .before .settle-lent .ensures)

@@ -19,13 +19,13 @@ returns-2 : tie.Need-returns-2
 unfolding answerOf
 returns-2 c =
     let range = sym (c .before .before .before .in-range .ensures) ∙ not-false _ (c .before .before .if1 .left) in
-    simp (range, sym (c .before .is-holder .ensures) ∙ not-true _ (c .if2 .taken))
+    simp (range, sym (c .before .is-holder .ensures) ∙ c .if2 .taken)
 
 returns-3 : tie.Need-returns-3
 unfolding answerOf
 returns-3 c =
     let range = sym (c .before .before .before .in-range .ensures) ∙ not-false _ (c .before .before .if1 .left) in
-    simp (range, sym (c .before .is-holder .ensures) ∙ not-false _ (c .if2 .left))
+    simp (range, sym (c .before .is-holder .ensures) ∙ c .if2 .left)
 
 pub judge-release-spec : {M : Type 1} → statement M
 judge-release-spec =
