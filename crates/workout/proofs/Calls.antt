@@ -13,12 +13,13 @@ use Rattle.workout.specs.Limits.{pm3Limits}
 use Rattle.workout.specs.Workout.{Programmed, programmed}
 use Rattle.workout.specs.Answers.{workoutMeans}
 use Rattle.workout.specs.Contracts.{ReadsWorkout, WritesWorkout}
-use Rattle.workout.specs.Conditions.{Readable, JudgedWorkout, JudgedWriting}
+use Rattle.workout.specs.Conditions.{WithinLimits, Readable, JudgedWorkout, JudgedWriting}
+use Rattle.workout.specs.Encoding.{Encoded}
 use Rattle.workout.specs.declared.Workout.{Workout}
 use Rattle.workout.specs.declared.WorkoutRead.{WorkoutRead}
 use Rattle.workout.proofs.WriteLaws.{watts-below}
 use Rattle.workout.proofs.Table.{writes-exactly}
-use Rattle.workout.proofs.CallLaws.{reads-by-table, reads-exactly, pm3-writes-read-back}
+use Rattle.workout.proofs.CallLaws.{reads-by-table, reads-exactly, reads-encoded, pm3-writes-read-back}
 use Rattle.workout.proofs.read_workout.Reads as read-workout-reads
 use Rattle.workout.proofs.write_workout.Reads as write-workout-reads
 
@@ -38,7 +39,7 @@ pub data CalledWrite : Programmed → (out : List ℕ) → Answer ℕ → (last 
 
 -- Each answers and leaves what the definitions say.
 pub call-reads : {c : List ℕ} {a : Answer Programmed} → CalledRead c a → ReadsWorkout pm3Limits c a
-call-reads (read-contents r κs contents e) = e
+call-reads (read-contents r κs contents e) = record { answered = e .0; bytes = e .1 }
 
 pub call-writes : {w : Programmed} {out last : List ℕ} {a : Answer ℕ} → CalledWrite w out a last
     → WritesWorkout pm3Limits w out a last
@@ -66,6 +67,12 @@ call-written-by-table {w} {out} {last} {a} k b left =
 pub call-read-exactly : {c : List ℕ} {a : Answer Programmed} → CalledRead c a → (w : Programmed)
     → (a ≡ result w → Readable pm3Limits c w) × (Readable pm3Limits c w → a ≡ result w)
 call-read-exactly {c} {a} k = reads-exactly pm3Limits c a (call-reads k)
+
+-- A call that reads is answered with a workout exactly when the contents stand for it, in km or in metres where it is a
+-- distance, and it is within the limits.
+pub call-read-encoded : {c : List ℕ} {a : Answer Programmed} → CalledRead c a → (w : Programmed)
+    → (a ≡ result w → Encoded w c × WithinLimits pm3Limits w) × (Encoded w c × WithinLimits pm3Limits w → a ≡ result w)
+call-read-encoded {c} {a} k = reads-encoded pm3Limits c a (call-reads k)
 
 -- A workout that a call wrote is read back as itself by any call on the bytes that were written.
 pub call-reads-back : {w : Programmed} {out last : List ℕ} {n : ℕ} {a : Answer Programmed}

@@ -49,7 +49,7 @@ module _ (kind : GoalKind) (a b d split watts : ℕ) where
 
 -- what they are read as, by the kind of goal
 module _ (limits : Limits) (split watts : ℕ) (s : split < 256 ^ 4) (p : watts < 256 ^ 2) where
-  read-laid-distance : (amount unit : ℕ) → amount < 256 ^ 2
+  pub read-laid-distance : (amount unit : ℕ) → amount < 256 ^ 2
       → workoutAnswer limits (layout Distance (bytesOf 2 amount ++ (unit ∷ [])) (bytesOf 4 split) (bytesOf 2 watts))
       ≡ distanceRead limits amount unit split watts
   unfolding layout bytesOf
@@ -61,7 +61,7 @@ module _ (limits : Limits) (split watts : ℕ) (s : split < 256 ^ 4) (p : watts 
       (laid-watts Distance a b unit split watts p) limits (laid-out Distance a b unit split watts) refl
       (sym (number-bytesOf 2 amount (take 2 l) (drop 4 l) 2 refl h)))
 
-  read-laid-time : (hours minutes seconds : ℕ)
+  pub read-laid-time : (hours minutes seconds : ℕ)
       → workoutAnswer limits (laid Time hours minutes seconds split watts)
       ≡ timeRead limits hours minutes seconds split watts
   unfolding layout bytesOf
@@ -72,7 +72,7 @@ module _ (limits : Limits) (split watts : ℕ) (s : split < 256 ^ 4) (p : watts 
 
 -- ---- what is written is read back
 
-limited-sound : (limits : Limits) (v w : Programmed) → v ≡ w → withinLimits limits w ≡ true
+pub limited-sound : (limits : Limits) (v w : Programmed) → v ≡ w → withinLimits limits w ≡ true
     → limitedRead limits v ≡ result w
 unfolding limitedRead
 limited-sound limits v w e h = ap (limitedRead limits) e ∙ simp h

@@ -53,7 +53,7 @@ form-kind kind c f = ap (λ (l : List ℕ). goalKindFor (getD l 0 0)) (f .goal) 
     told Time = refl
 
 -- bytes that have the form are those of the layout
-form-layout : (kind : GoalKind) (c : List ℕ) → Formed kind c
+pub form-layout : (kind : GoalKind) (c : List ℕ) → Formed kind c
     → c ≡ layout kind (bytesAt 2 3 c) (bytesAt 10 4 c) (bytesAt 16 2 c)
 unfolding layout bytesAt
 form-layout kind c f =

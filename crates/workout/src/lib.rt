@@ -12,6 +12,7 @@ ghost use mathlib.Core.Path.{_≡_};
 ghost use Prim.Native.Nat.{_<_, _^_};
 ghost use lib.ListN.{length};
 ghost use Rattle.answer.specs.Draft.{draftAnswer, draftOut, writtenMeans};
+ghost use Rattle.numbers.specs.Number.{Bytes};
 ghost use Rattle.workout.specs.Limits.{pm3Limits};
 ghost use Rattle.workout.specs.Workout.{Programmed, programmed, workoutBytes};
 ghost use Rattle.workout.specs.Answers.{workoutMeans, workoutAnswer, workoutDraft};
@@ -48,6 +49,7 @@ pub enum WorkoutRead {
 // Reads the contents of a frame that are to be a workout. Refusals 13 and 12.
 pub fn read_workout(contents: &[u8]) -> WorkoutRead
     ensures { λ r. ⌜ workoutMeans r ≡ workoutAnswer pm3Limits (now (contents .entry)) ⌝ }
+    ensures { λ r. ⌜ Bytes (now (contents .entry)) ⌝ }
 {
     read_within(limits::PM3, contents)
 }
