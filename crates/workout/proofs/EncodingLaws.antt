@@ -55,7 +55,8 @@ module _ (c : List ℕ) (b : Bytes c) where
 
   -- those of a distance in a unit
   in-unit : (unit : ℕ) → getD c 4 0 ≡ unit → Formed Distance c
-      → layout Distance (bytesOf 2 (number 2 2 c) ++ (unit ∷ [])) (bytesOf 4 (number 4 10 c)) (bytesOf 2 (number 2 16 c))
+      → layout Distance (bytesOf 2 (number 2 2 c) ++ (unit ∷ [])) (bytesOf 4 (number 4 10 c))
+      (bytesOf 2 (number 2 16 c))
       ≡ c
   unfolding bytesAt
   in-unit unit e f =
@@ -84,7 +85,8 @@ module _ (c : List ℕ) (b : Bytes c) where
           in-metres 0x24
           (subst (λ (l : List ℕ). Encoded (distance (number 2 2 c) (number 4 10 c) (number 2 16 c)) l)
           (in-unit 0x24 e f)
-          (distanceIn (inMetres (number 2 2 c) (number-bound 2 2 c b)) (number-bound 4 10 c b) (number-bound 2 16 c b))) e
+          (distanceIn (inMetres (number 2 2 c) (number-bound 2 2 c b)) (number-bound 4 10 c b) (number-bound 2 16 c b)))
+          e
 
   time-encoded : Formed Time c → ClockRight Time c → Encoded (workoutAs Time c) c
   unfolding workoutAs bytesAt
@@ -101,6 +103,7 @@ module _ (c : List ℕ) (b : Bytes c) where
       → Encoded w c × WithinLimits limits w
   read-encoded limits w e =
       let r = read-exactly limits c w .0 e in (
-        subst (λ (v : Programmed). Encoded v c) (sym (r .workout)) (kind-encoded (r .kind) (r .form) (r .limited .clock)),
+        subst (λ (v : Programmed). Encoded v c) (sym (r .workout))
+            (kind-encoded (r .kind) (r .form) (r .limited .clock)),
         subst (WithinLimits limits) (sym (r .workout)) (r .limited .within),
       )

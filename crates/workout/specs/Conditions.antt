@@ -1,5 +1,5 @@
--- The form of a workout's contents and its limits, each rule by itself, and document 01's tables of reading and writing over them.
--- None speaks of the answer or of the steps by which it is reached.
+-- The form of a workout's contents and its limits, each rule by itself, and document 01's tables of reading and writing
+-- over them. None speaks of the answer or of the steps by which it is reached.
 use Prim.Native.Nat.{ℕ, _*_, _≤_, _<_}
 use mathlib.Core.Path.{_≡_}
 use mathlib.Core.Logic.{_⊎_}
