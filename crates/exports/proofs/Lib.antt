@@ -1,7 +1,10 @@
 pub mod PackedLaws
 pub mod AnswerLaws
-pub mod LeaseCalls
 pub mod LineStateLaws
 pub mod LineAnswerLaws
 pub mod ToldLaws
 pub mod LineToldLaws
+pub mod FrameCalls
+pub mod LineCalls
+pub mod WorkoutCalls
+pub mod LeaseCalls

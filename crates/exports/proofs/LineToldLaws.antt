@@ -1,20 +1,17 @@
 -- A number tells a caller exactly what a line reader told.
-use Prim.Native.Nat.{ℕ, _+_}
+use Prim.Native.Nat.{ℕ}
 use mathlib.Core.Path.{_≡_, ap, _∙_}
 use mathlib.Core.Bool.{Bool, true, false}
 use mathlib.Core.List.{List, [], _∷_}
 use native.Mathlib.Omega.{arith}
-use lib.Dec.{leb, eqb}
-use lib.ListN.{length, take}
+use lib.Dec.{eqb}
+use lib.ListN.{take}
 use Rattle.lists.specs.Choice.{pick}
-use Rattle.lists.proofs.Cases.{by-bool}
 use Rattle.answer.specs.Answer.{result, refused}
 use Rattle.framing.specs.Reference.{Role, starts, stops, plain}
 use Rattle.framing.specs.Bounded.{BoundedMode, outside, inside, overlong, truncatedIn, terminatedIn}
-use Rattle.frame.specs.Flags.{roleOf}
-use Rattle.frame.specs.Stuffing.{Unstuffed, badEscape, bytes, unstuff}
-use Rattle.frame.specs.Checksum.{checksum}
-use Rattle.frame.specs.Verdict.{addressCount, lastOf, contentsIn, judgeBytes, judge}
+use Rattle.frame.specs.Flags.{roleOf, candidateOf}
+use Rattle.frame.specs.Verdict.{verdict}
 use Rattle.frame.specs.Answers.{standardOutline, extendedOutline, outlineOf, judgeAnswer}
 use Rattle.frame.specs.declared.Kind.{Kind}
 use Rattle.line.specs.Outcome.{Summary, silent, tells, summaryOf}
@@ -24,8 +21,8 @@ use Rattle.line.specs.Feed.{isAnswer, ChunkTurn, chunkTurn, laterBy, feedOf}
 use Rattle.line.specs.declared.LineReader.{LineReader}
 use Rattle.exports.specs.Packed.{Fields, Tells}
 use Rattle.exports.specs.LineAnswers.{lineFields}
-use Rattle.exports.specs.Told.{toldRead, toldLine, Numbered, NumberedLine}
-use Rattle.exports.proofs.ToldLaws.{read-told, through-numbered}
+use Rattle.exports.specs.Told.{toldRead, toldLine, NumberedLine}
+use Rattle.exports.proofs.ToldLaws.{read-told, through-numbered, verdict-numbered}
 
 pub line-told : (n : ℕ) (s : Summary) → NumberedLine s → Tells n (lineFields s) → toldLine n ≡ s
 unfolding toldLine
@@ -42,21 +39,6 @@ line-told n (tells (refused m)) h t =
 
 -- ---- the refusals of a line reader are numbered
 
-bytes-numbered : (kind : Kind) (r : Unstuffed) → Numbered (judgeBytes kind r)
-unfolding judgeBytes
-bytes-numbered kind badEscape = λ e. omega arith
-bytes-numbered kind (bytes u) =
-    by-bool (leb (addressCount kind + 1) (length u))
-    (λ y. by-bool (eqb (lastOf u) (checksum (contentsIn (addressCount kind) u))) (λ q. simp (y, q) tt)
-    (λ q. simp (y, q) (λ e. omega arith)))
-    (λ y. simp y (λ e. omega arith))
-
-body-numbered : (kind : Kind) (body : List ℕ) → Numbered (judge kind body)
-unfolding judge
-body-numbered kind body =
-    by-bool (leb (length body + 2) 120) (λ y. simp y (bytes-numbered kind (unstuff false body)))
-    (λ y. simp y (λ e. omega arith))
-
 truncated-numbered : (m : BoundedMode Kind) → NumberedLine (summaryOf (truncatedIn rowing rowingBounds m))
 unfolding judgeAnswer
 truncated-numbered outside = tt
@@ -68,7 +50,8 @@ terminated-numbered : (m : BoundedMode Kind) (held : List ℕ) (len : ℕ)
 unfolding judgeAnswer
 terminated-numbered outside held len = tt
 terminated-numbered (inside kind) held len =
-    through-numbered outlineOf (judge kind (take len held)) (body-numbered kind (take len held))
+    through-numbered outlineOf (verdict (candidateOf kind (take len held)))
+    (verdict-numbered (candidateOf kind (take len held)))
 terminated-numbered overlong held len = λ e. omega arith
 
 byte-numbered : (r : LineReader) (b : ℕ) (ρ : Role) → NumberedLine (summaryOf (roleStep ρ r b .answer))

@@ -110,7 +110,8 @@ read-numbered w room = of-verdict (verdict w) (verdict-numbered w)
 
 pub frame-told : (n : ℕ) (f : Frame) (room : ℕ) → Tells n (writeFields (draftAnswer (frameDraft f) room))
     → toldWritten n ≡ draftAnswer (frameDraft f) room
-frame-told n f room = written-told n (draftAnswer (frameDraft f) room) (draft-numbered (frameDraft f) room (frame-numbered f))
+frame-told n f room =
+    written-told n (draftAnswer (frameDraft f) room) (draft-numbered (frameDraft f) room (frame-numbered f))
 
 pub slice-told : (n : ℕ) (w : List ℕ) (room : ℕ) → Tells n (readFields (readAnswer (verdict w) room))
     → toldRead n ≡ readAnswer (verdict w) room

@@ -7,6 +7,7 @@ use lib.ListN.{take, drop, set}
 use Rattle.numbers.specs.Number.{number, bytesOf}
 use Rattle.workout.specs.Limits.{pm3Limits, ceilDiv, withinGoal}
 use Rattle.workout.specs.Workout.{distance, time, withinLimits, layout, distanceBytes, timeBytes, workoutBytes}
+use Rattle.workout.specs.Workout.{distanceSendable}
 use Rattle.workout.specs.Form.{sameBytes, bytesAt, laidOut, workoutAs, hasForm, inLimits}
 use Rattle.answer.specs.Answer.{result, refused}
 use Rattle.workout.specs.Answers.{workoutAnswer}
@@ -61,3 +62,12 @@ pub split-limit : (withinLimits pm3Limits (distance 50000 1667 200) ≡ true)
     × (withinLimits pm3Limits (distance 50000 1666 200) ≡ false)
 unfolding withinLimits withinGoal ceilDiv
 split-limit = (refl, refl)
+
+-- 65,535 m can be sent in metres, 66,000 m and 1,000,000 m in km; 65,536 m and 65,001,001 m can't be sent.
+pub sent-distances : (distanceSendable 65535 ≡ true)
+    × (distanceSendable 66000 ≡ true)
+    × (distanceSendable 1000000 ≡ true)
+    × (distanceSendable 65536 ≡ false)
+    × (distanceSendable 65001001 ≡ false)
+unfolding distanceSendable
+sent-distances = (refl, refl, refl, refl, refl)

@@ -4,4 +4,7 @@ pub mod ReadLaws
 pub mod WriteLaws
 pub mod Table
 pub mod RoundTrip
+pub mod EncodingLaws
+pub mod CallLaws
+pub mod Calls
 pub mod Examples

@@ -1,20 +1,21 @@
 -- Which answer is given exactly when: document 01's table of refusals for workouts.
 use Prim.Native.Nat.{ℕ}
-use mathlib.Core.Path.{_≡_, refl, sym, ap, _∙_, subst}
+use mathlib.Core.Path.{_≡_, refl, sym, ap, ap₂, _∙_, subst}
 use mathlib.Core.Logic.{inl, inr}
 use mathlib.Core.Bool.{true, false, true≢false}
 use mathlib.Core.List.{List, _++_}
 use native.Mathlib.Omega.{arith}
 use lib.Dec.{leb, eqb}
-use lib.ListN.{length, getD}
+use lib.ListN.{length, getD, drop}
 use lib.Seq.{take-all}
-use borrow.Author.Tests.{leb-true, leb-false, le-leb, lt-leb, eqb-true, eq-eqb}
-use Rattle.lists.specs.Choice.{pick}
-use Rattle.answer.specs.Draft.{Draft, draftAnswer}
+use borrow.Author.Tests.{leb-true, leb-false, le-leb, eqb-true, eq-eqb}
+use Rattle.answer.specs.Draft.{draftAnswer, Writes}
+use Rattle.answer.proofs.Drafts.{writes-refusal, writes-no-room, written-first}
 use Rattle.answer.specs.Answer.{result, refused, Answer}
 use Rattle.lists.proofs.Cases.{by-bool, both-true}
 use Rattle.workout.specs.Limits.{Limits}
 use Rattle.workout.specs.Workout.{Programmed, distance, time, commandOf, layout, withinLimits}
+use Rattle.workout.specs.Workout.{workoutBytes}
 use Rattle.workout.specs.Form.{goalKindFor, goalKindIn, sameBytes, bytesAt, laidOut, unitKnown, clockRight}
 use Rattle.workout.specs.Form.{workoutAs, hasForm, inLimits}
 use Rattle.workout.specs.Answers.{workoutAnswer, workoutDraft}
@@ -26,7 +27,7 @@ use Rattle.workout.specs.declared.layout.GoalKind.the-variants.{Distance
 use Rattle.workout.proofs.SameLaws.{same-refl, same-true}
 use Rattle.workout.proofs.LimitLaws.{within-goal, goal-within}
 use Rattle.workout.proofs.ReadLaws.{bytes-at-part}
-use Rattle.workout.proofs.WriteLaws.{contents-length, draft-outside, draft-inside}
+use Rattle.workout.proofs.WriteLaws.{contents-length, draft-outside, draft-inside, draft-is, write-done}
 
 -- ---- the form
 
@@ -52,7 +53,7 @@ form-kind kind c f = ap (λ (l : List ℕ). goalKindFor (getD l 0 0)) (f .goal) 
     told Time = refl
 
 -- bytes that have the form are those of the layout
-form-layout : (kind : GoalKind) (c : List ℕ) → Formed kind c
+pub form-layout : (kind : GoalKind) (c : List ℕ) → Formed kind c
     → c ≡ layout kind (bytesAt 2 3 c) (bytesAt 10 4 c) (bytesAt 16 2 c)
 unfolding layout bytesAt
 form-layout kind c f =
@@ -179,40 +180,52 @@ module _ (limits : Limits) (c : List ℕ) where
 
 -- ---- the table of writing
 
-module _ (limits : Limits) (w : Programmed) (room : ℕ) where
-  abbrev answer : Answer ℕ
-  answer = draftAnswer (workoutDraft limits w) room
+module _ (limits : Limits) (w : Programmed) (out : List ℕ) where
+  -- what the table says is answered and left
+  line-write : (a : Answer ℕ) (last : List ℕ) → JudgedWriting limits w out a last
+      → Writes (workoutDraft limits w) out a last
+  line-write a last (outside n) =
+      writes-refusal (workoutDraft limits w) 12 out (draft-outside limits w
+      (by-bool (withinLimits limits w) (λ y. absurd (n (within-limits limits w y))) (λ y. y)))
+  line-write a last (noRoom l h) =
+      writes-no-room (workoutDraft limits w) (workoutBytes w) out (draft-inside limits w (limits-within limits w l))
+      (omega (arith, h, contents-length w))
+  line-write a last (fits l h) =
+      let b = workoutBytes w in
+      write-done limits w out (limits-within limits w l) h refl
+      (ap₂ _++_ (sym (take-all (length b) b (omega arith))) (ap (λ (n : ℕ). drop n out) (sym (contents-length w))))
 
-  -- within the limits only the room is left to ask for
-  inside : withinLimits limits w ≡ true → answer ≡ pick (leb 23 room) (result 23) (refused 1)
-  unfolding draftAnswer
-  inside y =
-      ap (λ (d : Draft). draftAnswer d room) (draft-inside limits w y)
-      ∙ ap (λ (n : ℕ). pick (leb n room) (result n) (refused 1)) (contents-length w)
-
-  past : withinLimits limits w ≡ false → answer ≡ refused 12
-  unfolding draftAnswer
-  past y = ap (λ (d : Draft). draftAnswer d room) (draft-outside limits w y)
-
-  table-written : (a : Answer ℕ) → JudgedWriting limits w room a → answer ≡ a
-  table-written a (outside n) =
-      by-bool (withinLimits limits w) (λ y. absurd (n (within-limits limits w y))) (λ y. past y)
-  table-written a (noRoom l h) = inside (limits-within limits w l) ∙ simp (lt-leb 23 room h)
-  table-written a (fits l h) = inside (limits-within limits w l) ∙ simp (le-leb 23 room h)
-
-  some-write : (a : Answer ℕ) × JudgedWriting limits w room a
+  -- every call has a line of the table
+  some-write : (a : Answer ℕ) × (last : List ℕ) × JudgedWriting limits w out a last
   some-write =
       by-bool (withinLimits limits w)
-      (λ y. by-bool (leb 23 room)
-      (λ r. (result 23, fits (within-limits limits w y) (leb-true _ _ r)))
-      (λ r. (refused 1, noRoom (within-limits limits w y) (leb-false _ _ r))))
-      (λ y. (refused 12, outside (λ l. true≢false (sym (limits-within limits w l) ∙ y))))
+      (λ y. by-bool (leb 23 (length out))
+      (λ r. (result 23, workoutBytes w ++ drop 23 out, fits (within-limits limits w y) (leb-true _ _ r)))
+      (λ r. (refused 1, out, noRoom (within-limits limits w y) (leb-false _ _ r))))
+      (λ y. (refused 12, out, outside (λ l. true≢false (sym (limits-within limits w l) ∙ y))))
 
-  -- Every answer to writing is given exactly when the table gives it.
-  pub written-by-table : (a : Answer ℕ)
-      → (answer ≡ a → JudgedWriting limits w room a) × (JudgedWriting limits w room a → answer ≡ a)
-  written-by-table a = (
-    (λ e. subst (λ (x : Answer ℕ). JudgedWriting limits w room x)
-        (sym (table-written (some-write .0) (some-write .1)) ∙ e) (some-write .1)),
-    table-written a,
+  -- Every answer to writing, with the output afterwards, is given exactly when the table gives it.
+  pub written-by-table : (a : Answer ℕ) (last : List ℕ)
+      → (Writes (workoutDraft limits w) out a last → JudgedWriting limits w out a last)
+      × (JudgedWriting limits w out a last → Writes (workoutDraft limits w) out a last)
+  written-by-table a last = (
+    (λ p. let s = some-write in
+        let q = line-write (s .0) (s .1) (s .2) in
+        subst (λ (l : List ℕ). JudgedWriting limits w out a l) (q .1 ∙ sym (p .1))
+        (subst (λ (x : Answer ℕ). JudgedWriting limits w out x (s .1)) (q .0 ∙ sym (p .0)) (s .2))),
+    line-write a last,
   )
+
+  -- A call that writes is answered, and leaves its output, exactly as the table says.
+  pub writes-exactly : (a b : Answer ℕ) (last left : List ℕ) → Writes (workoutDraft limits w) out a last
+      → ((a ≡ b) × (last ≡ left) → JudgedWriting limits w out b left)
+      × (JudgedWriting limits w out b left → (a ≡ b) × (last ≡ left))
+  writes-exactly a b last left p = (
+    (λ e. written-by-table b left .0 (sym (e .0) ∙ p .0, sym (e .1) ∙ p .1)),
+    (λ j. let q = line-write b left j in (p .0 ∙ sym (q .0), p .1 ∙ sym (q .1))),
+  )
+
+  -- What is written is within the limits.
+  pub written-within : (n : ℕ) → draftAnswer (workoutDraft limits w) (length out) ≡ result n
+      → withinLimits limits w ≡ true
+  written-within n e = let f = written-first (workoutDraft limits w) out n e in draft-is limits w (f .0) (f .1) .0

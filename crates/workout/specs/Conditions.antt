@@ -1,13 +1,13 @@
--- The form of a workout's contents and its limits, each rule by itself, and document 01's table of refusals over them.
--- None speaks of the answer or of the steps by which it is reached.
+-- The form of a workout's contents and its limits, each rule by itself, and document 01's tables of reading and writing
+-- over them. None speaks of the answer or of the steps by which it is reached.
 use Prim.Native.Nat.{ℕ, _*_, _≤_, _<_}
 use mathlib.Core.Path.{_≡_}
 use mathlib.Core.Logic.{_⊎_}
-use mathlib.Core.List.{List, [], _∷_}
-use lib.ListN.{length, getD}
+use mathlib.Core.List.{List, [], _∷_, _++_}
+use lib.ListN.{length, getD, drop}
 use Rattle.answer.specs.Answer.{result, refused, Answer}
 use Rattle.workout.specs.Limits.{GoalLimits, Limits, ceilDiv}
-use Rattle.workout.specs.Workout.{Programmed, distance, time, commandOf, identifierOf}
+use Rattle.workout.specs.Workout.{Programmed, distance, time, commandOf, identifierOf, workoutBytes}
 use Rattle.workout.specs.Form.{bytesAt, workoutAs}
 use Rattle.workout.specs.declared.layout.GoalKind.{GoalKind}
 use Rattle.workout.specs.declared.layout.GoalKind.the-variants.{Distance, Time}
@@ -67,8 +67,10 @@ pub data JudgedWorkout (limits : Limits) (c : List ℕ) : Answer Programmed → 
   overLimit : (kind : GoalKind) → Formed kind c → (Limited limits kind c → ⊥) → JudgedWorkout limits c (refused 12)
   readable : (w : Programmed) → Readable limits c w → JudgedWorkout limits c (result w)
 
--- What writing a workout is answered: its limits first, and the output's room is asked for last.
-pub data JudgedWriting (limits : Limits) (w : Programmed) (room : ℕ) : Answer ℕ → Type 0 where
-  outside : (WithinLimits limits w → ⊥) → JudgedWriting limits w room (refused 12)
-  noRoom : WithinLimits limits w → room < 23 → JudgedWriting limits w room (refused 1)
-  fits : WithinLimits limits w → 23 ≤ room → JudgedWriting limits w room (result 23)
+-- What writing a workout is answered, and the output afterwards. Its limits come first, and the output's room is asked
+-- for last. The contents stand first in the output, and all after them is as it was; a refusal changes nothing.
+pub data JudgedWriting (limits : Limits) (w : Programmed) (out : List ℕ) : Answer ℕ → List ℕ → Type 0 where
+  outside : (WithinLimits limits w → ⊥) → JudgedWriting limits w out (refused 12) out
+  noRoom : WithinLimits limits w → length out < 23 → JudgedWriting limits w out (refused 1) out
+  fits : WithinLimits limits w → 23 ≤ length out
+      → JudgedWriting limits w out (result 23) (workoutBytes w ++ drop 23 out)

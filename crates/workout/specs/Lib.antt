@@ -2,5 +2,7 @@ pub mod Limits
 pub mod Workout
 pub mod Form
 pub mod Answers
+pub mod Encoding
+pub mod Contracts
 pub mod Conditions
 pub mod Private

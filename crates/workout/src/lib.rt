@@ -9,9 +9,10 @@ use layout::GoalBytes;
 use layout::GoalKind;
 use limits::Limits;
 ghost use mathlib.Core.Path.{_≡_};
-ghost use Prim.Native.Nat.{_<_};
+ghost use Prim.Native.Nat.{_<_, _^_};
 ghost use lib.ListN.{length};
 ghost use Rattle.answer.specs.Draft.{draftAnswer, draftOut, writtenMeans};
+ghost use Rattle.numbers.specs.Number.{Bytes};
 ghost use Rattle.workout.specs.Limits.{pm3Limits};
 ghost use Rattle.workout.specs.Workout.{Programmed, programmed, workoutBytes};
 ghost use Rattle.workout.specs.Answers.{workoutMeans, workoutAnswer, workoutDraft};
@@ -48,6 +49,7 @@ pub enum WorkoutRead {
 // Reads the contents of a frame that are to be a workout. Refusals 13 and 12.
 pub fn read_workout(contents: &[u8]) -> WorkoutRead
     ensures { λ r. ⌜ workoutMeans r ≡ workoutAnswer pm3Limits (now (contents .entry)) ⌝ }
+    ensures { λ r. ⌜ Bytes (now (contents .entry)) ⌝ }
 {
     read_within(limits::PM3, contents)
 }
@@ -57,6 +59,7 @@ pub fn write_workout(workout: Workout, out: &mut [u8]) -> Written
     ensures { λ r. ⌜ writtenMeans r ≡ draftAnswer (workoutDraft pm3Limits (programmed workout))
         (length (now (out .entry))) ⌝ }
     ensures { λ r. ⌜ now (out .exit) ≡ draftOut (workoutDraft pm3Limits (programmed workout)) (now (out .entry)) ⌝ }
+    ensures { λ r. ⌜ workout .watts < 2 ^ 16 ⌝ }
 {
     write_within(limits::PM3, workout, out)
 }

@@ -1,4 +1,3 @@
-use lib.ListN.{length}
 use Rattle.exports.proofs.AnswerLaws.{stop-fits}
 use Rattle.exports.specs.Answers.{writeFields, WriteShort}
 use Rattle.exports.specs.Packed.{Tells}
@@ -14,9 +13,7 @@ stop-lent-requires c κs = search needs
 
 of-written-requires : tie.Need-of-written-requires
 of-written-requires c κs =
-    let a = c .before .before .before .before .before .before .args in
-    subst WriteShort (sym (c .before .before .stop-lent .ensures .answered))
-    (stop-fits (a .address) (a .token) (length (a .out .now)) (a .table .now))
+    subst WriteShort (sym (c .before .before .stop-lent .ensures .answered)) (stop-fits _ _ _ _)
 
 same-length : tie.Need-same-length
 same-length c = search needs

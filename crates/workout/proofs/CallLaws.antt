@@ -1,0 +1,49 @@
+-- What follows for any reading and any writing call, over plain values.
+use Prim.Native.Nat.{ℕ}
+use mathlib.Core.Path.{_≡_, sym, ap, _∙_}
+use mathlib.Core.List.{List}
+use lib.ListN.{length, take}
+use Rattle.answer.specs.Answer.{Answer, result}
+use Rattle.workout.specs.Limits.{Limits, pm3Limits}
+use Rattle.workout.specs.Workout.{Programmed, Sendable}
+use Rattle.workout.specs.Answers.{workoutAnswer}
+use Rattle.workout.specs.Contracts.{ReadsWorkout, WritesWorkout}
+use Rattle.workout.specs.Conditions.{WithinLimits, Readable, JudgedWorkout}
+use Rattle.workout.specs.Encoding.{Encoded}
+use Rattle.workout.proofs.Table.{read-by-table, read-exactly, written-within}
+use Rattle.workout.proofs.EncodingLaws.{encoded-read, read-encoded}
+use Rattle.workout.proofs.RoundTrip.{written-workout-reads-back, pm3-sendable}
+
+module _ (limits : Limits) (c : List ℕ) (a : Answer Programmed) (k : ReadsWorkout limits c a) where
+  -- A call that reads is answered exactly as document 01's table says.
+  pub reads-by-table : (b : Answer Programmed)
+      → (a ≡ b → JudgedWorkout limits c b) × (JudgedWorkout limits c b → a ≡ b)
+  reads-by-table b =
+      let t = read-by-table limits c b in ((λ e. t .0 (sym (k .answered) ∙ e)), (λ j. k .answered ∙ t .1 j))
+
+  -- It is answered with a workout exactly when form and limits hold, and then with that workout.
+  pub reads-exactly : (w : Programmed) → (a ≡ result w → Readable limits c w) × (Readable limits c w → a ≡ result w)
+  reads-exactly w =
+      let t = read-exactly limits c w in ((λ e. t .0 (sym (k .answered) ∙ e)), (λ r. k .answered ∙ t .1 r))
+
+  -- It is answered with a workout exactly when the contents stand for it and it is within the limits.
+  pub reads-encoded : (w : Programmed)
+      → (a ≡ result w → Encoded w c × WithinLimits limits w) × (Encoded w c × WithinLimits limits w → a ≡ result w)
+  reads-encoded w = (
+    (λ e. read-encoded c (k .bytes) limits w (sym (k .answered) ∙ e)),
+    (λ p. k .answered ∙ encoded-read limits w c (p .0) (p .1)),
+  )
+
+-- What a call wrote is read back by any call on the bytes that were written, if they can hold the goal.
+pub writes-read-back : (limits : Limits) (w : Programmed) (out last : List ℕ) (n : ℕ) (a : Answer Programmed)
+    → Sendable w → WritesWorkout limits w out (result n) last → ReadsWorkout limits (take n last) a → a ≡ result w
+writes-read-back limits w out last n a g k r =
+    r .answered ∙ ap (λ (l : List ℕ). workoutAnswer limits (take n l)) (k .writes .1)
+    ∙ written-workout-reads-back limits w out n g (k .power) (sym (k .writes .0))
+
+-- Within document 01's limits they can hold every goal.
+pub pm3-writes-read-back : (w : Programmed) (out last : List ℕ) (n : ℕ) (a : Answer Programmed)
+    → WritesWorkout pm3Limits w out (result n) last → ReadsWorkout pm3Limits (take n last) a → a ≡ result w
+pm3-writes-read-back w out last n a k =
+    writes-read-back pm3Limits w out last n a
+    (pm3-sendable w (written-within pm3Limits w out n (sym (k .writes .0)))) k
