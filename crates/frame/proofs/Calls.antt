@@ -9,7 +9,7 @@ use denote.Ref.{RefT}
 use Rattle.answer.specs.Answer.{Answer, result}
 use Rattle.answer.specs.Draft.{Writes, writtenMeans}
 use Rattle.answer.specs.declared.Written.{Written}
-use Rattle.frame.specs.Frame.{Frame, standard, extended, contentsOf}
+use Rattle.frame.specs.Frame.{Frame, standard, extended, contentsOf, wireOf}
 use Rattle.frame.specs.Answers.{FrameOutline, outlineOf, frameDraft, frameRead, readMeans, Reads}
 use Rattle.frame.specs.Conditions.{Sound, SoundFrame, ReadJudged, WriteJudged}
 use Rattle.frame.specs.declared.Read.{Read}
@@ -72,6 +72,14 @@ pub accepted-as : {w out last : List ℕ} {a : Answer FrameOutline} → CalledRe
     → (f : Frame) → length (contentsOf f) ≤ length out
     → (frameRead a last ≡ result f → SoundFrame w f) × (SoundFrame w f → frameRead a last ≡ result f)
 accepted-as {w} {out} {last} {a} k f room = trip.told-exactly w out a last (call-reads k) f room
+
+-- Given room for its contents, a call tells a frame exactly when the slice is that frame as it is written, and at most
+-- 120 bytes long.
+pub accepted-written : {w out last : List ℕ} {a : Answer FrameOutline} → CalledRead w out a last → (f : Frame)
+    → length (contentsOf f) ≤ length out
+    → (frameRead a last ≡ result f → (wireOf f ≡ w) × (length w ≤ 120))
+    × ((wireOf f ≡ w) × (length w ≤ 120) → frameRead a last ≡ result f)
+accepted-written {w} {out} {last} {a} k f room = trip.told-as-written w out a last (call-reads k) f room
 
 -- A frame that a call wrote, read from the bytes that it wrote by any call with room, is told as the same frame: its
 -- kind, its addresses and the number of its contents bytes, and these first in the output.

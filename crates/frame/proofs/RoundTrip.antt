@@ -89,6 +89,15 @@ module _ (w out : List ℕ) (a : Answer FrameOutline) (last : List ℕ) (p : Rea
         ∙ told-whole f out),
   )
 
+  -- The same without the conditions: exactly when the slice is that frame as it is written, and at most 120 bytes long.
+  pub told-as-written : (f : Frame) → length (contentsOf f) ≤ length out
+      → (frameRead a last ≡ result f → (wireOf f ≡ w) × (length w ≤ 120))
+      × ((wireOf f ≡ w) × (length w ≤ 120) → frameRead a last ≡ result f)
+  told-as-written f room = (
+    (λ e. accepted-as-written w f .0 (accepted-exactly w f .1 (told-exactly f room .0 e))),
+    (λ e. told-exactly f room .1 (accepted-exactly w f .0 (accepted-as-written w f .1 e))),
+  )
+
   -- Demand 2's "accepted exactly when" of a call with room for the contents of any frame: some frame is told exactly
   -- when limit, escapes, length and checksum are right.
   pub told-when : 117 ≤ length out

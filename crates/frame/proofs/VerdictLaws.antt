@@ -12,8 +12,8 @@ use borrow.Author.Tests.{leb-true, eqb-true, lt-leb, le-leb, eq-eqb, ne-eqb}
 use Rattle.lists.specs.Choice.{within, noneOf}
 use Rattle.lists.proofs.Cases.{by-bool, both-true}
 use Rattle.lists.proofs.Lists.{drop-two}
-use Rattle.lists.proofs.Tests.{within-yes, within-true, none-drop, none-stronger}
-use Rattle.frame.specs.Flags.{isFlag, flagless, kindOf, startFlag, candidateOf}
+use Rattle.lists.proofs.Tests.{within-yes, within-true, none-drop}
+use Rattle.frame.specs.Flags.{flagless, kindOf, startFlag, candidateOf}
 use Rattle.frame.specs.Stuffing.{isStuffed, Unstuffed, badEscape, bytes, prepend, unstuff}
 use Rattle.frame.specs.Checksum.{sumFrom, checksum}
 use Rattle.frame.specs.Frame.{Frame, standard, extended, contentsOf, frameKind, addressesOf, payload}
@@ -31,7 +31,7 @@ use Rattle.frame.specs.declared.Header.the-variants.{Plain, Addressed}
 use Rattle.frame.specs.declared.candidate.Scan.the-variants.{Fault, Good}
 use Rattle.frame.specs.declared.candidate.Examined.{Examined}
 use Rattle.frame.specs.declared.candidate.Examined.the-variants.{Unsound, Sound}
-use Rattle.frame.proofs.FlagLaws.{kind-start, start-kind, start-between}
+use Rattle.frame.proofs.FlagLaws.{kind-start, start-kind, start-between, none-narrower}
 use Rattle.frame.proofs.ChecksumLaws.{contents-last, sum-right, sum-wrong, sum-after}
 use Rattle.frame.proofs.StuffingLaws.{unstuff-plain}
 use Rattle.frame.proofs.EscapeLaws.{scan-as-is}
@@ -296,15 +296,11 @@ whole-examined kind body f (Sound header start len) e = (f, e)
 -- one in which no byte is F0 to F3
 module _ (body : List ℕ) (sum : ℕ) (p : Unescaped body sum) where
   escapeless : noneOf (within 0xF3 0xF3) body ≡ true
-  escapeless =
-      none-stronger isStuffed (within 0xF3 0xF3)
-      (λ x y. let w = within-true 0xF3 0xF3 x y in within-yes 0xF0 0xF3 x (omega arith) (omega arith)) body (p .clear)
+  escapeless = none-narrower 0xF0 0xF3 0xF3 0xF3 body (omega arith) (omega arith) (p .clear)
 
   pub plain-whole : (kind : Kind) → judge kind body ≡ judgeWhole kind body
   plain-whole kind =
-      sym (whole-judged kind body
-      (none-stronger isStuffed isFlag
-      (λ x y. let w = within-true 0xF0 0xF2 x y in within-yes 0xF0 0xF3 x (omega arith) (omega arith)) body (p .clear)))
+      sym (whole-judged kind body (none-narrower 0xF0 0xF3 0xF0 0xF2 body (omega arith) (omega arith) (p .clear)))
 
   pub plain-standard : UnescapedAfter Plain body 0 sum
   plain-standard =
