@@ -1,6 +1,6 @@
 -- Demand 3 of the exported calls: `csafe_feed` and `csafe_finish` in any order, known by nothing but what the contracts
 -- tell the portal. It has the number that is answered, the array, the number of the state and the count.
-use mathlib.Core.Path.{_≡_, refl, sym, ap, ap₂, _∙_, subst}
+use mathlib.Core.Path.{_≡_, sym, ap, ap₂, _∙_, subst}
 use mathlib.Core.List.{List, [], _∷_}
 use lib.ListN.{take}
 use Prim.Native.Nat.{ℕ}
@@ -11,12 +11,11 @@ use Rattle.lists.proofs.Machines.{ran-by-run}
 use Rattle.framing.specs.Reference.{Call, finish}
 use Rattle.framing.specs.Demand3.{feed, Demand3}
 use Rattle.framing.proofs.Restart.{demand3-of}
-use Rattle.line.specs.Outcome.{Outcome, Summary, summaryOf, outcomeOf}
+use Rattle.line.specs.Outcome.{Outcome, Summary, outcomeOf}
 use Rattle.line.specs.Rowing.{rowing}
-use Rattle.line.specs.Reader.{finishOf, outcomeAt, nextAfter}
+use Rattle.line.specs.Reader.{outcomeAt, nextAfter}
 use Rattle.line.specs.Feed.{feedOf}
 use Rattle.line.specs.Chunks.{byByte, TakenToAnswer, AsSingly}
-use Rattle.line.specs.declared.LineReader.{LineReader}
 use Rattle.line.proofs.ValueLaws.{call-whole}
 use Rattle.line.proofs.Follows.{reader-follows}
 use Rattle.line.proofs.ChunkLaws.{chunk-singly, chunk-taken}
@@ -24,7 +23,7 @@ use Rattle.line.proofs.ChunkCalls.{feed-whole}
 use Rattle.exports.specs.Told.{toldLine}
 use Rattle.exports.specs.LineState.{readerIn}
 use Rattle.exports.specs.LentLine.{LentLine, lentLine, newLine, readerOf}
-use Rattle.exports.specs.LineAnswers.{fedTo, finished, FedAs, FinishedAs}
+use Rattle.exports.specs.LineAnswers.{fedTo, FedAs}
 use Rattle.exports.proofs.LineAnswerLaws.{fed-next, finished-next}
 use Rattle.exports.proofs.LineToldLaws.{fed-told, finish-told}
 use Rattle.exports.proofs.csafe_feed.Reads as feed-reads

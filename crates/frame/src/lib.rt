@@ -227,7 +227,7 @@ fn judge_whole(kind: Kind, s: &mut [u8]) -> Read
     ensures { λ r. ⌜ readMeans r ≡ judgeAnswer (verdict (candidateOf kind (now (s .entry)))) ⌝ }
     ensures { λ r. ⌜ now (s .exit) ≡ leftIn (verdict (candidateOf kind (now (s .entry)))) (now (s .entry)) ⌝ }
 {
-    let found = candidate::examine_flagged(kind, s);
+    let found = candidate::examine_whole(kind, s);
     match found {
         Examined::Unsound(why) => Read::Refused(why),
         Examined::Sound { header, start, len } => {
