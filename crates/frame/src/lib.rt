@@ -229,7 +229,7 @@ fn judge_whole(kind: Kind, s: &mut [u8]) -> Read
 {
     let found = candidate::examine_whole(kind, s);
     match found {
-        Examined::Unsound(why) => Read::Refused(why),
+        Examined::Unsound(refusal) => Read::Refused(refusal),
         Examined::Sound { header, start, len } => {
             bring_contents(s, start, len);
             read_as(header, len)

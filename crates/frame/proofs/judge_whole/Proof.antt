@@ -40,8 +40,8 @@ same-length c = search needs
 
 returns : tie.Need-returns
 returns c =
-    let e = c .before .before .before in
-    let q = candidate-verdict _ _ ∙ found e _ (c .before .found .given .1) in
+    let f : tie.After-found = search needs in
+    let q = candidate-verdict _ _ ∙ found (f .before .before) _ (f .found .given .1) in
     (judge-refused _ _ q, left-refused _ _ _ q)
 
 same-length-2 : tie.Need-same-length-2
