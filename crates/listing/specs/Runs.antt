@@ -2,7 +2,6 @@
 use mathlib.Core.Path.{_≡_}
 use mathlib.Core.Bool.{true, false}
 use mathlib.Core.List.{List, _++_}
-use mathlib.Core.Logic.{_⊎_}
 use Prim.Native.Nat.{ℕ, zero, suc, _≤_}
 use lib.ListN.{length, take, drop}
 use Rattle.text.specs.Text.{text}
@@ -11,18 +10,13 @@ use Rattle.trace.specs.Cutting.{longest}
 use Rattle.trace.specs.declared.Listing.{Listing}
 use Rattle.listing.specs.declared.Stop.{Stop}
 use Rattle.listing.specs.declared.Stop.the-variants.{LastRead, AtLimit, LastWrite}
-use Rattle.listing.specs.declared.Fetched.{Fetched}
 use Rattle.listing.specs.declared.Fetched.the-variants.{Bytes, Failed}
 use Rattle.listing.specs.declared.Sent.{Sent}
 use Rattle.listing.specs.declared.Pumped.{Pumped}
 use Rattle.listing.specs.declared.Ran.{Ran}
 
--- A read of at most so many bytes.
-abbrev pub Fetches : (room left : ℕ) → Fetched → Type 0
-Fetches room left (Bytes n) = (n ≤ room) × (n ≤ left)
-Fetches room left Failed = Unit {0}
-
--- A chunk: the state and the number of bytes written are those of the bytes taken, which are all where all was written.
+-- A chunk: the state, and the number of bytes handed over for writing, are those of the bytes taken. They are all of
+-- the chunk where all was written.
 pub record Pumps (s : Listing) (chunk : List ℕ) (r : Pumped) : Type 0 where
   pub fits : r .taken ≤ length chunk
   pub next-is : r .next ≡ listingAfter s (take (r .taken) chunk)
@@ -34,28 +28,19 @@ pub record Finishes (s : Listing) (out out′ : List ℕ) (r : Sent) : Type 0 wh
   pub out-is : out′ ≡ lastText s ++ drop (length (lastText s)) out
   pub len-is : r .len ≡ length (lastText s)
 
--- The end with a reason: it is that, or a write that failed.
-abbrev pub ran : Stop → (read wrote : ℕ) → Ran
-ran stop read wrote = record { stop = stop; read = read; wrote = wrote }
-
-abbrev pub Closes : Listing → Stop → (read wrote : ℕ) → (out out′ : List ℕ) → Ran → Type 0
-Closes s stop read wrote out out′ r =
-    (out′ ≡ lastText s ++ drop (length (lastText s)) out)
-    × ((r ≡ ran (LastWrite false) read wrote) ⊎ (r ≡ ran stop read (add64 wrote (length (lastText s)))))
-
 -- All of the text of some bytes was written: so many bytes as it has, and the last of it stands first in the output.
-abbrev pub Listed : (bytes : List ℕ) → ℕ → (out′ : List ℕ) → Type 0
-Listed bytes wrote out′ =
+abbrev pub AllWritten : (bytes : List ℕ) → ℕ → (out′ : List ℕ) → Type 0
+AllWritten bytes wrote out′ =
     (wrote ≡ add64 0 (length (text bytes)))
     × (take (length (lastText (listingAfter newListing bytes))) out′ ≡ lastText (listingAfter newListing bytes))
 
 -- The program stops only where a read gave no byte, where a read or a write failed, or at exactly the most bytes of a
 -- trace. Where a read failed it wrote the lines of the bytes, without the totals.
 abbrev pub Stops : (bytes : List ℕ) → Stop → ℕ → (out′ : List ℕ) → Type 0
-Stops bytes (LastRead (Bytes zero)) wrote out′ = Listed bytes wrote out′
+Stops bytes (LastRead (Bytes zero)) wrote out′ = AllWritten bytes wrote out′
 Stops bytes (LastRead (Bytes (suc n))) wrote out′ = ⊥
 Stops bytes (LastRead Failed) wrote out′ = wrote ≡ add64 0 (length (texts newListing bytes))
-Stops bytes AtLimit wrote out′ = (length bytes ≡ longest) × Listed bytes wrote out′
+Stops bytes AtLimit wrote out′ = (length bytes ≡ longest) × AllWritten bytes wrote out′
 Stops bytes (LastWrite all) wrote out′ = all ≡ false
 
 -- It read some bytes, at most so many, and stopped for a reason.

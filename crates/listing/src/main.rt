@@ -9,7 +9,8 @@ ghost use Prim.Native.Nat.{_≤_, _<_};
 ghost use lib.ListN.{length};
 ghost use Rattle.text.specs.Writing.{lineRoom};
 ghost use Rattle.trace.specs.Machine.{lastRoom};
-ghost use Rattle.listing.specs.Runs.{Fetches, Pumps, Finishes, Closes, Runs};
+ghost use Rattle.listing.specs.Runs.{Pumps, Finishes, Runs};
+ghost use Rattle.listing.specs.Private.{Fetches, Closes};
 
 // The most bytes that are read.
 const LIMIT: u64 = 4294967295;

@@ -2,7 +2,7 @@ use mathlib.Core.Path.{refl, ap, _∙_}
 use mathlib.Core.Logic.{inl, inr}
 use Prim.Native.Nat.{ℕ}
 use Rattle.trace.specs.Machine.{add64}
-use Rattle.listing.specs.Runs.{ran}
+use Rattle.listing.specs.Private.{ran}
 use mathlib.Core.Bool.{Bool}
 use Rattle.listing.specs.declared.Stop.the-variants.{LastWrite}
 use borrow.Author.Tests.{not-true}
