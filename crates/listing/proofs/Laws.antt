@@ -30,6 +30,10 @@ use Rattle.listing.specs.declared.Ran.{Ran}
 add-on : (a b : ℕ) → add64 (add64 0 a) b ≡ add64 0 (a + b)
 add-on a b = omega arith
 
+-- a part at the front of a list has so many elements
+pub part-size : {n : ℕ} (l : List ℕ) → n ≤ length l → n ≡ length (take n l)
+part-size {n} l h = sym (length-take-le n l h)
+
 -- the state and the number of bytes written after bytes
 pub record After (s₀ : Listing) (bytes : List ℕ) (s : Listing) (wrote : ℕ) : Type 0 where
   pub state : s ≡ listingAfter s₀ bytes

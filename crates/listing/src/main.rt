@@ -21,8 +21,8 @@ enum Fetched {
     Failed,
 }
 
-// Why the program stops: what the last read gave, the limit, or whether the last write took all. A reason has the answer
-// that it goes by.
+// Why the program stops: what the last read gave, the limit, or whether the last write took all. Each reason holds the
+// answer that it goes by.
 enum Stop {
     LastRead(Fetched),
     AtLimit,

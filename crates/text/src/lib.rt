@@ -33,7 +33,8 @@ pub fn hex_digits(b: u8) -> [u8; 2]
 // many as the answer says. Refusal 1. A line that could be too long for the output is made in an array first.
 pub fn write_answer(told: Told, contents: &[u8], n: u64, out: &mut [u8]) -> Written
     ensures { λ r. ⌜ writtenMeans r
-        ≡ draftAnswer (result (callLine n (outcomeOf (toldMeans told) (now (contents .entry))))) (length (now (out .entry))) ⌝ }
+        ≡ draftAnswer (result (callLine n (outcomeOf (toldMeans told) (now (contents .entry)))))
+        (length (now (out .entry))) ⌝ }
     ensures { λ r. ⌜ now (out .exit)
         ≡ draftOut (result (callLine n (outcomeOf (toldMeans told) (now (contents .entry))))) (now (out .entry)) ⌝ }
     ensures { λ r. ⌜ length (callLine n (outcomeOf (toldMeans told) (now (contents .entry)))) ≤ lineRoom ⌝ }
@@ -48,7 +49,8 @@ pub fn write_answer(told: Told, contents: &[u8], n: u64, out: &mut [u8]) -> Writ
 
 // Writes the totals. Refusal 1.
 pub fn write_totals(frames: u64, refusals: u64, strays: u64, out: &mut [u8]) -> Written
-    ensures { λ r. ⌜ writtenMeans r ≡ draftAnswer (result (totals frames refusals strays)) (length (now (out .entry))) ⌝ }
+    ensures { λ r. ⌜ writtenMeans r
+        ≡ draftAnswer (result (totals frames refusals strays)) (length (now (out .entry))) ⌝ }
     ensures { λ r. ⌜ now (out .exit) ≡ draftOut (result (totals frames refusals strays)) (now (out .entry)) ⌝ }
     ensures { λ r. ⌜ length (totals frames refusals strays) ≤ lineRoom ⌝ }
 {

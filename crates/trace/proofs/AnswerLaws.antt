@@ -84,7 +84,15 @@ pub part-wrote : (w out last : List ℕ) (a : Answer ℕ) (at n : ℕ) → at + 
 part-wrote w out last a at n h p l =
     let part : List ℕ = take (length out - at) (drop at out) in
     let room : length w ≤ length part =
-    omega (arith, length-drop at out, length-take-le (length out - at) (drop at out) (omega (arith, length-drop at out))) in
+    omega (
+      arith,
+      length-drop at out,
+      length-take-le (length out - at) (drop at out) (omega (
+        arith,
+        length-drop at
+            out,
+      )),
+    ) in
     let f : (n ≡ length w) × (last ≡ w ++ drop n part) = wrote-first (answered-wrote w part last a n room p l) in
     let e : last ≡ take (length w) w ++ drop (length w) part =
     f .1 ∙ ap (λ (k : ℕ). w ++ drop k part) (f .0)

@@ -60,8 +60,11 @@ calls-write-text trace h s n s′ before t κs out out′ wrote e =
 pub finish-answers : (s : Listing) (κs : Lfts 1) (out out′ : RefT (List ℕ)) (r : Written)
     → lastRoom ≤ length (out .now) → finish-reads.Learnt κs (s, (out, tt)) r (s, (out′, tt))
     → (wrote : ℕ) × (writtenMeans r ≡ result wrote)
-finish-answers s κs out out′ r room e =
-    (length (lastText s), room-answers (lastText s) (length (out .now)) (writtenMeans r) (omega (arith, e .1 .1)) (e .0))
+finish-answers s κs out out′ r room e = (
+  length (lastText s),
+  room-answers (lastText s) (length (out .now)) (writtenMeans r) (omega (arith, e .1 .1)) (e
+      .0),
+)
 
 -- A call of `list` with a byte to take and room for any line takes a byte.
 pub call-takes-some : (s : Listing) (κs : Lfts 2) (chunk chunk′ out out′ : RefT (List ℕ)) (r : Listed)

@@ -18,28 +18,47 @@ enum-known-written : tie.Need-enum-known-written
 enum-known-written c = search needs
 
 -- the output has room for the last text
-room : (c : tie.After-finish) → length (lastText (c .before .before .before .args .s)) ≤ length (c .before .before .before .args .out .now)
+room : (c : tie.After-finish) → length (lastText (c .before .before .before .args .s)) ≤ length (c .before .before
+    .before .args .out .now)
 room c = omega (arith, c .finish .ensures .1 .1, c .before .before .before .pre)
 
 answered : (c : tie.After-finish)
-    → writtenMeans (c .finish .result) ≡ draftAnswer (result (lastText (c .before .before .before .args .s))) (length (c .before .before .before .args .out .now))
+    → writtenMeans (c .finish .result) ≡ draftAnswer (result (lastText (c .before .before .before .args .s))) (length
+    (c .before .before .before .args .out .now))
 answered c = c .finish .ensures .0
 
 -- the length that it answers is that of the last text
 fits : (c : tie.After-known-told)
-    → c .before .written .given .0 .0 ≡ length (lastText (c .before .before .before .before .before .before .before .before .args .s))
+    → c .before .written .given .0 .0 ≡ length (lastText (c .before .before .before .before .before .before .before
+    .before .args .s))
 fits c =
-    finished _ (c .before .before .before .before .before .before .before .before .args .out .now) (c .before .before .before .before .before .finish .last .1 .0) (writtenMeans (c .before .before .before .before .before .finish .result))
-    (room (c .before .before .before .before .before)) (answered (c .before .before .before .before .before)) _ (ap writtenMeans (c .before .written .given .1))
+    finished _ (c .before .before .before .before .before .before .before .before .args .out .now) (c .before .before
+    .before .before .before .finish .last .1 .0) (writtenMeans (c .before .before .before .before .before .finish
+    .result))
+    (room (c .before .before .before .before .before)) (answered (c .before .before .before .before .before)) _ (ap
+    writtenMeans (c .before .written .given .1))
 
 slice-reshare-prefix-send : tie.Need-slice-reshare-prefix-send
-slice-reshare-prefix-send c = omega (arith, fits c, room (c .before .before .before .before .before), c .before .before .before .before .before .finish .kept .1 .0)
+slice-reshare-prefix-send c = omega (
+  arith,
+  fits c,
+  room (c .before .before .before .before .before),
+  c .before
+      .before .before .before .before .finish .kept .1 .0,
+)
 
 slice-aggregate-send : tie.Need-slice-aggregate-send
 slice-aggregate-send c =
     let k = c .before in
-    sym (length-take-le (k .before .written .given .0 .0) (k .before .before .before .before .before .finish .last .1 .0)
-    (omega (arith, fits k, room (k .before .before .before .before .before), k .before .before .before .before .before .finish .kept .1 .0)))
+    sym (length-take-le (k .before .written .given .0 .0) (k .before .before .before .before .before .finish .last .1
+    .0)
+    (omega (
+      arith,
+      fits k,
+      room (k .before .before .before .before .before),
+      k .before .before .before .before .before
+          .finish .kept .1 .0,
+    )))
 
 send-requires : tie.Need-send-requires
 send-requires c κs = search needs
@@ -55,7 +74,8 @@ returns c =
     let k = c .before .before in
     let f = k .before .before .before .before .before in
     record {
-      out-is = finish-left _ (f .before .before .before .args .out .now) (f .finish .last .1 .0) (room f) (f .finish .ensures .1 .0);
+      out-is = finish-left _ (f .before .before .before .args .out .now) (f .finish .last .1 .0) (room f) (f .finish
+          .ensures .1 .0);
       len-is =
           c .send .ensures
           ∙ length-take-le (k .before .written .given .0 .0) (f .finish .last .1 .0)
@@ -69,7 +89,8 @@ same-length-2 c = search needs
 returns-2 : tie.Need-returns-2
 returns-2 c =
     let f = c .before .before .before .before in
-    absurd (not-refused _ (f .before .before .before .args .out .now) (f .finish .last .1 .0) (writtenMeans (f .finish .result)) (room f)
+    absurd (not-refused _ (f .before .before .before .args .out .now) (f .finish .last .1 .0) (writtenMeans (f .finish
+    .result)) (room f)
     (answered f) _ (ap writtenMeans (c .enum-told .given .1)))
 
 pub finish-spec : {M : Type 1} → statement M

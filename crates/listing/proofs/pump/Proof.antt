@@ -5,7 +5,7 @@ use native.Mathlib.Omega.{arith}
 use lib.ListN.{length, drop, length-take, length-drop}
 use lib.Seq.{length-take-le}
 use Rattle.trace.proofs.Cuttings.{takes-some}
-use Rattle.listing.proofs.Laws.{Pumping, pumping-none, pumping-more}
+use Rattle.listing.proofs.Laws.{part-size, Pumping, pumping-none, pumping-more}
 use borrow.Author.Tests.{not-true}
 use borrow.Author.Needs.{needs}
 use Rattle.listing.proofs.pump.Statement.{statement}
@@ -36,15 +36,29 @@ list-requires c κs = tt
 -- a byte is taken, and no more than are left
 goes-on : (c : tie.After-struct-known Inv-loop μ-loop)
     → (0 < c .before .before .before .before .list .result .taken)
-    × (c .before .before .before .before .before .before .before .before .loop .taken + c .before .before .before .before .list .result .taken ≤ length (c .before .before .before .before .before .before .before .before .before .before .before .args .chunk .now))
+    × (c .before .before .before .before .before .before .before .before .loop .taken + c .before .before .before
+    .before .list .result .taken ≤ length (c .before .before .before .before .before .before .before .before .before
+    .before .before .args .chunk .now))
 goes-on c =
     let f = c .before .before .before .before .list in
     let l = c .before .before .before .before .before .before .before .before .loop in
-    let s = c .before .before .before .before .before .before .before .before .before .before .before .args .chunk .now in
+    let s = c .before .before .before .before .before .before .before .before .before .before .before .args .chunk
+    .now in
     let left = length-take (length s - l .taken) (drop (l .taken) s) in
     let rest = length-drop (l .taken) s in (
-      takes-some _ _ _ _ _ (omega (arith, left, rest, c .before .before .before .before .before .before .before .loop-test .taken))
-          (omega (arith, l .inv .0, c .before .before .before .before .before .before .before .before .before .before .before .pre)) (f .ensures),
+      takes-some _ _ _ _ _ (omega (
+        arith,
+        left,
+        rest,
+        c .before .before .before .before .before .before .before
+            .loop-test .taken,
+      ))
+          (omega (
+            arith,
+            l .inv .0,
+            c .before .before .before .before .before .before .before .before .before .before
+                .before .pre,
+          )) (f .ensures),
       omega (arith, f .ensures .taken-fits, l .inv .1 .0, left, rest),
     )
 
@@ -52,12 +66,16 @@ add-taken : tie.Need-add-taken Inv-loop μ-loop
 add-taken c = omega (arith, goes-on c)
 
 slice-reshare-prefix-send : tie.Need-slice-reshare-prefix-send Inv-loop μ-loop
-slice-reshare-prefix-send c = let f = c .before .before .before .before .list in omega (arith, f .ensures .wrote-fits, f .kept .1 .1 .0)
+slice-reshare-prefix-send c = let f = c .before .before .before .before .list in omega (
+  arith,
+  f .ensures .wrote-fits,
+  f .kept .1 .1 .0,
+)
 
 slice-aggregate-send : tie.Need-slice-aggregate-send Inv-loop μ-loop
 slice-aggregate-send c =
     let f = c .before .before .before .before .before .list in
-    sym (length-take-le (f .result .wrote) (f .last .1 .1 .0) (omega (arith, f .ensures .wrote-fits, f .kept .1 .1 .0)))
+    part-size (f .last .1 .1 .0) (omega (arith, f .ensures .wrote-fits, f .kept .1 .1 .0))
 
 send-requires : tie.Need-send-requires Inv-loop μ-loop
 send-requires c κs = tt
@@ -67,30 +85,49 @@ wrapping-add-u64-requires c κs = tt
 
 -- the bytes that the call took are listed, and their lines were handed over
 pumped : (c : tie.After-wrapping-add-u64 Inv-loop μ-loop)
-    → Pumping (c .before .before .before .before .before .before .before .before .before .before .before .before .before .before .args .s) (c .before .before .before .before .before .before .before .before .before .before .before .before .before .before .args .chunk .now) (c .before .before .before .before .before .before .before .list .result .next)
-    (c .wrapping-add-u64 .result) (c .before .before .before .before .before .before .before .before .before .before .before .loop .taken + c .before .before .before .before .before .before .before .list .result .taken)
+    → Pumping (c .before .before .before .before .before .before .before .before .before .before .before .before
+    .before .before .args .s) (c .before .before .before .before .before .before .before .before .before .before
+    .before .before .before .before .args .chunk .now) (c .before .before .before .before .before .before .before
+    .list .result .next)
+    (c .wrapping-add-u64 .result) (c .before .before .before .before .before .before .before .before .before .before
+    .before .loop .taken + c .before .before .before .before .before .before .before .list .result .taken)
 pumped c =
     let f = c .before .before .before .before .before .before .before .list in
     let l = c .before .before .before .before .before .before .before .before .before .before .before .loop in
-    pumping-more (c .before .before .before .before .before .before .before .before .before .before .before .before .before .before .args .s) (c .before .before .before .before .before .before .before .before .before .before .before .before .before .before .args .chunk .now) (l .state) (l .wrote) (l .taken) (l .inv .1)
+    pumping-more (c .before .before .before .before .before .before .before .before .before .before .before .before
+    .before .before .args .s) (c .before .before .before .before .before .before .before .before .before .before
+    .before .before .before .before .args .chunk .now) (l .state) (l .wrote) (l .taken) (l .inv .1)
     (l .out) (f .last .1 .1 .0) (f .result) (f .ensures) (c .before .send .result .len) (c .wrapping-add-u64 .result)
     (c .before .send .ensures
     ∙ length-take-le (f .result .wrote) (f .last .1 .1 .0) (omega (arith, f .ensures .wrote-fits, f .kept .1 .1 .0)))
     (c .wrapping-add-u64 .ensures)
 
 same-length : tie.Need-same-length Inv-loop μ-loop
-same-length c = c .before .before .before .before .before .before .before .before .before .list .kept .1 .1 .0 ∙ c .before .before .before .before .before .before .before .before .before .before .before .before .before .loop .inv .0
+same-length c = c .before .before .before .before .before .before .before .before .before .list .kept .1 .1 .0 ∙ c
+    .before .before .before .before .before .before .before .before .before .before .before .before .before .loop .inv
+    .0
 
 returns : tie.Need-returns Inv-loop μ-loop
 returns c =
     let p = pumped (c .before .before) in
-    record { fits = p .0; next-is = p .1 .state; wrote-is = p .1 .wrote-is; all = λ e. absurd (true≢false (sym e ∙ not-true _ (c .if1 .taken))) }
+    record {
+      fits = p .0;
+      next-is = p .1 .state;
+      wrote-is = p .1 .wrote-is;
+      all = λ e. absurd (true≢false (sym e ∙
+          not-true _ (c .if1 .taken)));
+    }
 
 loop-less : tie.Need-loop-less Inv-loop μ-loop
 loop-less c = omega (arith, goes-on (c .before .before .before .before .before))
 
 loop-again : tie.Need-loop-again Inv-loop μ-loop
-loop-again c = (c .before .before .before .before .before .before .before .before .before .list .kept .1 .1 .0 ∙ c .before .before .before .before .before .before .before .before .before .before .before .before .before .loop .inv .0, pumped (c .before .before))
+loop-again c = (
+  c .before .before .before .before .before .before .before .before .before .list .kept .1 .1 .0 ∙ c
+      .before .before .before .before .before .before .before .before .before .before .before .before .before .loop .inv
+      .0,
+  pumped (c .before .before),
+)
 
 same-length-2 : tie.Need-same-length-2 Inv-loop μ-loop
 same-length-2 c = c .before .loop .inv .0

@@ -52,20 +52,38 @@ length-of-requires c κs = search needs
 
 -- the line of the answer
 line : (c : tie.After-length-of)
-    → Wrote (c .before .before .before .before .before .before .before .before .before .before .before .before .before .before .before .before .args .out .now) (c .before .before .before .before .before .before .before .before .before .before .before .before .before .before .before .before .args .at)
+    → Wrote (c .before .before .before .before .before .before .before .before .before .before .before .before .before
+    .before .before .before .args .out .now) (c .before .before .before .before .before .before .before .before
+    .before .before .before .before .before .before .before .before .args .at)
     (callLine (c .before .before .before .before .before .next-number .result)
-    (outcomeOf (toldMeans (c .before .before .before .before .before .before .before .before .before .before .before .feed-in .result .told)) (c .before .before .before .before .before .before .before .before .before .before .before .feed-in .last .0)))
-    (putMid (c .before .before .before .before .before .before .before .before .before .before .before .before .before .before .before .before .args .at) (length (c .before .before .before .before .before .before .before .before .before .before .before .before .before .before .before .before .args .out .now) - c .before .before .before .before .before .before .before .before .before .before .before .before .before .before .before .before .args .at) (c .before .before .before .before .before .before .before .before .before .before .before .before .before .before .before .before .args .out .now)
-    (c .before .before .before .write-answer .last .1 .1 .1 .0)) (c .before .before .before .before .before .before .before .before .before .before .before .before .before .before .before .before .args .at + c .length-of .result)
+    (outcomeOf (toldMeans (c .before .before .before .before .before .before .before .before .before .before .before
+    .feed-in .result .told)) (c .before .before .before .before .before .before .before .before .before .before
+    .before .feed-in .last .0)))
+    (putMid (c .before .before .before .before .before .before .before .before .before .before .before .before .before
+    .before .before .before .args .at) (length (c .before .before .before .before .before .before .before .before
+    .before .before .before .before .before .before .before .before .args .out .now) - c .before .before .before
+    .before .before .before .before .before .before .before .before .before .before .before .before .before .args .at)
+    (c .before .before .before .before .before .before .before .before .before .before .before .before .before .before
+    .before .before .args .out .now)
+    (c .before .before .before .write-answer .last .1 .1 .1 .0)) (c .before .before .before .before .before .before
+    .before .before .before .before .before .before .before .before .before .before .args .at + c .length-of .result)
 line c =
     let w = c .before .before .before .write-answer in
-    let start = c .before .before .before .before .before .before .before .before .before .before .before .before .before .before .before .before in
+    let start = c .before .before .before .before .before .before .before .before .before .before .before .before
+    .before .before .before .before in
     part-wrote _ (start .args .out .now) (w .last .1 .1 .1 .0) (writtenMeans (w .result)) (start .args .at)
     (c .length-of .result) (omega (arith, w .ensures .1 .1, start .pre)) (w .ensures .0, w .ensures .1 .0)
     (c .length-of .ensures)
 
 add-t24 : tie.Need-add-t24
-add-t24 c = omega (arith, line c .ends, c .before .before .before .write-answer .ensures .1 .1, c .before .before .before .before .before .before .before .before .before .before .before .before .before .before .before .before .pre)
+add-t24 c = omega (
+  arith,
+  line c .ends,
+  c .before .before .before .write-answer .ensures .1 .1,
+  c .before .before
+      .before .before .before .before .before .before .before .before .before .before .before .before .before .before
+      .pre,
+)
 
 frame-count-requires : tie.Need-frame-count-requires
 frame-count-requires c κs = search needs

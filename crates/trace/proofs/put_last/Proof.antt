@@ -39,14 +39,23 @@ wrapping-add-u64-requires-2 c κs = search needs
 
 -- the first line
 line : (k : tie.After-length-of)
-    → Wrote (k .before .before .before .before .before .before .before .before .before .before .before .before .args .out .now) 0
+    → Wrote (k .before .before .before .before .before .before .before .before .before .before .before .before .args
+    .out .now) 0
     (callLine (k .before .before .before .before .before .next-number .result)
-    (outcomeOf (toldMeans (k .before .before .before .before .before .before .before .finish-in .result .told)) (k .before .before .before .before .before .before .before .before .before .before .before .before .args .s .reader .bytes)))
+    (outcomeOf (toldMeans (k .before .before .before .before .before .before .before .finish-in .result .told)) (k
+    .before .before .before .before .before .before .before .before .before .before .before .before .args .s .reader
+    .bytes)))
     (k .before .before .before .write-answer .last .1 .1 .1 .0) (k .length-of .result)
 line k =
     let w = k .before .before .before .write-answer in
-    answered-wrote _ (k .before .before .before .before .before .before .before .before .before .before .before .before .args .out .now) (w .last .1 .1 .1 .0) (writtenMeans (w .result)) (k .length-of .result)
-    (omega (arith, w .ensures .1 .1, k .before .before .before .before .before .before .before .before .before .before .before .before .pre)) (w .ensures .0, w .ensures .1 .0) (k .length-of .ensures)
+    answered-wrote _ (k .before .before .before .before .before .before .before .before .before .before .before
+    .before .args .out .now) (w .last .1 .1 .1 .0) (writtenMeans (w .result)) (k .length-of .result)
+    (omega (
+      arith,
+      w .ensures .1 .1,
+      k .before .before .before .before .before .before .before .before .before .before
+          .before .before .pre,
+    )) (w .ensures .0, w .ensures .1 .0) (k .length-of .ensures)
 
 within : (k : tie.After-length-of)
     → (k .length-of .result ≤ lineRoom)
@@ -54,7 +63,14 @@ within : (k : tie.After-length-of)
 within k =
     let w = k .before .before .before .write-answer in (
       omega (arith, line k .ends, w .ensures .1 .1),
-      omega (arith, line k .ends, w .ensures .1 .1, w .kept .1 .1 .1 .0, k .before .before .before .before .before .before .before .before .before .before .before .before .pre),
+      omega (
+        arith,
+        line k .ends,
+        w .ensures .1 .1,
+        w .kept .1 .1 .1 .0,
+        k .before .before .before .before .before
+            .before .before .before .before .before .before .before .pre,
+      ),
     )
 
 sub-write-totals : tie.Need-sub-write-totals
@@ -82,7 +98,11 @@ totals-fit c =
     )
 
 add-result : tie.Need-add-result
-add-result c = omega (arith, within (c .before .before .before .before .before .before .before .before .before), totals-fit c)
+add-result c = omega (
+  arith,
+  within (c .before .before .before .before .before .before .before .before .before),
+  totals-fit c,
+)
 
 same-length : tie.Need-same-length
 same-length c = search needs
@@ -91,18 +111,27 @@ returns : tie.Need-returns
 returns c =
     let k = c .before .before .before .before .before .before .before .before .before in
     let f = k .before .before .before .before .before .before .before .finish-in in
-    let s = k .before .before .before .before .before .before .before .before .before .before .before .before .args .s in
+    let s = k .before .before .before .before .before .before .before .before .before .before .before .before .args .s
+    in
     let t = c .before .before .before .write-totals in
     let x = c .before .before .before .before .before .before .before .wrapping-add-u64 in
     let y = c .before .before .before .before .before .wrapping-add-u642 in
     let fc = c .before .before .before .before .before .before .before .before .frame-count in
     let rc = c .before .before .before .before .before .before .refused-count in
-    let q = part-wrote _ (k .before .before .before .write-answer .last .1 .1 .1 .0) (t .last .1 .1 .1 .0) (writtenMeans (t .result))
+    let q = part-wrote _ (k .before .before .before .write-answer .last .1 .1 .1 .0) (t .last .1 .1 .1 .0)
+    (writtenMeans (t .result))
     (k .length-of .result) (c .length-of2 .result) (omega (arith, within k, t .ensures .1 .1))
     (t .ensures .0, t .ensures .1 .0) (c .length-of2 .ensures) in (
-      last-wrote s (f .result) (k .before .before .before .before .before .next-number .result) (x .result) (y .result) (fc .result) (rc .result)
-          (f .ensures (s .reader .bytes)) (k .before .before .before .before .before .next-number .ensures) (x .ensures) (fc .ensures) (y .ensures)
-          (rc .ensures) (line k) q (omega (arith, within k, k .before .before .before .before .before .before .before .before .before .before .before .before .pre)),
+      last-wrote s (f .result) (k .before .before .before .before .before .next-number .result) (x .result) (y
+          .result) (fc .result) (rc .result)
+          (f .ensures (s .reader .bytes)) (k .before .before .before .before .before .next-number .ensures) (x
+          .ensures) (fc .ensures) (y .ensures)
+          (rc .ensures) (line k) q (omega (
+            arith,
+            within k,
+            k .before .before .before .before .before .before .before
+                .before .before .before .before .before .pre,
+          )),
       omega (arith, within k, totals-fit c),
     )
 
