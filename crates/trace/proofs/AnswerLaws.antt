@@ -7,7 +7,7 @@ use native.Mathlib.Omega.{arith}
 use lib.ListN.{length, take, drop, length-drop}
 use lib.Seq.{length-take-le, take-length}
 use lib.Dec.{leb}
-use borrow.Author.Tests.{le-leb}
+use borrow.Author.Tests.{le-leb, lt-leb, leb-false}
 use Rattle.lists.proofs.Cases.{by-bool}
 use Rattle.lists.proofs.Splices.{part-splice}
 use Rattle.framing.specs.Reference.{finish}
@@ -59,6 +59,19 @@ room-answers w room a h e = simp (le-leb (length w) room h) at e
 pub room-length : (w : List ℕ) (room : ℕ) (a : Answer ℕ) (n : ℕ) → length w ≤ room → a ≡ draftAnswer (result w) room
     → n ≡ lengthOf a → n ≡ length w
 room-length w room a n h e l = l ∙ ap lengthOf (room-answers w room a h e)
+
+-- and 1 exactly where the output is shorter
+pub no-room-exactly : (w : List ℕ) (room : ℕ)
+    → (draftAnswer (result w) room ≡ refused 1 → room < length w)
+    × (room < length w → draftAnswer (result w) room ≡ refused 1)
+unfolding draftAnswer
+no-room-exactly w room = (
+  λ e. by-bool (leb (length w) room)
+      (λ y. let q : result (length w) ≡ refused 1 = simp y at e in
+      let z : _≡_ {A = ℕ} 0 1 = cc in absurd (omega arith))
+      (λ m. leb-false (length w) room m),
+  λ h. simp (lt-leb (length w) room h),
+)
 
 -- and with any room at most that
 pub most-written : (w : List ℕ) (room : ℕ) (a : Answer ℕ) (n : ℕ) → a ≡ draftAnswer (result w) room → n ≡ lengthOf a

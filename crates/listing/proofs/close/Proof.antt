@@ -1,6 +1,5 @@
-use mathlib.Core.Path.{refl, ap, _∙_}
+use mathlib.Core.Path.{ap, _∙_}
 use mathlib.Core.Logic.{inl, inr}
-use Prim.Native.Nat.{ℕ}
 use Rattle.trace.specs.Machine.{add64}
 use Rattle.listing.specs.Private.{ran}
 use mathlib.Core.Bool.{Bool}

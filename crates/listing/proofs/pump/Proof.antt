@@ -7,7 +7,6 @@ use lib.Seq.{length-take-le}
 use Rattle.trace.proofs.Cuttings.{takes-some}
 use Rattle.listing.proofs.Laws.{part-size, Pumping, pumping-none, pumping-more}
 use borrow.Author.Tests.{not-true}
-use borrow.Author.Needs.{needs}
 use Rattle.listing.proofs.pump.Statement.{statement}
 use Rattle.listing.proofs.pump.Tie as tie
 
