@@ -23,19 +23,19 @@ use Rattle.exports.proofs.csafe_stop.Reads as stop-reads
 
 -- A call on lent bytes, with the answer that the caller has in the number and the output, and the bytes afterwards:
 -- what its contract tells the caller.
-pub data CalledExported : List ℕ → LeaseCall → Answer (List ℕ) → List ℕ → Type 0 where
+pub data ExportedLease : List ℕ → LeaseCall → Answer (List ℕ) → List ℕ → Type 0 where
   exported-held : {a u : ℕ} (n : ℕ) (κs : Lfts 1) (s s′ : RefT (List ℕ))
       → hold-reads.Learnt κs (s, (a, (u, tt))) n (s′, (a, (u, tt)))
-      → CalledExported (s .now) (hold a u) (toldLease n) (s′ .now)
+      → ExportedLease (s .now) (hold a u) (toldLease n) (s′ .now)
   exported-released : {a u : ℕ} (n : ℕ) (κs : Lfts 1) (s s′ : RefT (List ℕ))
       → release-reads.Learnt κs (s, (a, (u, tt))) n (s′, (a, (u, tt)))
-      → CalledExported (s .now) (release a u) (toldLease n) (s′ .now)
+      → ExportedLease (s .now) (release a u) (toldLease n) (s′ .now)
   exported-stopped : {a u : ℕ} (n : ℕ) (κs : Lfts 2) (s out out′ : RefT (List ℕ))
       → stop-reads.Learnt κs (s, (a, (u, (out, tt)))) n (s, (a, (u, (out′, tt))))
-      → CalledExported (s .now) (stop a u (length (out .now))) (stopTold (toldWritten n) (out′ .now)) (s .now)
+      → ExportedLease (s .now) (stop a u (length (out .now))) (stopTold (toldWritten n) (out′ .now)) (s .now)
 
 -- An exported call is answered, and leaves the bytes, as the definitions say, and its token has 64 bits.
-called-exported : (s s′ : List ℕ) (c : LeaseCall) (x : Answer (List ℕ)) → CalledExported s c x s′
+called-exported : (s s′ : List ℕ) (c : LeaseCall) (x : Answer (List ℕ)) → ExportedLease s c x s′
     → (x ≡ lentAnswer s c) × (s′ ≡ lentAfter s c) × TokenFits c
 called-exported s s′ c x (exported-held {a = a} {u = u} n κs t t′ e) =
     (hold-told n (t .now) a u (e .0), e .1 .0, e .1 .1 .fits)
@@ -52,10 +52,10 @@ called-exported s s′ c x (exported-stopped {a = a} {u = u} n κs t out out′ 
 -- Every run of `csafe_hold`, `csafe_release` and `csafe_stop` on bytes that are all 00 is answered as a new table
 -- answers those calls, and leaves the bytes of the table that they leave.
 pub exported-calls : {cs : List LeaseCall} {rs : List (Answer (List ℕ))}
-    (k : Answered CalledExported (_≡ newBytes) cs rs)
+    (k : Answered ExportedLease (_≡ newBytes) cs rs)
     → (rs ≡ answersOn newTable cs) × (k .last ≡ bytesOfAll 8 (tableOn newTable cs))
-exported-calls k = lent-runs CalledExported called-exported k
+exported-calls k = lent-runs ExportedLease called-exported k
 
 -- Document 01's sentences of every run of `csafe_hold`, `csafe_release` and `csafe_stop`.
-pub exported-leases : LentLeases CalledExported
-exported-leases = lent-sentences CalledExported called-exported
+pub exported-leases : LentLeases ExportedLease
+exported-leases = lent-sentences ExportedLease called-exported

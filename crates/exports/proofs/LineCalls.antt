@@ -33,16 +33,16 @@ use Rattle.exports.proofs.csafe_finish.Reads as finish-reads
 
 -- A call of the portal, with the calls of the rule for the line that it stands for, the outcomes of these as the portal
 -- has them, and the array and the state that it left. `csafe_feed` stands for the bytes that it took.
-pub data CalledPortal : LentLine → List Call → List Outcome → LentLine → Type 0 where
+pub data ExportedLine : LentLine → List Call → List Outcome → LentLine → Type 0 where
   fed : (κs : Lfts 4) (bytes bytes′ : RefT (List ℕ)) (state state′ : RefT ℕ) (input : RefT (List ℕ))
       (taken taken′ : RefT ℕ) (n : ℕ)
       → feed-reads.Learnt κs (bytes, (state, (input, (taken, tt)))) n (bytes′, (state′, (input, (taken′, tt))))
-      → CalledPortal (lentLine (bytes .now) (state .now)) (feed (take (taken′ .now) (input .now)))
+      → ExportedLine (lentLine (bytes .now) (state .now)) (feed (take (taken′ .now) (input .now)))
       (byByte (taken′ .now) (outcomeOf (toldLine n) (bytes′ .now)))
       (lentLine (bytes′ .now) (state′ .now))
   ended : (κs : Lfts 1) {bytes : List ℕ} (state state′ : RefT ℕ) (n : ℕ)
       → finish-reads.Learnt κs (state, tt) n (state′, tt)
-      → CalledPortal (lentLine bytes (state .now)) (finish ∷ []) (outcomeOf (toldLine n) bytes ∷ [])
+      → ExportedLine (lentLine bytes (state .now)) (finish ∷ []) (outcomeOf (toldLine n) bytes ∷ [])
       (lentLine bytes (state′ .now))
 
 -- the number and the array tell the outcome
@@ -65,7 +65,7 @@ fed-to-answer κs bytes bytes′ state state′ input taken taken′ n k =
     (subst (λ (x : Outcome). TakenToAnswer (input .now) (feedOf r (input .now) .taken) x) (sym o)
     (chunk-taken r (input .now)))
 
-called-singly : (l l′ : LentLine) (cs : List Call) (os : List Outcome) → CalledPortal l cs os l′
+called-singly : (l l′ : LentLine) (cs : List Call) (os : List Outcome) → ExportedLine l cs os l′
     → (os ≡ run outcomeAt nextAfter (readerOf l) cs) × (readerOf l′ ≡ leftAfter nextAfter (readerOf l) cs)
 called-singly l l′ cs os (fed κs bytes bytes′ state state′ input taken taken′ n k) =
     let r = readerIn (bytes .now) (state .now) in
@@ -88,16 +88,16 @@ called-singly l l′ cs os (ended κs {bytes = bytes} state state′ n k) =
 
 -- From any array and any number of a state: each byte taken and each finish has the outcome that it has singly, and the
 -- array and the number left are the reader of the single calls.
-pub portal-singly : {l last : LentLine} {calls : List Call} {outcomes : List Outcome}
-    → RanBy CalledPortal l calls outcomes last → AsSingly (readerOf l) calls outcomes (readerOf last)
-portal-singly t =
-    let k = ran-by-run CalledPortal outcomeAt nextAfter readerOf called-singly t in
+pub exported-singly : {l last : LentLine} {calls : List Call} {outcomes : List Outcome}
+    → RanBy ExportedLine l calls outcomes last → AsSingly (readerOf l) calls outcomes (readerOf last)
+exported-singly t =
+    let k = ran-by-run ExportedLine outcomeAt nextAfter readerOf called-singly t in
     record { outcomes-are = k .0; reader-is = k .1 }
 
 -- Demand 3 of `csafe_feed` and `csafe_finish`, whole, from 118 zeros and the number 0.
-pub portal-demand-3 : Demand3 rowing (AnsweredBy CalledPortal (λ l. l ≡ newLine))
-portal-demand-3 =
-    demand3-of rowing (AnsweredBy CalledPortal (λ l. l ≡ newLine))
-    (λ calls outcomes k. portal-singly (k .ran) .outcomes-are
+pub exported-demand-3 : Demand3 rowing (AnsweredBy ExportedLine (λ l. l ≡ newLine))
+exported-demand-3 =
+    demand3-of rowing (AnsweredBy ExportedLine (λ l. l ≡ newLine))
+    (λ calls outcomes k. exported-singly (k .ran) .outcomes-are
     ∙ ap (λ (l : LentLine). run outcomeAt nextAfter (readerOf l) calls) (k .made)
     ∙ reader-follows .same calls)

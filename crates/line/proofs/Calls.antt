@@ -10,7 +10,7 @@ use Rattle.lists.proofs.Machines.{run-told, ran-run}
 use Rattle.framing.specs.Reference.{Call, byte, finish}
 use Rattle.framing.specs.Demand3.{toldBy, Demand3}
 use Rattle.framing.proofs.Restart.{demand3-of, reference-told}
-use Rattle.line.specs.Outcome.{Outcome, Summary, summaryOf, outcomeOf, ValueAnswer, answerOf}
+use Rattle.line.specs.Outcome.{Outcome, Summary, summaryOf, outcomeOf, ValueAnswer, valueAnswerOf}
 use Rattle.line.specs.Rowing.{rowing}
 use Rattle.line.specs.Reader.{lentReader, turnOf, outcomeAt, lentOutcome, nextAfter, answerMeans, AsNew}
 use Rattle.line.specs.Reader.{LentStepIs}
@@ -41,21 +41,21 @@ pub data Called : LineReader → Call → ValueAnswer → LineReader → Type 0 
       → Called r finish (answerMeans (s .answer)) (s .next)
 
 called-turns : (r u : LineReader) (c : Call) (a : ValueAnswer) → Called r c a u
-    → (a ≡ answerOf (outcomeAt r c)) × (u ≡ nextAfter r c)
+    → (a ≡ valueAnswerOf (outcomeAt r c)) × (u ≡ nextAfter r c)
 called-turns r u c a (stepped s k) = (k .answer-is, k .next-is)
 called-turns r u c a (finished s k) = (k .answer-is, k .next-is)
 
 -- Demand 3 of `new`, `step` and `finish`, whole: every answer, all 118 bytes of its array included, is the one that the
 -- reference decoder's outcome is.
-pub demand-3 : Demand3 (toldBy answerOf rowing) (Answered Called Made)
+pub demand-3 : Demand3 (toldBy valueAnswerOf rowing) (Answered Called Made)
 demand-3 =
-    demand3-of (toldBy answerOf rowing) (Answered Called Made)
+    demand3-of (toldBy valueAnswerOf rowing) (Answered Called Made)
     (λ calls answers k.
-    ran-run Called (λ r c. answerOf (outcomeAt r c)) nextAfter (λ r. r) called-turns (k .ran) .0
-    ∙ run-told answerOf outcomeAt nextAfter (k .start) calls
-    ∙ ap (λ (r : LineReader). map answerOf (run outcomeAt nextAfter r calls)) (k .made)
-    ∙ ap (map answerOf) (reader-follows .same calls)
-    ∙ reference-told answerOf rowing calls)
+    ran-run Called (λ r c. valueAnswerOf (outcomeAt r c)) nextAfter (λ r. r) called-turns (k .ran) .0
+    ∙ run-told valueAnswerOf outcomeAt nextAfter (k .start) calls
+    ∙ ap (λ (r : LineReader). map valueAnswerOf (run outcomeAt nextAfter r calls)) (k .made)
+    ∙ ap (map valueAnswerOf) (reader-follows .same calls)
+    ∙ reference-told valueAnswerOf rowing calls)
 
 -- ---- over a lent array
 

@@ -20,7 +20,7 @@ use Rattle.frame.specs.Answers.{judgeAnswer, frameRead}
 use Rattle.frame.specs.declared.Kind.{Kind}
 use Rattle.frame.proofs.ContentsLaws.{left-whole}
 use Rattle.line.specs.Outcome.{Outcome, nothing, judged, summaryOf, outcomeOf, capacity, padded, contentsTold}
-use Rattle.line.specs.Outcome.{answerOf}
+use Rattle.line.specs.Outcome.{valueAnswerOf}
 use Rattle.line.specs.Rowing.{rowing, rowingBounds}
 use Rattle.line.specs.Reader.{modeSeen, roleStep, turnOf}
 use Rattle.line.specs.Private.{Whole, besideTold}
@@ -98,7 +98,7 @@ beside-is (judged (result (extended to from c))) bytes e =
     let q : take (length c) bytes ≡ c = cc in ap padded q
 
 -- An answer by value tells the whole outcome: nothing is lost in it.
-pub answer-whole : (o : Outcome) → outcomeOf (answerOf o .told) (answerOf o .contents) ≡ o
+pub answer-whole : (o : Outcome) → outcomeOf (valueAnswerOf o .told) (valueAnswerOf o .contents) ≡ o
 unfolding judgeAnswer frameRead contentsOf
 answer-whole nothing = refl
 answer-whole (judged (refused n)) = refl

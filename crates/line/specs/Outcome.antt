@@ -79,8 +79,8 @@ pub record ValueAnswer : Type 0 where
   pub contents : List ℕ
 
 -- The answer by value that an outcome is: the contents stand first, and all after them is zero.
-abbrev pub answerOf : Outcome → ValueAnswer
-answerOf o = record { told = summaryOf o; contents = padded (contentsTold o) }
+abbrev pub valueAnswerOf : Outcome → ValueAnswer
+valueAnswerOf o = record { told = summaryOf o; contents = padded (contentsTold o) }
 
 -- ---- bounds
 

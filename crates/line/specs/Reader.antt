@@ -9,7 +9,7 @@ use Rattle.framing.specs.Bounded.{BoundedMode, outside, inside, overlong, Bound
 use Rattle.frame.specs.Flags.{roleOf}
 use Rattle.frame.specs.declared.Kind.{Kind}
 use Rattle.frame.specs.declared.Kind.the-variants.{Standard, Extended}
-use Rattle.line.specs.Outcome.{Outcome, toldMeans, summaryOf, outcomeOf, capacity, zeros, ValueAnswer, answerOf}
+use Rattle.line.specs.Outcome.{Outcome, toldMeans, summaryOf, outcomeOf, capacity, zeros, ValueAnswer, valueAnswerOf}
 use Rattle.line.specs.Rowing.{rowing, rowingBounds}
 use Rattle.line.specs.declared.Mode.{Mode}
 use Rattle.line.specs.declared.Mode.the-variants.{Outside, InStandard, InExtended, Overlong}
@@ -102,7 +102,7 @@ answerMeans a = record { told = toldMeans (a .told); contents = a .contents }
 
 -- By value: the whole answer is that of the outcome.
 pub record StepIs (s : Stepped) (t : ReaderTurn) : Type 0 where
-  pub answer-is : answerMeans (s .answer) ≡ answerOf (t .answer)
+  pub answer-is : answerMeans (s .answer) ≡ valueAnswerOf (t .answer)
   pub next-is : s .next ≡ t .next
 
 -- ---- what a caller has of an answer
