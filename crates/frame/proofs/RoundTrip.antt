@@ -6,7 +6,7 @@ use mathlib.Core.List.{List, [], _∷_, _++_}
 use native.Mathlib.Omega.{arith}
 use lib.ListN.{take, drop, length}
 use lib.Seq.{take-at}
-use Rattle.answer.specs.Answer.{Answer, result, refused}
+use Rattle.answer.specs.Answer.{Answer, result}
 use Rattle.answer.specs.Draft.{Writes}
 use Rattle.frame.specs.Stuffing.{stuff, bytes}
 use Rattle.frame.specs.Flags.{startFlag, stopFlag, candidateOf}

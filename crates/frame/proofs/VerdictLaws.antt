@@ -14,7 +14,7 @@ use Rattle.lists.proofs.Cases.{by-bool, both-true}
 use Rattle.lists.proofs.Lists.{drop-two}
 use Rattle.lists.proofs.Tests.{within-yes, within-true, none-drop}
 use Rattle.frame.specs.Flags.{flagless, kindOf, startFlag, candidateOf}
-use Rattle.frame.specs.Stuffing.{isStuffed, Unstuffed, badEscape, bytes, prepend, unstuff}
+use Rattle.frame.specs.Stuffing.{Unstuffed, badEscape, bytes, prepend, unstuff}
 use Rattle.frame.specs.Checksum.{sumFrom, checksum}
 use Rattle.frame.specs.Frame.{Frame, standard, extended, contentsOf, frameKind, addressesOf, payload}
 use Rattle.frame.specs.Verdict.{Verdict, addressCount, contentsIn, lastOf, frameIn, judgeBytes, judge, bodyOf}
