@@ -7,7 +7,9 @@ truncated-requires : tie.Need-truncated-requires
 truncated-requires c κs = search needs
 
 returns : tie.Need-returns
-returns c = λ bytes. record { told-is = c .truncated .ensures; next-is = refl }
+returns c =
+    let t : tie.After-truncated = search needs in
+    λ bytes. record { told-is = t .truncated .ensures; next-is = refl }
 
 pub restart-spec : {M : Type 1} → statement M
 restart-spec = tie.close (tie.spec truncated-requires returns)
