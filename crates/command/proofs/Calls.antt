@@ -1,6 +1,6 @@
 -- The table of the functions themselves: any call, known by nothing but what its contract tells a caller.
 use Prim.Native.Nat.{ℕ, _≤_}
-use mathlib.Core.Path.{_≡_, refl, sym, ap, _∙_, subst}
+use mathlib.Core.Path.{_≡_, refl, sym, ap, _∙_}
 use mathlib.Core.Bool.{Bool, true}
 use mathlib.Core.List.{List, [], _++_, append-nil}
 use native.Mathlib.Omega.{arith}
@@ -28,6 +28,7 @@ use Rattle.command.specs.declared.entries.Step.{Step}
 use Rattle.command.specs.declared.entries.Found.{Found}
 use Rattle.command.specs.declared.cursor.CommandStep.{CommandStep}
 use Rattle.command.proofs.Table.{count-by-table, nth-by-table, command-by-table, inside-by-table, entry-data}
+use Rattle.command.proofs.PartLaws.{stands-as}
 use Rattle.command.proofs.Stops.{stops-exactly}
 use Rattle.command.proofs.StepTable.{step-by-table, move-by-table}
 use Rattle.command.proofs.Table.{top-data, inner-data, start-is, ends-within, is-wrapper, wrapper-is}
@@ -136,10 +137,8 @@ table-data s q start bytes (ofRefusal number j) =
 -- a wrapper the inner entry's data, at its place in the whole.
 pub data-by-table : {s r : RefT (List ℕ)} {q : Question} → CalledData s q r → (start : ℕ) (bytes : List ℕ)
     → TableData (now s) q start bytes → StandsAt s r start bytes
-data-by-table {s} {r} {q} c start bytes d =
-    let t = table-data (now s) q start bytes d in
-    let k = subst (λ (x : List ℕ). StandsAt s r (startOf (answerTo (now s) q)) x) (t .0) (data-is c) in
-    subst (λ (x : ℕ). StandsAt s r x bytes) (t .1) k
+data-by-table {s} {q = q} c start bytes d =
+    stands-as (answerTo (now s) q) (data-is c) (table-data (now s) q start bytes d)
 
 -- The table gives data for every question.
 pub data-given : (s : List ℕ) (q : Question) → (start : ℕ) × (bytes : List ℕ) × TableData s q start bytes

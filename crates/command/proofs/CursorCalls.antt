@@ -18,7 +18,7 @@ use Rattle.lists.specs.Choice.{Exactly}
 use Rattle.answer.specs.Answer.{Answer}
 use Rattle.command.specs.Entries.{commands, Extent}
 use Rattle.command.specs.Answers.{foundMeans}
-use Rattle.command.specs.Parts.{StandsAt, startOf, IsData}
+use Rattle.command.specs.Parts.{StandsAt, IsData}
 use Rattle.command.specs.Commands.{nthCommand}
 use Rattle.command.specs.Traversal.{commandAt, indexAfter, indexOf}
 use Rattle.command.specs.Table.{NthEntry, Moves, TableAnswers, TableData, atIndex, nthAtTop, ofNth}
@@ -27,7 +27,7 @@ use Rattle.command.specs.declared.cursor.CommandCursor.{CommandCursor}
 use Rattle.command.proofs.Calls.{answer-by-table, exactly, table-data}
 use Rattle.command.proofs.Table.{start-is}
 use Rattle.command.proofs.StepTable.{move-by-table}
-use Rattle.command.proofs.PartLaws.{stands-through}
+use Rattle.command.proofs.PartLaws.{stands-as, stands-through}
 use Rattle.command.proofs.CursorSteps.{kth-step, index-more}
 use Rattle.command.proofs.cursor.CommandCursor.new as new
 use Rattle.command.proofs.cursor.CommandCursor.command as command
@@ -115,13 +115,11 @@ moves-by-table s k c m r e a =
 pub moves-data : (s : RefT (List ℕ)) (k : ℕ) (c : CommandCursor) → Moved s k c → (r : RefT (List ℕ)) → HandsOut c r
     → (start : ℕ) (bytes : List ℕ) → TableData (now s) (nthAtTop k) start bytes → StandsAt s r start bytes
 moves-data s k c m r h start bytes d =
-    let t = table-data (now s) (nthAtTop k) start bytes d in
     let i : IsData (c .contents) r (nthCommand (now s) k) =
     subst (λ (a : Answer Extent). IsData (c .contents) r a) (run-answers m) h in
     let j : IsData s r (nthCommand (now s) k) =
     subst (λ (x : RefT (List ℕ)). IsData x r (nthCommand (now s) k)) (stands m .0) i in
-    subst (λ (x : ℕ). StandsAt s r x bytes) (t .1)
-    (subst (λ (x : List ℕ). StandsAt s r (startOf (nthCommand (now s) k)) x) (t .0) j)
+    stands-as (nthCommand (now s) k) j (table-data (now s) (nthAtTop k) start bytes d)
 
 -- ---- on a wrapper's data
 

@@ -216,12 +216,14 @@ some-line w =
         let h : addressCount (t .kind) + 1 ≤ length u =
         omega (arith, leb-true (fewest (t .kind)) (length u) k, fewest-is (t .kind)) in
         by-bool (eqb (lastOf u) (checksum (contentsIn (addressCount (t .kind)) u)))
-        (λ q. let s = sound-frame w (all (sum-parts (t .kind) u h (eqb-true _ _ q))) in (result (s .0), sound (s .0) (s .1)))
+        (λ q. let s = sound-frame w (all (sum-parts (t .kind) u h (eqb-true _ _ q))) in
+        (result (s .0), sound (s .0) (s .1)))
         (λ q. (
           refused 5,
           badSum t u l g x (leb-true _ _ k) (λ r. let s = sound-frame w (all r) in
               let e : refused 5 ≡ result (s .0) =
-              sym (of-body w t ∙ judge-sum (t .kind) (t .body) (omega (arith, long-as w t)) u (unstuffs-bytes x) h (eqb-false _ _ q))
+              sym (of-body w t
+              ∙ judge-sum (t .kind) (t .body) (omega (arith, long-as w t)) u (unstuffs-bytes x) h (eqb-false _ _ q))
               ∙ table-verdict w (result (s .0)) (sound (s .0) (s .1)) in
               let z : _≡_ {A = ℕ} 0 1 = cc in omega arith),
         )))
@@ -273,7 +275,8 @@ module _ (w out : List ℕ) where
   line-read a last (noRoom {f = f} s h) = answer-no-room (verdict w) f out (accepted-exactly w f .1 s) h
   line-read a last (fits {f = f} s h) = answer-done (verdict w) f out (accepted-exactly w f .1 s) h
 
-  -- Every answer to reading a slice, with the output that is left, is given exactly when the table gives it, 1 included.
+  -- Every answer to reading a slice, with the output that is left, is given exactly when the table gives it, 1
+  -- included.
   pub read-by-table : (a : Answer FrameOutline) (last : List ℕ) → Exactly (Reads w out a last) (ReadJudged w out a last)
   read-by-table a last = (
     (λ p. subst (λ (l : List ℕ). ReadJudged w out a l) (sym (p .1))
@@ -282,7 +285,7 @@ module _ (w out : List ℕ) where
     line-read a last,
   )
 
-  -- The same of a call: its answer and its output are others' exactly when the table gives those.
+  -- The answer of a call that reads and the output that it left are given ones exactly when the table gives those.
   pub reads-exactly : (a b : Answer FrameOutline) (last left : List ℕ) → Reads w out a last
       → Exactly ((a ≡ b) × (last ≡ left)) (ReadJudged w out b left)
   reads-exactly a b last left p = (
@@ -327,7 +330,7 @@ module _ (f : Frame) (out : List ℕ) where
     line-write a last,
   )
 
-  -- The same of a call.
+  -- The answer of a call that writes and the output that it left are given ones exactly when the table gives those.
   pub writes-exactly : (a b : Answer ℕ) (last left : List ℕ) → Writes (frameDraft f) out a last
       → Exactly ((a ≡ b) × (last ≡ left)) (WriteJudged f out b left)
   writes-exactly a b last left p = (

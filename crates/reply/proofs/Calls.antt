@@ -21,6 +21,7 @@ use Rattle.command.specs.Answers.{foundMeans, partOf}
 use Rattle.command.specs.Parts.{StandsAt, startOf}
 use Rattle.command.specs.declared.entries.Found.{Found}
 use Rattle.command.proofs.Extents.{nth-at}
+use Rattle.command.proofs.PartLaws.{stands-as}
 use Rattle.command.proofs.Table.{entry-data}
 use Rattle.command.proofs.Calls.{exactly}
 use Rattle.reply.specs.Status.{status, StatusByte}
@@ -106,10 +107,7 @@ data-exactly κs s n r k start bytes = (
 )
   where
     stands : (start : ℕ) (bytes : List ℕ) → ItemData (now s) n start bytes → StandsAt s r start bytes
-    stands start bytes d =
-        let t = data-is d in
-        subst (λ (x : ℕ). StandsAt s r x bytes) (t .1)
-        (subst (λ (x : List ℕ). StandsAt s r (startOf (nthItem (now s) n)) x) (t .0) k)
+    stands start bytes d = stands-as (nthItem (now s) n) k (data-is d)
 
 -- `write_status` gives each answer, 1 as the length or 8, 1 as refusals, and leaves the output, exactly when the table
 -- says so.
@@ -233,8 +231,7 @@ reads-back b es w t p x j h bytes =
           let d : partOf (now s) (nthItem (now s) (length before)) ≡ e .body =
           ap (λ (l : List ℕ). partOf l (nthItem l (length before))) i
           ∙ item-data-is w t p x before e after (whole before e after q) in
-          subst (λ (k : ℕ). StandsAt s r k (e .body)) (ap startOf a)
-          (subst (λ (l : List ℕ). StandsAt s r (startOf (nthItem (now s) (length before))) l) d c);
+          stands-as (nthItem (now s) (length before)) c (d, ap startOf a);
       ends = λ n k κs s r i c.
           c ∙ ap (λ (l : List ℕ). nthItem l n) i
           ∙ item-by-table w n (refused 15) .1 (absentItem (is-reply w (reply t p x es) .0 h) k);
