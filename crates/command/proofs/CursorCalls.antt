@@ -14,19 +14,20 @@ use ghost.Atoms.{Atoms}
 use contract.Lifetimes.{Lfts}
 use contract.Monad.{Fun, fact}
 use denote.Ref.{RefT, now}
+use Rattle.lists.specs.Choice.{Exactly}
 use Rattle.answer.specs.Answer.{Answer}
 use Rattle.command.specs.Entries.{commands, Extent}
 use Rattle.command.specs.Answers.{foundMeans}
-use Rattle.command.specs.Parts.{StandsAt, startOf, IsData}
+use Rattle.command.specs.Parts.{StandsAt, IsData}
 use Rattle.command.specs.Commands.{nthCommand}
 use Rattle.command.specs.Traversal.{commandAt, indexAfter, indexOf}
-use Rattle.command.specs.Table.{NthEntry, Moves, AnsweredBy, DataBy, atIndex, nthAtTop, ofNth}
+use Rattle.command.specs.Table.{NthEntry, Moves, TableAnswers, TableData, atIndex, nthAtTop, ofNth}
 use Rattle.command.specs.declared.entries.Found.{Found}
 use Rattle.command.specs.declared.cursor.CommandCursor.{CommandCursor}
 use Rattle.command.proofs.Calls.{answer-by-table, exactly, table-data}
 use Rattle.command.proofs.Table.{start-is}
 use Rattle.command.proofs.StepTable.{move-by-table}
-use Rattle.command.proofs.PartLaws.{stands-through}
+use Rattle.command.proofs.PartLaws.{stands-as, stands-through}
 use Rattle.command.proofs.CursorSteps.{kth-step, index-more}
 use Rattle.command.proofs.cursor.CommandCursor.new as new
 use Rattle.command.proofs.cursor.CommandCursor.command as command
@@ -91,16 +92,14 @@ run-answers {s} {k} {c} m =
 
 -- A cursor answers a exactly when the table answers a to what stands at its index.
 pub cursor-by-table : (c : CommandCursor) (r : Found) → Answers c r → (a : Answer Extent)
-    → (foundMeans r ≡ a → AnsweredBy (now (c .contents)) (atIndex (c .at)) a)
-    × (AnsweredBy (now (c .contents)) (atIndex (c .at)) a → foundMeans r ≡ a)
+    → Exactly (foundMeans r ≡ a) (TableAnswers (now (c .contents)) (atIndex (c .at)) a)
 cursor-by-table c r e a =
     let q = atIndex (c .at) in
-    exactly (AnsweredBy (now (c .contents)) q) e (answer-by-table (now (c .contents)) q a)
+    exactly (TableAnswers (now (c .contents)) q) e (answer-by-table (now (c .contents)) q a)
 
 -- It moves to an index exactly when the table's move leads there, on the same contents.
 pub cursor-moves : (c d : CommandCursor) → MovesTo c d
-    → (d .contents ≡ c .contents)
-    × ((i : ℕ) → (d .at ≡ i → Moves (now (c .contents)) (c .at) i) × (Moves (now (c .contents)) (c .at) i → d .at ≡ i))
+    → (d .contents ≡ c .contents) × ((i : ℕ) → Exactly (d .at ≡ i) (Moves (now (c .contents)) (c .at) i))
 cursor-moves c d m = (
   m .0,
   (λ i. exactly (Moves (now (c .contents)) (c .at)) (m .1) (move-by-table (now (c .contents)) (c .at) i)),
@@ -108,22 +107,19 @@ cursor-moves c d m = (
 
 -- After k moves, exactly when the table answers a to the k-th command of the contents that it was made on.
 pub moves-by-table : (s : RefT (List ℕ)) (k : ℕ) (c : CommandCursor) → Moved s k c → (r : Found) → Answers c r
-    → (a : Answer Extent)
-    → (foundMeans r ≡ a → AnsweredBy (now s) (nthAtTop k) a) × (AnsweredBy (now s) (nthAtTop k) a → foundMeans r ≡ a)
+    → (a : Answer Extent) → Exactly (foundMeans r ≡ a) (TableAnswers (now s) (nthAtTop k) a)
 moves-by-table s k c m r e a =
-    exactly (AnsweredBy (now s) (nthAtTop k)) (e ∙ run-answers m) (answer-by-table (now s) (nthAtTop k) a)
+    exactly (TableAnswers (now s) (nthAtTop k)) (e ∙ run-answers m) (answer-by-table (now s) (nthAtTop k) a)
 
 -- The data that it hands out are those of the k-th command, where they stand in those contents.
 pub moves-data : (s : RefT (List ℕ)) (k : ℕ) (c : CommandCursor) → Moved s k c → (r : RefT (List ℕ)) → HandsOut c r
-    → (start : ℕ) (bytes : List ℕ) → DataBy (now s) (nthAtTop k) start bytes → StandsAt s r start bytes
+    → (start : ℕ) (bytes : List ℕ) → TableData (now s) (nthAtTop k) start bytes → StandsAt s r start bytes
 moves-data s k c m r h start bytes d =
-    let t = table-data (now s) (nthAtTop k) start bytes d in
     let i : IsData (c .contents) r (nthCommand (now s) k) =
     subst (λ (a : Answer Extent). IsData (c .contents) r a) (run-answers m) h in
     let j : IsData s r (nthCommand (now s) k) =
     subst (λ (x : RefT (List ℕ)). IsData x r (nthCommand (now s) k)) (stands m .0) i in
-    subst (λ (x : ℕ). StandsAt s r x bytes) (t .1)
-    (subst (λ (x : List ℕ). StandsAt s r (startOf (nthCommand (now s) k)) x) (t .0) j)
+    stands-as (nthCommand (now s) k) j (table-data (now s) (nthAtTop k) start bytes d)
 
 -- ---- on a wrapper's data
 
@@ -151,8 +147,8 @@ pub inner-moves-data : (s p : RefT (List ℕ)) {w byte start len : ℕ}
     → StandsAt s r at (e .here .body)
 inner-moves-data s p {start = start} outer j k c m r h {at = at} e =
     let f = from-start e in
-    let d : DataBy (now p) (nthAtTop k) (at - start) (e .here .body) =
-    subst (λ (l : List ℕ). DataBy l (nthAtTop k) (at - start) (e .here .body)) (sym (j .holds)) (ofNth f) in
+    let d : TableData (now p) (nthAtTop k) (at - start) (e .here .body) =
+    subst (λ (l : List ℕ). TableData l (nthAtTop k) (at - start) (e .here .body)) (sym (j .holds)) (ofNth f) in
     let i : start + (at - start) ≡ at = omega (arith, start-is e) in
     subst (λ (x : ℕ). StandsAt s r x (e .here .body)) i
     (stands-through j (moves-data p k c m r h (at - start) (e .here .body) d))

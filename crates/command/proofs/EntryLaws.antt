@@ -16,7 +16,7 @@ use Rattle.command.specs.Entries.{entry, entryBytes, Parsed, unsound, so
 use Rattle.command.specs.Entries.{parseCounted, headOf, found, nthOf, nthIn, Extent}
 use Rattle.answer.specs.Answer.{Answer, result, refused}
 use Rattle.command.specs.Answers.{CountAnswer, entryCount, failsAt, counted}
-use Rattle.command.specs.Steps.{Stepped, stepped, stepMeans, stepAt}
+use Rattle.command.specs.Steps.{EntryStep, entryStep, stepMeans, stepAt}
 use Rattle.command.specs.Private.{ifSound}
 use Rattle.command.specs.declared.entries.Cursor.{Cursor}
 use Rattle.command.specs.declared.entries.Step.{Step}
@@ -33,16 +33,16 @@ skip-within limit (suc k) (x ∷ s) h = skip-within limit k s (omega arith)
 -- ---- a step
 
 -- What bytes are read as, where what stands at an index is known.
-abbrev pub parseAfter : (limit : ℕ) → List ℕ → Answer Stepped → Parsed
+abbrev pub parseAfter : (limit : ℕ) → List ℕ → Answer EntryStep → Parsed
 parseAfter limit s (refused n) = pick (eqb n 15) (sound []) (unsound 0)
-parseAfter limit s (result (stepped b start len next)) =
+parseAfter limit s (result (entryStep b start len next)) =
     withEntry limit (entry b (take len (drop start s))) (parse limit (drop next s) 0)
 
 counted-at : (limit b : ℕ) (s : List ℕ) (at : ℕ)
     → parseCounted limit (drop (at + 1) s) b
     ≡ parseAfter limit s (pick (ltb (at + 1) (length s))
     (pick (leb (getD s (at + 1) 0) (length s - (at + 2)))
-    (result (stepped b (at + 2) (getD s (at + 1) 0) (at + 2 + getD s (at + 1) 0))) (refused 7)) (refused 7))
+    (result (entryStep b (at + 2) (getD s (at + 1) 0) (at + 2 + getD s (at + 1) 0))) (refused 7)) (refused 7))
 unfolding parse withEntry
 counted-at limit b s at =
     by-bool (ltb (at + 1) (length s))
@@ -87,7 +87,7 @@ pub record EntryStands (limit : ℕ) (s : List ℕ) (at b start len next : ℕ) 
   pub bare : ltb b limit ≡ false → len ≡ 0
   pub past : at < start
 
-stands : (limit : ℕ) (s : List ℕ) (at b start len next : ℕ) → stepAt limit s at ≡ result (stepped b start len next)
+stands : (limit : ℕ) (s : List ℕ) (at b start len next : ℕ) → stepAt limit s at ≡ result (entryStep b start len next)
     → EntryStands limit s at b start len next
 unfolding stepAt
 stands limit s at b start len next e =
@@ -97,7 +97,7 @@ stands limit s at b start len next e =
     (λ y. by-bool (ltb c limit)
     (λ z. by-bool (ltb (at + 1) (length s))
     (λ u. by-bool (leb n (length s - (at + 2)))
-    (λ v. let q : result (stepped c (at + 2) n (at + 2 + n)) ≡ result (stepped b start len next) =
+    (λ v. let q : result (entryStep c (at + 2) n (at + 2 + n)) ≡ result (entryStep b start len next) =
     simp (y, z, u, v) at e in
     let eb : c ≡ b = cc in
     let es : at + 2 ≡ start = cc in
@@ -113,11 +113,11 @@ stands limit s at b start len next e =
       bare = λ f. absurd (true≢false (sym t ∙ f));
       past = omega arith;
     })
-    (λ v. let q : refused 7 ≡ result (stepped b start len next) = simp (y, z, u, v) at e in
+    (λ v. let q : refused 7 ≡ result (entryStep b start len next) = simp (y, z, u, v) at e in
     let w : _≡_ {A = ℕ} 0 1 = cc in absurd (omega arith)))
-    (λ u. let q : refused 7 ≡ result (stepped b start len next) = simp (y, z, u) at e in
+    (λ u. let q : refused 7 ≡ result (entryStep b start len next) = simp (y, z, u) at e in
     let w : _≡_ {A = ℕ} 0 1 = cc in absurd (omega arith)))
-    (λ z. let q : result (stepped c (at + 1) 0 (at + 1)) ≡ result (stepped b start len next) = simp (y, z) at e in
+    (λ z. let q : result (entryStep c (at + 1) 0 (at + 1)) ≡ result (entryStep b start len next) = simp (y, z) at e in
     let eb : c ≡ b = cc in
     let es : at + 1 ≡ start = cc in
     let el : 0 ≡ len = cc in
@@ -125,7 +125,7 @@ stands limit s at b start len next e =
     let t : ltb b limit ≡ false = ap (λ (x : ℕ). ltb x limit) (sym eb) ∙ z in
     let i = ltb-true at (length s) y in
     record { head = simp t (sym es); ends = omega arith; fits = omega arith; bare = λ _. sym el; past = omega arith }))
-    (λ y. let q : refused 15 ≡ result (stepped b start len next) = simp y at e in
+    (λ y. let q : refused 15 ≡ result (entryStep b start len next) = simp y at e in
     let w : _≡_ {A = ℕ} 0 1 = cc in absurd (omega arith))
 
 -- ---- what a call of the step and the match on it tell

@@ -69,6 +69,12 @@ is-data {s = s} {a = a} {b = b} k e w =
           ∙ ap (λ (n : ℕ). n + s .ptr .1) (sym (start-within (now s) b w));
     }
 
+-- What an answer names stands where the start and the bytes that it names are.
+pub stands-as : {s r : RefT (List ℕ)} {start : ℕ} {bytes : List ℕ} (a : Answer Extent) → IsData s r a
+    → (partOf (now s) a ≡ bytes) × (startOf a ≡ start) → StandsAt s r start bytes
+stands-as {s} {r} {start} {bytes} a d t =
+    subst (λ (x : ℕ). StandsAt s r x bytes) (t .1) (subst (λ (x : List ℕ). StandsAt s r (startOf a) x) (t .0) d)
+
 -- A part of a part stands in the whole, as many bytes further on as both places say.
 pub stands-through : {s p r : RefT (List ℕ)} {at i : ℕ} {held bytes : List ℕ} → StandsAt s p at held
     → StandsAt p r i bytes → StandsAt s r (at + i) bytes

@@ -8,6 +8,7 @@ use lib.Dec.{leb, ltb}
 use lib.ListN.{length, take, drop, length-append, take-append-drop}
 use lib.Seq.{length-take-le, take-append-seam, drop-append-seam}
 use borrow.Author.Tests.{ltb-false, le-ltb, le-leb}
+use Rattle.lists.specs.Choice.{Exactly}
 use Rattle.lists.proofs.Cases.{by-bool}
 use Rattle.command.specs.Entries.{Entry, entry, entryBytes, listBytes, WellFormed, AllWellFormed, Parsed, unsound}
 use Rattle.command.specs.Entries.{sound, withEntry, parse}
@@ -93,8 +94,7 @@ parse-wire limit (e ∷ es) f =
 -- Bytes are sound, as a list of entries, exactly when they are the bytes of those entries, each well formed, one after
 -- the other.
 pub sound-exactly : (limit : ℕ) (s : List ℕ) (es : List Entry)
-    → (parse limit s 0 ≡ sound es → (listBytes limit es ≡ s) × AllWellFormed limit es)
-    × ((listBytes limit es ≡ s) × AllWellFormed limit es → parse limit s 0 ≡ sound es)
+    → Exactly (parse limit s 0 ≡ sound es) ((listBytes limit es ≡ s) × AllWellFormed limit es)
 sound-exactly limit s es = (
   (λ h. let m = parse-means limit s 0 es h in (m .1, m .2)),
   (λ w. ap (λ (x : List ℕ). parse limit x 0) (sym (w .0)) ∙ parse-wire limit es (w .1)),

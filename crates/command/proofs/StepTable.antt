@@ -9,10 +9,11 @@ use lib.Dec.{leb, ltb}
 use lib.ListN.{length, getD, take, drop, length-append, length-drop}
 use lib.Seq.{drop-cons}
 use borrow.Author.Tests.{ltb-true, ltb-false, leb-true, leb-false, lt-ltb, le-ltb, le-leb, lt-leb}
+use Rattle.lists.specs.Choice.{Exactly}
 use Rattle.lists.proofs.Cases.{by-bool}
 use Rattle.answer.specs.Answer.{Answer, result, refused}
 use Rattle.command.specs.Entries.{Entry, entry, commands, entryBytes, listBytes, WellFormed, headOf, Extent}
-use Rattle.command.specs.Steps.{Stepped, stepped, stepAt}
+use Rattle.command.specs.Steps.{EntryStep, entryStep, stepAt}
 use Rattle.command.specs.Traversal.{commandAt, indexPast, indexAfter}
 use Rattle.command.specs.Table.{FailsFirst, noCount, beyondEnd, Steps, atEnd, failsThere, standsThere}
 use Rattle.command.specs.Table.{Nth, badCount, absent, present, Moves, past, stays}
@@ -31,9 +32,9 @@ front s at b t e =
     let rest : drop (suc at) s ≡ t = cc in
     (h, first, ap (λ (n : ℕ). drop n s) (add-one at) ∙ rest)
 
-stepped-is : {b b′ start start′ len len′ next next′ : ℕ} → b ≡ b′ → start ≡ start′ → len ≡ len′ → next ≡ next′
-    → result (stepped b start len next) ≡ result (stepped b′ start′ len′ next′)
-stepped-is p q r t = cc (p, q, r, t)
+same-step : {b b′ start start′ len len′ next next′ : ℕ} → b ≡ b′ → start ≡ start′ → len ≡ len′ → next ≡ next′
+    → result (entryStep b start len next) ≡ result (entryStep b′ start′ len′ next′)
+same-step p q r t = cc (p, q, r, t)
 
 fails-step : (limit : ℕ) (s : List ℕ) (at : ℕ) (t : List ℕ) → drop at s ≡ t → FailsFirst limit t
     → stepAt limit s at ≡ refused 7
@@ -55,7 +56,7 @@ fails-step limit s at t e (beyondEnd {b = b} {count = n} {s = u} h k) =
       lt-leb (getD s (at + 1) 0) (length s - (at + 2)) over,
     )
 
-line-step : (limit : ℕ) (s : List ℕ) (at : ℕ) (a : Answer Stepped) → Steps limit s at a → stepAt limit s at ≡ a
+line-step : (limit : ℕ) (s : List ℕ) (at : ℕ) (a : Answer EntryStep) → Steps limit s at a → stepAt limit s at ≡ a
 unfolding stepAt entryBytes
 line-step limit s at a (atEnd h) = simp (le-ltb at (length s) h)
 line-step limit s at a (failsThere f) = fails-step limit s at (drop at s) refl f
@@ -74,23 +75,23 @@ line-step limit s at a (standsThere {start = start} {next = next} e rest f b p q
       lt-ltb (at + 1) (length s) (i .0),
       le-leb (getD s (at + 1) 0) (length s - (at + 2)) l,
     )
-    (stepped-is (g .1) (omega (arith, w, q)) (i .1) (omega (arith, w, i .1)))))
+    (same-step (g .1) (omega (arith, w, q)) (i .1) (omega (arith, w, i .1)))))
     (λ y. let c : drop at s ≡ e .byte ∷ rest = simp y at b in
     let w : next ≡ at + 1 = simp y at p in
     let g = front s at (e .byte) rest c in
     let z = ap (λ (x : ℕ). ltb x limit) (g .1) ∙ y in
     let none : length (e .body) ≡ 0 = ap length (f (ltb-false (e .byte) limit y)) in
     (simp (lt-ltb at (length s) (g .0), z)
-    (stepped-is (g .1) (omega (arith, w, q)) (sym none) (sym w))))
+    (same-step (g .1) (omega (arith, w, q)) (sym none) (sym w))))
 
 -- every index has a line of the table
 module _ (limit : ℕ) (s : List ℕ) (at : ℕ) where
   abbrev Line : Type 0
-  Line = (a : Answer Stepped) × Steps limit s at a
+  Line = (a : Answer EntryStep) × Steps limit s at a
 
   entry-line : (e : Entry) (rest : List ℕ) → WellFormed limit e → drop at s ≡ entryBytes limit e ++ rest → Line
   entry-line e rest f b = (
-    result (stepped (e .byte) (at + headOf limit (e .byte)) (length (e .body)) (at + length (entryBytes limit e))),
+    result (entryStep (e .byte) (at + headOf limit (e .byte)) (length (e .body)) (at + length (entryBytes limit e))),
     standsThere {start = at + headOf limit (e .byte)} e rest f b refl (omega (arith, width-of limit e f)),
   )
 
@@ -112,11 +113,11 @@ module _ (limit : ℕ) (s : List ℕ) (at : ℕ) where
       (λ y. entry-line (entry b []) (n ∷ u) (λ k. refl) (e ∙ short-bytes limit b (n ∷ u) y))
 
 -- One step is answered a exactly when the table answers a.
-pub step-by-table : (limit : ℕ) (s : List ℕ) (at : ℕ) (a : Answer Stepped)
-    → (stepAt limit s at ≡ a → Steps limit s at a) × (Steps limit s at a → stepAt limit s at ≡ a)
+pub step-by-table : (limit : ℕ) (s : List ℕ) (at : ℕ) (a : Answer EntryStep)
+    → Exactly (stepAt limit s at ≡ a) (Steps limit s at a)
 step-by-table limit s at a = (
   (λ e. let l = some-line limit s at (drop at s) refl in
-      subst (λ (x : Answer Stepped). Steps limit s at x) (sym (line-step limit s at (l .0) (l .1)) ∙ e) (l .1)),
+      subst (λ (x : Answer EntryStep). Steps limit s at x) (sym (line-step limit s at (l .0) (l .1)) ∙ e) (l .1)),
   line-step limit s at a,
 )
 
@@ -140,8 +141,7 @@ some-move s at a (absent w h) = (at, stays (absent w h))
 some-move s at a (present e) = (at + length (entryBytes commands (e .here)), past e)
 
 -- A move leads to an index exactly when the table says so.
-pub move-by-table : (s : List ℕ) (at i : ℕ)
-    → (indexAfter s at ≡ i → Moves s at i) × (Moves s at i → indexAfter s at ≡ i)
+pub move-by-table : (s : List ℕ) (at i : ℕ) → Exactly (indexAfter s at ≡ i) (Moves s at i)
 move-by-table s at i = (
   (λ e. let l = some-move s at _ (nth-by-table commands at (drop at s) 0 _ .0 refl) in
       subst (λ (x : ℕ). Moves s at x) (sym (line-move s at (l .0) (l .1)) ∙ e) (l .1)),

@@ -6,7 +6,7 @@ use mathlib.Core.List.{List, [], _∷_}
 use Prim.Native.Nat.{ℕ}
 use lib.Dec.{eqb}
 use borrow.Author.Tests.{eq-eqb, eqb-true}
-use Rattle.lists.specs.Choice.{pick}
+use Rattle.lists.specs.Choice.{pick, Exactly}
 use Rattle.lists.proofs.Cases.{by-bool, both-true}
 use Rattle.command.specs.Entries.{Entry, commands, Parsed, unsound, sound, parse}
 use Rattle.command.specs.Stop.{anyOf, anyIn, isOneTwo, terminates, stopsWithin, stopsWorkout, Among, first, later}
@@ -102,6 +102,5 @@ stop-found contents s =
     sound-any stopsWithin (parse commands contents 0) (s .top) (list-sound (s .is-sound))
     (among-any stopsWithin (s .at-top) w)
 
-pub stops-exactly : (contents : List ℕ)
-    → (stopsWorkout contents ≡ true → StopsWorkout contents) × (StopsWorkout contents → stopsWorkout contents ≡ true)
+pub stops-exactly : (contents : List ℕ) → Exactly (stopsWorkout contents ≡ true) (StopsWorkout contents)
 stops-exactly contents = (found-stop contents, stop-found contents)

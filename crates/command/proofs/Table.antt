@@ -9,7 +9,7 @@ use lib.Dec.{leb, ltb, eqb}
 use lib.ListN.{length, take, drop, length-append, take-append-drop}
 use lib.Seq.{length-take-le, drop-drop}
 use borrow.Author.Tests.{ltb-true, ltb-false, lt-ltb, le-ltb, leb-true, leb-false, lt-leb, eqb-true}
-use Rattle.lists.specs.Choice.{pick}
+use Rattle.lists.specs.Choice.{pick, Exactly}
 use Rattle.lists.proofs.Cases.{by-bool}
 use Rattle.answer.specs.Answer.{Answer, result, refused}
 use Rattle.command.specs.Entries.{Entry, entry, commands, entryBytes, listBytes, WellFormed, AllWellFormed}
@@ -108,7 +108,7 @@ entries-before limit (e ∷ es) rest at f h =
 
 -- Bytes are unsound, with the place, exactly when they are some entries and then one that fails there.
 pub unsound-exactly : (limit : ℕ) (s : List ℕ) (at : ℕ)
-    → (parse limit s 0 ≡ unsound at → UnsoundList limit s at) × (UnsoundList limit s at → parse limit s 0 ≡ unsound at)
+    → Exactly (parse limit s 0 ≡ unsound at) (UnsoundList limit s at)
 unsound-exactly limit s at = (
   unsound-list limit s 0 at (omega arith),
   (λ u. ap (λ (l : List ℕ). parse limit l 0) (u .bytes)
@@ -137,8 +137,7 @@ of-counts limit from s a (badCountAt {at = at} u) = ap (counted from) (unsound-e
 
 -- The number of entries is answered exactly when they are sound, and 7 with its place exactly when one fails there.
 pub count-by-table : (limit from : ℕ) (s : List ℕ) (a : CountAnswer)
-    → (counted from (parse limit s 0) ≡ a → Counts limit from s a)
-    × (Counts limit from s a → counted from (parse limit s 0) ≡ a)
+    → Exactly (counted from (parse limit s 0) ≡ a) (Counts limit from s a)
 count-by-table limit from s a = (
   (λ e. subst (λ (x : CountAnswer). Counts limit from s x) e (counts-of limit from s (parse limit s 0) refl)),
   of-counts limit from s a,
@@ -240,16 +239,14 @@ line-nth limit from s n a (present {start = start} {len = len} k) =
 
 -- Every answer to a call for the n-th entry is given exactly when the table gives it.
 pub nth-by-table : (limit from : ℕ) (s : List ℕ) (n : ℕ) (a : Answer Extent)
-    → (nthIn limit from (parse limit s 0) n ≡ a → Nth limit from s n a)
-    × (Nth limit from s n a → nthIn limit from (parse limit s 0) n ≡ a)
+    → Exactly (nthIn limit from (parse limit s 0) n ≡ a) (Nth limit from s n a)
 nth-by-table limit from s n a = (
   (λ e. subst (λ (x : Answer Extent). Nth limit from s n x) e (nth-line limit from s n (parse limit s 0) refl)),
   line-nth limit from s n a,
 )
 
 -- The same of the n-th command.
-pub command-by-table : (s : List ℕ) (n : ℕ) (a : Answer Extent)
-    → (nthCommand s n ≡ a → Nth commands 0 s n a) × (Nth commands 0 s n a → nthCommand s n ≡ a)
+pub command-by-table : (s : List ℕ) (n : ℕ) (a : Answer Extent) → Exactly (nthCommand s n ≡ a) (Nth commands 0 s n a)
 unfolding nthCommand
 command-by-table s n a = nth-by-table commands 0 s n a
 
@@ -393,8 +390,7 @@ line-inside s w n a (inWrapper {byte = byte} {start = start} {len = len} o y j) 
     ∙ inside-wrapper s w n byte start len o y ∙ nth-by-table commands start (o .here .body) n a .1 j
 
 -- Every answer to a call for the n-th command inside the w-th is given exactly when the table gives it.
-pub inside-by-table : (s : List ℕ) (w n : ℕ) (a : Answer Extent)
-    → (nthInside s w n ≡ a → NthInside s w n a) × (NthInside s w n a → nthInside s w n ≡ a)
+pub inside-by-table : (s : List ℕ) (w n : ℕ) (a : Answer Extent) → Exactly (nthInside s w n ≡ a) (NthInside s w n a)
 unfolding nthInside
 inside-by-table s w n a = (
   (λ e. subst (λ (x : Answer Extent). NthInside s w n x) e

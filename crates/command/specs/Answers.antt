@@ -35,7 +35,8 @@ abbrev pub countedMeans : Counted → CountAnswer
 countedMeans (Unsound at) = failsAt (numberOf BadCount) at
 countedMeans (Entries n) = entryCount n
 
--- The number of entries, the first of which stands at index `from`: 7 where a count is unsound.
+-- How many entries there are, the first of them at index `from`; or 7 and the index of the entry whose count is missing
+-- or goes beyond the end.
 unfoldable pub counted : (from : ℕ) → Parsed → CountAnswer
 counted from (unsound at) = failsAt 7 (from + at)
 counted from (sound es) = entryCount (length es)

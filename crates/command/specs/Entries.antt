@@ -39,13 +39,13 @@ WellFormed limit e = limit ≤ e .byte → e .body ≡ []
 unfoldable pub AllWellFormed : ℕ → List Entry → Type 0
 AllWellFormed limit es = Every (WellFormed limit) es
 
--- What bytes are as a list of entries: unsound where a count is missing or goes beyond the end. The index is that of
--- the byte of the entry whose count it is.
+-- What bytes are as a list of entries: unsound where a count is missing or goes beyond the end, with the index of the
+-- byte of the entry that fails so.
 pub data Parsed : Type 0 where
   unsound : (at : ℕ) → Parsed
   sound : List Entry → Parsed
 
--- An entry, and after it what the bytes that follow are.
+-- An entry before what the bytes that follow it are.
 unfoldable pub withEntry : ℕ → Entry → Parsed → Parsed
 withEntry limit e (unsound at) = unsound (length (entryBytes limit e) + at)
 withEntry limit e (sound es) = sound (e ∷ es)

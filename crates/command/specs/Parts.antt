@@ -18,15 +18,16 @@ pub record StandsAt (s r : RefT (List ℕ)) (at : ℕ) (bytes : List ℕ) : Type
   pub block : r .ptr .0 ≡ s .ptr .0
   pub place : r .ptr .1 ≡ at + s .ptr .1
 
--- The place of an index in a list, its end included. An index past the end has none: the beginning stands for it.
+-- Where a part that is asked for at an index stands: at that index, the end of the list included, and at the beginning
+-- where the index is past the end.
 abbrev pub placeIn : List ℕ → ℕ → ℕ
 placeIn s at = pick (leb at (length s)) at 0
 
--- Where the data that an answer names starts. A refusal names none: the empty part then stands at the beginning.
+-- The index at which the data that an answer names starts. A refusal names none, and gives the beginning.
 abbrev pub startOf : Answer Extent → ℕ
 startOf (result (found b start len)) = start
 startOf (refused n) = 0
 
--- The slice r is the data that an answer about s names, and stands where that data stands, empty data too.
+-- The slice r is the data that an answer about the slice s names, and stands where they stand in s, empty data too.
 abbrev pub IsData : (s r : RefT (List ℕ)) → Answer Extent → Type 0
 IsData s r a = StandsAt s r (startOf a) (partOf (now s) a)

@@ -40,7 +40,7 @@ stopsWithin e = pick (eqb (e .byte) 0x76) (anyIn terminates (parse commands (e .
 unfoldable pub stopsWorkout : List ℕ → Bool
 stopsWorkout contents = anyIn stopsWithin (parse commands contents 0)
 
--- ---- as document 01 says it, with none of the test's definitions
+-- ---- as document 01 says it, without the definitions of the test
 
 -- An entry stands in a list.
 pub data Among : Entry → List Entry → Type 0 where

@@ -1,6 +1,6 @@
 -- Document 01's table for lists of entries: each answer with the condition under which it is given, over entries and
--- their bytes alone. Nothing here reads bytes one after the other. An entry's byte has a count below a limit: commands'
--- is 0x80, and every item of a reply has one.
+-- their bytes alone. Nothing here reads bytes one after the other. An entry has a count where its byte is below a
+-- limit: 0x80 for commands, and 0x100 for the items of a reply, which all have one.
 use Prim.Native.Nat.{ℕ, _+_, _≤_, _<_}
 use mathlib.Core.Path.{_≡_}
 use mathlib.Core.List.{List, [], _∷_, _++_}
@@ -9,7 +9,7 @@ use Rattle.answer.specs.Answer.{Answer, result, refused}
 use Rattle.command.specs.Entries.{Entry, commands, entryBytes, listBytes, WellFormed, AllWellFormed}
 use Rattle.command.specs.Entries.{Extent, found}
 use Rattle.command.specs.Answers.{CountAnswer, entryCount, failsAt}
-use Rattle.command.specs.Steps.{Stepped, stepped}
+use Rattle.command.specs.Steps.{EntryStep, entryStep}
 
 -- ---- sound and unsound lists
 
@@ -41,12 +41,12 @@ pub data Counts (limit from : ℕ) (s : List ℕ) : CountAnswer → Type 0 where
 
 -- The answer to one step from an index: 15 at the end and past it, 7 where the entry there fails, or the entry whose
 -- bytes stand there. Its data are the last of its bytes, and the next index is the one after them.
-pub data Steps (limit : ℕ) (s : List ℕ) (at : ℕ) : Answer Stepped → Type 0 where
+pub data Steps (limit : ℕ) (s : List ℕ) (at : ℕ) : Answer EntryStep → Type 0 where
   atEnd : length s ≤ at → Steps limit s at (refused 15)
   failsThere : FailsFirst limit (drop at s) → Steps limit s at (refused 7)
   standsThere : {start next : ℕ} (e : Entry) (rest : List ℕ) → WellFormed limit e
       → drop at s ≡ entryBytes limit e ++ rest → next ≡ at + length (entryBytes limit e)
-      → start + length (e .body) ≡ next → Steps limit s at (result (stepped (e .byte) start (length (e .body)) next))
+      → start + length (e .body) ≡ next → Steps limit s at (result (entryStep (e .byte) start (length (e .body)) next))
 
 -- ---- the n-th entry
 
@@ -62,14 +62,15 @@ pub record NthEntry (limit from : ℕ) (s : List ℕ) (n byte start len : ℕ) :
   pub len-is : len ≡ length (here .body)
   pub ends : start + len ≡ from + length (listBytes limit before) + length (entryBytes limit here)
 
--- The answer to a call for it: 7, 15 or the entry.
+-- The answer to a call for the n-th entry: 7, 15 or the entry.
 pub data Nth (limit from : ℕ) (s : List ℕ) (n : ℕ) : Answer Extent → Type 0 where
   badCount : {at : ℕ} → UnsoundList limit s at → Nth limit from s n (refused 7)
   absent : {es : List Entry} → SoundList limit s es → length es ≤ n → Nth limit from s n (refused 15)
   present : {byte start len : ℕ} → NthEntry limit from s n byte start len
       → Nth limit from s n (result (found byte start len))
 
--- Where a move from an index leads: past the bytes of the command there, and nowhere where it is refused.
+-- Where a move from an index leads: past the bytes of the command there, and to the same index where the command is
+-- refused.
 pub data Moves (s : List ℕ) (at : ℕ) : ℕ → Type 0 where
   past : {byte start len : ℕ} (e : NthEntry commands at (drop at s) 0 byte start len)
       → Moves s at (at + length (entryBytes commands (e .here)))
@@ -102,21 +103,21 @@ pub data Question : Type 0 where
   nthInWrapper : (w n : ℕ) → Question
   atIndex : (at : ℕ) → Question
 
--- The answer that the table gives. From an index on, the bytes from there on are the list.
-abbrev pub AnsweredBy : List ℕ → Question → Answer Extent → Type 0
-AnsweredBy s (nthAtTop n) a = Nth commands 0 s n a
-AnsweredBy s (nthInWrapper w n) a = NthInside s w n a
-AnsweredBy s (atIndex at) a = Nth commands at (drop at s) 0 a
+-- The answer that the table gives to a question. For the command at an index the list is the bytes from there on.
+abbrev pub TableAnswers : List ℕ → Question → Answer Extent → Type 0
+TableAnswers s (nthAtTop n) a = Nth commands 0 s n a
+TableAnswers s (nthInWrapper w n) a = NthInside s w n a
+TableAnswers s (atIndex at) a = Nth commands at (drop at s) 0 a
 
--- The data that the table gives, and the index in the contents at which they start: the entry's own data, and for a
--- refusal none, at the beginning.
-pub data DataBy (s : List ℕ) : Question → (start : ℕ) → List ℕ → Type 0 where
+-- The data that the table gives for a question, and the index in the contents at which they start: the entry's own
+-- data, and for a refusal none, at the beginning.
+pub data TableData (s : List ℕ) : Question → (start : ℕ) → List ℕ → Type 0 where
   ofNth : {n byte start len : ℕ} (e : NthEntry commands 0 s n byte start len)
-      → DataBy s (nthAtTop n) start (e .here .body)
+      → TableData s (nthAtTop n) start (e .here .body)
   ofInner : {w n outerByte outerStart outerLen byte start len : ℕ}
       (outer : NthEntry commands 0 s w outerByte outerStart outerLen) → Wrapper outerByte
       → (e : NthEntry commands outerStart (outer .here .body) n byte start len)
-      → DataBy s (nthInWrapper w n) start (e .here .body)
+      → TableData s (nthInWrapper w n) start (e .here .body)
   ofIndex : {at byte start len : ℕ} (e : NthEntry commands at (drop at s) 0 byte start len)
-      → DataBy s (atIndex at) start (e .here .body)
-  ofRefusal : {q : Question} (number : ℕ) → AnsweredBy s q (refused number) → DataBy s q 0 []
+      → TableData s (atIndex at) start (e .here .body)
+  ofRefusal : {q : Question} (number : ℕ) → TableAnswers s q (refused number) → TableData s q 0 []

@@ -35,8 +35,8 @@ impl<'a> CommandCursor<'a> {
         traversal::command_at(self.contents, self.at)
     }
 
-    // The data of the command at the cursor's index, the part of the contents where it stands; empty and at the
-    // beginning where `command` refuses.
+    // The data of the command at the cursor's index, as a part of the contents. Where `command` refuses, it is the
+    // empty part at the beginning.
     pub fn data(self) -> &'a [u8]
         ensures { λ r.
             ⌜ IsData (self .entry .contents) r (commandAt (now (self .entry .contents)) (self .entry .at)) ⌝ }

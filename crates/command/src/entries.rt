@@ -150,7 +150,7 @@ fn if_sound(limit: usize, s: &[u8], from: Cursor, found: Found) -> Found
 }
 
 // The part of a slice that starts at an index and is so long, as far as the slice goes. An empty part stands at its
-// index too. An index past the end has no place in the slice: the empty part then stands at the beginning.
+// index too, and at the beginning where the index is past the end.
 pub fn part(s: &[u8], start: usize, len: usize) -> &[u8]
     ensures { λ r.
         ⌜ StandsAt (s .entry) r (placeIn (now (s .entry)) start) (take len (drop start (now (s .entry)))) ⌝ }
@@ -165,7 +165,7 @@ pub fn part(s: &[u8], start: usize, len: usize) -> &[u8]
     &s[start..start + len]
 }
 
-// The part of the contents that an answer names; empty and at the beginning for a refusal.
+// The part of the contents that an answer names. For a refusal it is the empty part at the beginning.
 pub fn found_part(s: &[u8], found: Found) -> &[u8]
     ensures { λ r.
         ⌜ StandsAt (s .entry) r (placeIn (now (s .entry)) (startOf (foundMeans found)))

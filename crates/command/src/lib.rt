@@ -27,8 +27,7 @@ pub fn nth(contents: &[u8], n: usize) -> Found
     entries::nth(entries::COMMANDS, contents, from, n)
 }
 
-// The data of the n-th command, the part of the contents where it stands; empty and at the beginning where `nth`
-// refuses.
+// The data of the n-th command, as a part of the contents. Where `nth` refuses, it is the empty part at the beginning.
 pub fn nth_data(contents: &[u8], n: usize) -> &[u8]
     ensures { λ r. ⌜ IsData (contents .entry) r (nthCommand (now (contents .entry)) n) ⌝ }
 {
@@ -47,8 +46,8 @@ pub fn nth_inside(contents: &[u8], w: usize, n: usize) -> Found
     }
 }
 
-// The data of the n-th command inside the w-th, the part of the contents where it stands; empty and at the beginning
-// where `nth_inside` refuses.
+// The data of the n-th command inside the w-th, as a part of the contents. Where `nth_inside` refuses, it is the empty
+// part at the beginning.
 pub fn nth_inside_data(contents: &[u8], w: usize, n: usize) -> &[u8]
     ensures { λ r. ⌜ IsData (contents .entry) r (nthInside (now (contents .entry)) w n) ⌝ }
 {

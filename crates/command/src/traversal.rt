@@ -15,8 +15,8 @@ pub fn command_at(contents: &[u8], at: usize) -> Found
     entries::nth(entries::COMMANDS, contents, from, 0)
 }
 
-// The data of the command at an index, the part of the contents where it stands; empty and at the beginning where
-// `command_at` refuses.
+// The data of the command at an index, as a part of the contents. Where `command_at` refuses, it is the empty part at
+// the beginning.
 pub fn data_at(contents: &[u8], at: usize) -> &[u8]
     ensures { λ r. ⌜ IsData (contents .entry) r (commandAt (now (contents .entry)) at) ⌝ }
 {

@@ -9,6 +9,7 @@ use Rattle.frame.specs.Frame.{Frame, standard, extended}
 use Rattle.frame.specs.Verdict.{Verdict, verdict}
 use Rattle.frame.specs.Answers.{frameDraft}
 use Rattle.command.specs.Entries.{entry}
+use Rattle.reply.specs.Status.{ok, ready, previousNumber, stateNumber}
 use Rattle.reply.specs.Replies.{reply, replyIn, Reply}
 use Rattle.lease.specs.Lease.{hold, stop}
 use Rattle.lease.specs.History.{newTable, answersOn}
@@ -34,7 +35,7 @@ Holds (stops address wire) =
 abbrev pub AllHold : List Case → Type 0
 AllHold cases = Every Holds cases
 
--- The status 81 of the reply: toggle set, previous frame 0 (ok), state 1 (ready).
+-- The cases. The reply has the toggle set, the previous frame ok, the state ready, and one empty item.
 abbrev pub markedExamples : List Case
 markedExamples =
     reads (0xF1 ∷ 0xF2 ∷ []) (refused 4)
@@ -48,6 +49,7 @@ markedExamples =
     ∷ reads (0xF1 ∷ 0x24 ∷ 0x02 ∷ 0x03 ∷ 0x00 ∷ 0x24 ∷ 0xF2 ∷ []) (refused 5)
     ∷ reads (0xF1 ∷ 0x1A ∷ 0x07 ∷ 0x05 ∷ 0x05 ∷ 0x80 ∷ 0x64 ∷ 0x00 ∷ 0x00 ∷ 0x00 ∷ 0xF9 ∷ 0xF2 ∷ [])
     (result (standard (0x1A ∷ 0x07 ∷ 0x05 ∷ 0x05 ∷ 0x80 ∷ 0x64 ∷ 0x00 ∷ 0x00 ∷ 0x00 ∷ [])))
-    ∷ replies (0x81 ∷ 0x1A ∷ 0x00 ∷ []) (result (reply true 0 1 (entry 0x1A [] ∷ [])))
+    ∷ replies (0x81 ∷ 0x1A ∷ 0x00 ∷ [])
+    (result (reply true (previousNumber ok) (stateNumber ready) (entry 0x1A [] ∷ [])))
     ∷ stops 0xF1 (0xF0 ∷ 0xF3 ∷ 0x01 ∷ 0x00 ∷ 0x76 ∷ 0x04 ∷ 0x13 ∷ 0x02 ∷ 0x01 ∷ 0x02 ∷ 0x60 ∷ 0xF2 ∷ [])
     ∷ []

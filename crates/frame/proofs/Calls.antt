@@ -6,6 +6,7 @@ use mathlib.Core.List.{List, _++_}
 use lib.ListN.{length, take, drop}
 use contract.Lifetimes.{Lfts}
 use denote.Ref.{RefT}
+use Rattle.lists.specs.Choice.{Exactly}
 use Rattle.answer.specs.Answer.{Answer, result}
 use Rattle.answer.specs.Draft.{Writes, writtenMeans}
 use Rattle.answer.specs.declared.Written.{Written}
@@ -49,14 +50,12 @@ call-reads (read-slice r κs wire out out′ e) = e
 
 -- A call that reads is answered, and leaves its output, exactly as document 01's table says.
 pub read-exactly : {w out last : List ℕ} {a : Answer FrameOutline} → CalledRead w out a last
-    → (b : Answer FrameOutline) (left : List ℕ)
-    → ((a ≡ b) × (last ≡ left) → ReadJudged w out b left) × (ReadJudged w out b left → (a ≡ b) × (last ≡ left))
+    → (b : Answer FrameOutline) (left : List ℕ) → Exactly ((a ≡ b) × (last ≡ left)) (ReadJudged w out b left)
 read-exactly {w} {out} {last} {a} k b left = table.reads-exactly w out a b last left (call-reads k)
 
 -- A call that writes is answered, and leaves its output, exactly as document 01's table says.
 pub write-exactly : {f : Frame} {out last : List ℕ} {a : Answer ℕ} → CalledWrite f out a last
-    → (b : Answer ℕ) (left : List ℕ)
-    → ((a ≡ b) × (last ≡ left) → WriteJudged f out b left) × (WriteJudged f out b left → (a ≡ b) × (last ≡ left))
+    → (b : Answer ℕ) (left : List ℕ) → Exactly ((a ≡ b) × (last ≡ left)) (WriteJudged f out b left)
 write-exactly {f} {out} {last} {a} k b left = table.writes-exactly f out a b last left (call-writes k)
 
 -- ---- demand 2
@@ -64,21 +63,18 @@ write-exactly {f} {out} {last} {a} k b left = table.writes-exactly f out a b las
 -- Given room for the contents of any frame, a call tells a frame exactly when the slice's limit, escapes, length and
 -- checksum are right.
 pub accepted-given-room : {w out last : List ℕ} {a : Answer FrameOutline} → CalledRead w out a last → 117 ≤ length out
-    → ((f : Frame) × (frameRead a last ≡ result f) → Sound w) × (Sound w → (f : Frame) × (frameRead a last ≡ result f))
+    → Exactly ((f : Frame) × (frameRead a last ≡ result f)) (Sound w)
 accepted-given-room {w} {out} {last} {a} k room = trip.told-when w out a last (call-reads k) room
 
 -- Given room for its contents, a call tells a frame exactly when the slice is sound and is that frame.
-pub accepted-as : {w out last : List ℕ} {a : Answer FrameOutline} → CalledRead w out a last
-    → (f : Frame) → length (contentsOf f) ≤ length out
-    → (frameRead a last ≡ result f → SoundFrame w f) × (SoundFrame w f → frameRead a last ≡ result f)
+pub accepted-as : {w out last : List ℕ} {a : Answer FrameOutline} → CalledRead w out a last → (f : Frame)
+    → length (contentsOf f) ≤ length out → Exactly (frameRead a last ≡ result f) (SoundFrame w f)
 accepted-as {w} {out} {last} {a} k f room = trip.told-exactly w out a last (call-reads k) f room
 
 -- Given room for its contents, a call tells a frame exactly when the slice is that frame as it is written, and at most
 -- 120 bytes long.
 pub accepted-written : {w out last : List ℕ} {a : Answer FrameOutline} → CalledRead w out a last → (f : Frame)
-    → length (contentsOf f) ≤ length out
-    → (frameRead a last ≡ result f → (wireOf f ≡ w) × (length w ≤ 120))
-    × ((wireOf f ≡ w) × (length w ≤ 120) → frameRead a last ≡ result f)
+    → length (contentsOf f) ≤ length out → Exactly (frameRead a last ≡ result f) ((wireOf f ≡ w) × (length w ≤ 120))
 accepted-written {w} {out} {last} {a} k f room = trip.told-as-written w out a last (call-reads k) f room
 
 -- A frame that a call wrote, read from the bytes that it wrote by any call with room, is told as the same frame: its

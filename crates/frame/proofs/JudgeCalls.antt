@@ -7,6 +7,7 @@ use Prim.Native.Nat.{ℕ}
 use lib.ListN.{take}
 use contract.Lifetimes.{Lfts}
 use denote.Ref.{RefT}
+use Rattle.lists.specs.Choice.{Exactly}
 use Rattle.answer.specs.Answer.{Answer, result, refused}
 use Rattle.frame.specs.Flags.{candidateOf}
 use Rattle.frame.specs.Verdict.{Verdict, verdict}
@@ -33,8 +34,7 @@ module _ (κs : Lfts 1) (kind : Kind) (ρ ρ′ : RefT (List ℕ)) (len : ℕ) (
   -- What the answer and the bytes that are left tell is the table's, and everything that the table gives is told so. A
   -- flag among the bytes is refused with 6.
   pub judged-by-table : (v : Verdict)
-      → (frameRead (readMeans r) (ρ′ .now) ≡ v → Judged (candidateOf kind (take len (ρ .now))) v)
-      × (Judged (candidateOf kind (take len (ρ .now))) v → frameRead (readMeans r) (ρ′ .now) ≡ v)
+      → Exactly (frameRead (readMeans r) (ρ′ .now) ≡ v) (Judged (candidateOf kind (take len (ρ .now))) v)
   judged-by-table v =
       let t = verdict-by-table (candidateOf kind (take len (ρ .now))) v in
       ((λ e. t .0 (sym judged-is ∙ e)), (λ j. judged-is ∙ t .1 j))

@@ -6,6 +6,7 @@ use mathlib.Core.List.{List, [], _∷_, _++_}
 use native.Mathlib.Omega.{arith}
 use lib.ListN.{take, drop, length}
 use lib.Seq.{take-at}
+use Rattle.lists.specs.Choice.{Exactly}
 use Rattle.answer.specs.Answer.{Answer, result}
 use Rattle.answer.specs.Draft.{Writes}
 use Rattle.frame.specs.Stuffing.{stuff, bytes}
@@ -51,9 +52,7 @@ writes-back w f e =
     )
 
 -- A slice is accepted as a frame exactly when it is that frame as it is written, and at most 120 bytes long.
-pub accepted-as-written : (w : List ℕ) (f : Frame)
-    → (verdict w ≡ result f → (wireOf f ≡ w) × (length w ≤ 120))
-    × ((wireOf f ≡ w) × (length w ≤ 120) → verdict w ≡ result f)
+pub accepted-as-written : (w : List ℕ) (f : Frame) → Exactly (verdict w ≡ result f) ((wireOf f ≡ w) × (length w ≤ 120))
 accepted-as-written w f =
     (writes-back w f, (λ p. ap verdict (sym (p .0)) ∙ reads-back f (omega (arith, p .1, ap length (p .0)))))
 
@@ -81,7 +80,7 @@ told-sound w out a last f (fits {f = g} s h) e =
 module _ (w out : List ℕ) (a : Answer FrameOutline) (last : List ℕ) (p : Reads w out a last) where
   -- With room for its contents, a call tells a frame exactly when the slice is that frame and sound.
   pub told-exactly : (f : Frame) → length (contentsOf f) ≤ length out
-      → (frameRead a last ≡ result f → SoundFrame w f) × (SoundFrame w f → frameRead a last ≡ result f)
+      → Exactly (frameRead a last ≡ result f) (SoundFrame w f)
   told-exactly f room = (
     told-sound w out a last f (read-by-table w out a last .0 p),
     (λ s. let q = reads-exactly w out a (result (outlineOf f)) last _ p .1 (fits s room) in
@@ -91,8 +90,7 @@ module _ (w out : List ℕ) (a : Answer FrameOutline) (last : List ℕ) (p : Rea
 
   -- The same without the conditions: exactly when the slice is that frame as it is written, and at most 120 bytes long.
   pub told-as-written : (f : Frame) → length (contentsOf f) ≤ length out
-      → (frameRead a last ≡ result f → (wireOf f ≡ w) × (length w ≤ 120))
-      × ((wireOf f ≡ w) × (length w ≤ 120) → frameRead a last ≡ result f)
+      → Exactly (frameRead a last ≡ result f) ((wireOf f ≡ w) × (length w ≤ 120))
   told-as-written f room = (
     (λ e. accepted-as-written w f .0 (accepted-exactly w f .1 (told-exactly f room .0 e))),
     (λ e. told-exactly f room .1 (accepted-exactly w f .0 (accepted-as-written w f .1 e))),
@@ -100,8 +98,7 @@ module _ (w out : List ℕ) (a : Answer FrameOutline) (last : List ℕ) (p : Rea
 
   -- Demand 2's "accepted exactly when" of a call with room for the contents of any frame: some frame is told exactly
   -- when limit, escapes, length and checksum are right.
-  pub told-when : 117 ≤ length out
-      → ((f : Frame) × (frameRead a last ≡ result f) → Sound w) × (Sound w → (f : Frame) × (frameRead a last ≡ result f))
+  pub told-when : 117 ≤ length out → Exactly ((f : Frame) × (frameRead a last ≡ result f)) (Sound w)
   told-when room = (
     (λ t. told-sound w out a last (t .0) (read-by-table w out a last .0 p) (t .1) .slice),
     (λ s. let v = accepted-when w .1 s in (

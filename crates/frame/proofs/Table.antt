@@ -2,8 +2,8 @@
 use Rattle.frame.specs.Frame.{Frame, standard, extended, contentsOf, frameKind, addressesOf, payload, wireOf}
 use Rattle.frame.specs.Answers.{frameDraft, readAnswer, readOut, Reads, FrameOutline}
 use Rattle.frame.specs.Conditions.{ReadJudged, refusedBy, noRoom, fits, Terminated, WithinLimit, EscapesSound}
-use Rattle.frame.specs.Conditions.{Unstuffs, none, plain, escape, fewest, ChecksumRight, Sound, SoundFrame, Judged}
-use Rattle.frame.specs.Conditions.{truncated, long, badEscape as badEscapes, short, badSum, sound}
+use Rattle.frame.specs.Conditions.{Unstuffs, none, plain, escape, fewest, ChecksumRight, Sound, SoundFrame}
+use Rattle.frame.specs.Conditions.{Judged, truncated, long, badEscape as badEscapes, short, badSum, sound}
 use Rattle.frame.specs.Conditions.{WriteJudged, overLimit, noRoomToWrite, written}
 use Prim.Native.Nat.{ℕ, zero, suc, _+_, _≤_}
 use mathlib.Core.Path.{_≡_, refl, sym, ap, _∙_, subst}
@@ -14,7 +14,7 @@ use native.Mathlib.Omega.{arith}
 use lib.Dec.{leb, eqb}
 use lib.ListN.{length, getD}
 use borrow.Author.Tests.{leb-true, leb-false, eqb-true, eqb-false, le-leb, ne-eqb}
-use Rattle.lists.specs.Choice.{pick}
+use Rattle.lists.specs.Choice.{pick, Exactly}
 use Rattle.lists.proofs.Cases.{by-bool}
 use Rattle.lists.proofs.Lists.{drop-two}
 use Rattle.answer.specs.Draft.{draftAnswer, draftOut, Writes}
@@ -216,12 +216,14 @@ some-line w =
         let h : addressCount (t .kind) + 1 ≤ length u =
         omega (arith, leb-true (fewest (t .kind)) (length u) k, fewest-is (t .kind)) in
         by-bool (eqb (lastOf u) (checksum (contentsIn (addressCount (t .kind)) u)))
-        (λ q. let s = sound-frame w (all (sum-parts (t .kind) u h (eqb-true _ _ q))) in (result (s .0), sound (s .0) (s .1)))
+        (λ q. let s = sound-frame w (all (sum-parts (t .kind) u h (eqb-true _ _ q))) in
+        (result (s .0), sound (s .0) (s .1)))
         (λ q. (
           refused 5,
           badSum t u l g x (leb-true _ _ k) (λ r. let s = sound-frame w (all r) in
               let e : refused 5 ≡ result (s .0) =
-              sym (of-body w t ∙ judge-sum (t .kind) (t .body) (omega (arith, long-as w t)) u (unstuffs-bytes x) h (eqb-false _ _ q))
+              sym (of-body w t
+              ∙ judge-sum (t .kind) (t .body) (omega (arith, long-as w t)) u (unstuffs-bytes x) h (eqb-false _ _ q))
               ∙ table-verdict w (result (s .0)) (sound (s .0) (s .1)) in
               let z : _≡_ {A = ℕ} 0 1 = cc in omega arith),
         )))
@@ -229,15 +231,14 @@ some-line w =
 
 -- Every verdict is given exactly when the table gives it: a refusal where the rule that it names fails and all before
 -- it hold.
-pub verdict-by-table : (w : List ℕ) (v : Verdict) → (verdict w ≡ v → Judged w v) × (Judged w v → verdict w ≡ v)
+pub verdict-by-table : (w : List ℕ) (v : Verdict) → Exactly (verdict w ≡ v) (Judged w v)
 verdict-by-table w v = (
   (λ e. let l = some-line w in subst (λ (x : Verdict). Judged w x) (sym (table-verdict w (l .0) (l .1)) ∙ e) (l .1)),
   table-verdict w v,
 )
 
 -- Accepted exactly when every condition holds, and then as that frame.
-pub accepted-exactly : (w : List ℕ) (f : Frame)
-    → (verdict w ≡ result f → SoundFrame w f) × (SoundFrame w f → verdict w ≡ result f)
+pub accepted-exactly : (w : List ℕ) (f : Frame) → Exactly (verdict w ≡ result f) (SoundFrame w f)
 accepted-exactly w f =
     ((λ e. found (result f) (verdict-by-table w (result f) .0 e) f refl), (λ s. table-verdict w (result f) (sound f s)))
   where
@@ -250,8 +251,7 @@ accepted-exactly w f =
     found v (sound h s) f e = let q : h ≡ f = cc in subst (λ (x : Frame). SoundFrame w x) q s
 
 -- Demand 2's "accepted exactly when": as some frame exactly when limit, escapes, length and checksum are right.
-pub accepted-when : (w : List ℕ)
-    → ((f : Frame) × (verdict w ≡ result f) → Sound w) × (Sound w → (f : Frame) × (verdict w ≡ result f))
+pub accepted-when : (w : List ℕ) → Exactly ((f : Frame) × (verdict w ≡ result f)) (Sound w)
 accepted-when w = (
   (λ p. accepted-exactly w (p .0) .0 (p .1) .slice),
   (λ s. let p = sound-frame w s in (p .0, accepted-exactly w (p .0) .1 (p .1))),
@@ -275,9 +275,9 @@ module _ (w out : List ℕ) where
   line-read a last (noRoom {f = f} s h) = answer-no-room (verdict w) f out (accepted-exactly w f .1 s) h
   line-read a last (fits {f = f} s h) = answer-done (verdict w) f out (accepted-exactly w f .1 s) h
 
-  -- Every answer to reading a slice, with the output that is left, is given exactly when the table gives it, 1 included.
-  pub read-by-table : (a : Answer FrameOutline) (last : List ℕ)
-      → (Reads w out a last → ReadJudged w out a last) × (ReadJudged w out a last → Reads w out a last)
+  -- Every answer to reading a slice, with the output that is left, is given exactly when the table gives it, 1
+  -- included.
+  pub read-by-table : (a : Answer FrameOutline) (last : List ℕ) → Exactly (Reads w out a last) (ReadJudged w out a last)
   read-by-table a last = (
     (λ p. subst (λ (l : List ℕ). ReadJudged w out a l) (sym (p .1))
         (subst (λ (x : Answer FrameOutline). ReadJudged w out x (readOut (verdict w) out)) (sym (p .0))
@@ -285,9 +285,9 @@ module _ (w out : List ℕ) where
     line-read a last,
   )
 
-  -- The same of a call: its answer and its output are others' exactly when the table gives those.
+  -- The answer of a call that reads and the output that it left are given ones exactly when the table gives those.
   pub reads-exactly : (a b : Answer FrameOutline) (last left : List ℕ) → Reads w out a last
-      → ((a ≡ b) × (last ≡ left) → ReadJudged w out b left) × (ReadJudged w out b left → (a ≡ b) × (last ≡ left))
+      → Exactly ((a ≡ b) × (last ≡ left)) (ReadJudged w out b left)
   reads-exactly a b last left p = (
     (λ e. read-by-table b left .0 (sym (e .0) ∙ p .0, sym (e .1) ∙ p .1)),
     (λ j. let q = line-read b left j in (p .0 ∙ sym (q .0), p .1 ∙ sym (q .1))),
@@ -323,17 +323,16 @@ module _ (f : Frame) (out : List ℕ) where
 
   -- Every answer to writing a frame, with the output that is left, is given exactly when the table gives it.
   pub written-by-table : (a : Answer ℕ) (last : List ℕ)
-      → (Writes (frameDraft f) out a last → WriteJudged f out a last)
-      × (WriteJudged f out a last → Writes (frameDraft f) out a last)
+      → Exactly (Writes (frameDraft f) out a last) (WriteJudged f out a last)
   written-by-table a last = (
     (λ p. subst (λ (l : List ℕ). WriteJudged f out a l) (sym (p .1))
         (subst (λ (x : Answer ℕ). WriteJudged f out x (draftOut (frameDraft f) out)) (sym (p .0)) write-line)),
     line-write a last,
   )
 
-  -- The same of a call.
+  -- The answer of a call that writes and the output that it left are given ones exactly when the table gives those.
   pub writes-exactly : (a b : Answer ℕ) (last left : List ℕ) → Writes (frameDraft f) out a last
-      → ((a ≡ b) × (last ≡ left) → WriteJudged f out b left) × (WriteJudged f out b left → (a ≡ b) × (last ≡ left))
+      → Exactly ((a ≡ b) × (last ≡ left)) (WriteJudged f out b left)
   writes-exactly a b last left p = (
     (λ e. written-by-table b left .0 (sym (e .0) ∙ p .0, sym (e .1) ∙ p .1)),
     (λ j. let q = line-write b left j in (p .0 ∙ sym (q .0), p .1 ∙ sym (q .1))),

@@ -46,7 +46,8 @@ module _ (kind : Kind) (body : List ℕ) where
   whole-body = take-at body (0xF2 ∷ []) (length (candidateOf kind body) - 2) (omega (arith, whole-length))
 
   whole-stop : lastOf (candidateOf kind body) ≡ 0xF2
-  whole-stop = getD-at (startFlag kind ∷ body) 0xF2 [] 0 (length (candidateOf kind body) - 1) (omega (arith, whole-length))
+  whole-stop =
+      getD-at (startFlag kind ∷ body) 0xF2 [] 0 (length (candidateOf kind body) - 1) (omega (arith, whole-length))
 
   -- it is terminated where no flag stands in the body
   whole-test : isTerminated (candidateOf kind body) ≡ flagless body

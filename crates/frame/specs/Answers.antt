@@ -49,7 +49,7 @@ readAnswer (result f) room = pick (leb (length (contentsOf f)) room) (result (ou
 unfoldable pub readOut : Verdict → List ℕ → List ℕ
 readOut v out = draftOut (through contentsOf v) out
 
--- What a call that reads a slice answers, and the output that it was lent before and after.
+-- A call that reads a slice gives this answer and leaves this output, given the output before.
 abbrev pub Reads : (w out : List ℕ) → Answer FrameOutline → (last : List ℕ) → Type 0
 Reads w out a last = (a ≡ readAnswer (verdict w) (length out)) × (last ≡ readOut (verdict w) out)
 

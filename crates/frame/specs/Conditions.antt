@@ -1,5 +1,5 @@
 -- The conditions on a sound frame, each by itself, and document 01's tables of reading and writing over them.
--- None speaks of the verdict or of the steps by which it is reached.
+-- None uses the function `verdict` or the steps by which it is computed.
 use Prim.Native.Nat.{ℕ, _+_, _≤_, _<_}
 use mathlib.Core.Path.{_≡_}
 use mathlib.Core.List.{List, [], _∷_, _++_}
@@ -60,7 +60,7 @@ pub record Sound (w : List ℕ) : Type 0 where
   pub enough : LongEnough (candidate .kind) unstuffed
   pub sum : ChecksumRight (candidate .kind) unstuffed
 
--- The frame that such a slice is: it has the slice's kind and its unstuffed bytes.
+-- A slice that demand 2 accepts, and the frame that it is: of the slice's kind, with its unstuffed bytes.
 pub record SoundFrame (w : List ℕ) (f : Frame) : Type 0 where
   pub slice : Sound w
   pub kind-is : slice .candidate .kind ≡ frameKind f
@@ -78,8 +78,8 @@ pub data Judged (w : List ℕ) : Verdict → Type 0 where
       → (ChecksumRight (t .kind) u → ⊥) → Judged w (refused 5)
   sound : (f : Frame) → SoundFrame w f → Judged w (result f)
 
--- What reading a slice is answered, and the output afterwards. The slice's refusal comes first, and the output's room is
--- asked for last. A frame's contents stand first in the output, and all after them is as it was.
+-- What reading a slice is answered, and the output afterwards. The slice's refusal comes first, and 1 last, where the
+-- output has no room. A frame's contents stand first in the output, and all after them is as it was.
 pub data ReadJudged (w out : List ℕ) : Answer FrameOutline → List ℕ → Type 0 where
   refusedBy : {n : ℕ} → Judged w (refused n) → ReadJudged w out (refused n) out
   noRoom : {f : Frame} → SoundFrame w f → length out < length (contentsOf f) → ReadJudged w out (refused 1) out

@@ -16,7 +16,7 @@ startFlag Extended = 0xF0
 abbrev pub stopFlag : ℕ
 stopFlag = 0xF2
 
--- Bytes between the two flags of a kind.
+-- Bytes with the start flag of a kind before them and the stop flag after them.
 abbrev pub candidateOf : Kind → List ℕ → List ℕ
 candidateOf kind body = startFlag kind ∷ body ++ (stopFlag ∷ [])
 

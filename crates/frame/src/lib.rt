@@ -215,6 +215,7 @@ fn bring_contents(s: &mut [u8], start: usize, len: usize)
     candidate::unstuff_front(s, start, len)
 }
 
+// Judges the first bytes of a slice of any length, as `judge_array` does those of an array.
 fn judge_first(kind: Kind, s: &mut [u8], len: usize) -> Read
     ensures { λ r. ⌜ readMeans r ≡ judgeAnswer (verdict (candidateOf kind (take len (now (s .entry))))) ⌝ }
     ensures { λ r. ⌜ now (s .exit)

@@ -7,12 +7,13 @@ use native.Mathlib.Omega.{arith}
 use lib.Dec.{leb, eqb}
 use lib.ListN.{length}
 use borrow.Author.Tests.{leb-true, leb-false, eqb-true, eqb-false, eq-eqb, ne-eqb}
+use Rattle.lists.specs.Choice.{Exactly}
 use Rattle.lists.proofs.Cases.{by-bool}
 use Rattle.frame.specs.Address.{inRange}
 use Rattle.answer.specs.Answer.{Answer, result, refused}
 use Rattle.lease.specs.Lease.{hold, release, stop, owns, stopFrame, answerOf}
 use Rattle.lease.specs.History.{Exchange, LastHold, Held, Free}
-use Rattle.lease.specs.Leases.{Exactly, InRange, HoldGets, ReleaseGets, StopGets}
+use Rattle.lease.specs.Leases.{InRange, HoldGets, ReleaseGets, StopGets}
 use Rattle.lease.proofs.LeaseLaws.{range-means}
 use Rattle.lease.proofs.TableHistory.{Knows, out-of-range}
 

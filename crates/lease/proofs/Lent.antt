@@ -139,13 +139,16 @@ lent-bytes-on s cs size b t =
 pub refused-table : (ts : List ℕ) (c : LeaseCall) (n : ℕ) → tableAnswer ts c ≡ refused n → tableAfter ts c ≡ ts
 refused-table ts c n e = ap (λ (x : Answer (List ℕ)). tableLeft x c ts) e
 
+-- what is left is the same for every answer where it is for a result and for a refusal
+any-answer : (left : Answer (List ℕ) → List ℕ) (s : List ℕ) → ((w : List ℕ) → left (result w) ≡ s)
+    → ((n : ℕ) → left (refused n) ≡ s) → (x : Answer (List ℕ)) → left x ≡ s
+any-answer left s r f (result w) = r w
+any-answer left s r f (refused n) = f n
+
 -- A stop changes no token.
 pub stop-table : (ts : List ℕ) (a t room : ℕ) → tableAfter ts (stop a t room) ≡ ts
-stop-table ts a t room = by (tableAnswer ts (stop a t room))
-  where
-    by : (x : Answer (List ℕ)) → tableLeft x (stop a t room) ts ≡ ts
-    by (result w) = refl
-    by (refused n) = refl
+stop-table ts a t room =
+    any-answer (λ x. tableLeft x (stop a t room) ts) ts (λ w. refl) (λ n. refl) (tableAnswer ts (stop a t room))
 
 -- A refused call changes no byte.
 pub refused-lent : (s : List ℕ) (c : LeaseCall) (n : ℕ) → lentAnswer s c ≡ refused n → lentAfter s c ≡ s
@@ -153,11 +156,8 @@ refused-lent s c n e = ap (λ (x : Answer (List ℕ)). lentLeft x c s) e
 
 -- A stop changes no byte.
 pub stop-lent : (s : List ℕ) (a t room : ℕ) → lentAfter s (stop a t room) ≡ s
-stop-lent s a t room = by (lentAnswer s (stop a t room))
-  where
-    by : (x : Answer (List ℕ)) → lentLeft x (stop a t room) s ≡ s
-    by (result w) = refl
-    by (refused n) = refl
+stop-lent s a t room =
+    any-answer (λ x. lentLeft x (stop a t room) s) s (λ w. refl) (λ n. refl) (lentAnswer s (stop a t room))
 
 -- Bytes of another length are answered 18, whatever the call, and stay.
 pub wrong-size : (s : List ℕ) (cs : List LeaseCall) → (length s ≡ 2048 → ⊥)

@@ -88,12 +88,12 @@ pub record LastHold (a t : ℕ) (history : List Exchange) : Type 0 where
   pub accepted : Accepted (last .answer)
   pub since : Every (Passes a) after
 
--- Some token is.
+-- An address has a holder.
 pub record Held (a : ℕ) (history : List Exchange) : Type 0 where
   pub token : ℕ
   pub last-hold : LastHold a token history
 
--- No token is.
+-- An address has no holder.
 abbrev pub Free : ℕ → List Exchange → Type 0
 Free a history = (t : ℕ) → LastHold a t history → ⊥
 

@@ -1,17 +1,13 @@
--- Document 01's sentences on leases, of histories of which no more is known than that they happened.
+-- Document 01's sentences on leases, stated of histories: calls in a row, each with the answer that it got.
 use Prim.Native.Nat.{ℕ, _≤_, _<_}
 use mathlib.Core.Path.{_≡_}
 use mathlib.Core.Logic.{_⊎_}
 use mathlib.Core.List.{List, [], _∷_, _++_}
 use lib.ListN.{length, getD}
-use Rattle.lists.specs.Choice.{Every}
+use Rattle.lists.specs.Choice.{Every, Exactly}
 use Rattle.answer.specs.Answer.{Answer, result, refused}
 use Rattle.lease.specs.Lease.{LeaseCall, hold, release, stop, stopFrame, tableOf}
 use Rattle.lease.specs.History.{newTable, Exchange, exchange, callsOf, historyAt, LastHold, Held, Free, RanLent}
-
--- One holds exactly when the other does.
-abbrev pub Exactly : Type 0 → Type 0 → Type 0
-Exactly P Q = (P → Q) × (Q → P)
 
 -- An address of a machine or a console.
 abbrev pub InRange : ℕ → Type 0
@@ -26,13 +22,14 @@ pub record HoldGets (history : List Exchange) (a t : ℕ) (x : Answer (List ℕ)
   pub zero-token : Exactly (x ≡ refused 14) (InRange a × (t ≡ 0))
   pub taken : Exactly (x ≡ refused 10) (InRange a × (t ≡ 0 → ⊥) × Held a history)
 
--- What a release is answered.
+-- What a release at address a with token t is answered.
 pub record ReleaseGets (history : List Exchange) (a t : ℕ) (x : Answer (List ℕ)) : Type 0 where
   pub accepted : Exactly (x ≡ result []) (LastHold a t history)
   pub outside : Exactly (x ≡ refused 9) (InRange a → ⊥)
   pub not-holder : Exactly (x ≡ refused 11) (InRange a × (LastHold a t history → ⊥))
 
--- What a stop with an output of length `room` is answered: the bytes that it writes, or a refusal.
+-- What a stop at address a with token t and an output of length `room` is answered: the bytes that it writes, or a
+-- refusal.
 pub record StopGets (history : List Exchange) (a t room : ℕ) (x : Answer (List ℕ)) : Type 0 where
   pub written : (w : List ℕ) → Exactly (x ≡ result w) ((w ≡ stopFrame a) × (length w ≤ room) × LastHold a t history)
   pub outside : Exactly (x ≡ refused 9) (InRange a → ⊥)
@@ -59,22 +56,22 @@ Probes a history (stop b t room) = LastHold a t history → ⊥
 pub record Leases (answered : (tokens : List ℕ) → List Exchange → Type 0) : Type 0 where
   -- After a history from a new table on an address has a holder, or is free.
   pub held-or-free : (history : List Exchange) (a : ℕ) → answered newTable history → Held a history ⊎ Free a history
-  -- Every hold, release and stop of a history from a new table on, whatever follows it. The holder that releases may be
-  -- followed by another.
+  -- What every hold, release and stop of a history from a new table on is answered, whatever follows it.
   pub holds : (before after : List Exchange) (a t : ℕ) (x : Answer (List ℕ))
       → answered newTable (before ++ exchange (hold a t) x ∷ after) → HoldGets before a t x
   pub releases : (before after : List Exchange) (a t : ℕ) (x : Answer (List ℕ))
       → answered newTable (before ++ exchange (release a t) x ∷ after) → ReleaseGets before a t x
   pub stops : (before after : List Exchange) (a t room : ℕ) (x : Answer (List ℕ))
       → answered newTable (before ++ exchange (stop a t room) x ∷ after) → StopGets before a t room x
+  -- A release by the holder, a hold by any token but 0 and a stop by any token, one right after the other.
   pub again : (before after : List Exchange) (a t u v room : ℕ) (x y z : Answer (List ℕ)) → LastHold a t before
       → (u ≡ 0 → ⊥)
       → answered newTable
       (before ++ exchange (release a t) x ∷ exchange (hold a u) y ∷ exchange (stop a v room) z ∷ after)
       → HeldAgain a u v room x y z
-  -- Nothing tells a wrong token from a free address. After one history come releases and stops at address a with
-  -- tokens that are not the holder's. After another the address is free and gets the same calls. Both may have calls at
-  -- other addresses in between. The answers at a are the same.
+  -- No answer tells a wrong token from a free address. One history goes on with releases and stops at address a whose
+  -- tokens are not the holder's. After the other the address is free, and gets the same calls. Both may have calls at
+  -- other addresses in between. The answers at address a are the same.
   pub wrong-or-free : (a : ℕ) (held free more also : List Exchange) → answered newTable (held ++ more)
       → answered newTable (free ++ also) → Free a free → Every (Probes a held) (callsOf (historyAt a more))
       → callsOf (historyAt a more) ≡ callsOf (historyAt a also) → historyAt a more ≡ historyAt a also
@@ -86,8 +83,8 @@ pub record Leases (answered : (tokens : List ℕ) → List Exchange → Type 0) 
 
 -- ---- lent bytes
 
--- A run on 2,048 bytes that are those of a table with these tokens. Between its calls others may lend bytes of another
--- length.
+-- A run on 2,048 bytes that are those of a table with these tokens. Calls that lend bytes of another length may stand
+-- between its calls.
 pub record LentRun (called : List ℕ → LeaseCall → Answer (List ℕ) → List ℕ → Type 0) (tokens : List ℕ)
     (history : List Exchange) : Type 0 where
   pub start : List ℕ
@@ -96,7 +93,7 @@ pub record LentRun (called : List ℕ → LeaseCall → Answer (List ℕ) → Li
   pub end : List ℕ
   pub ran : RanLent called start history end
 
--- The sentences of calls on lent bytes. A call on bytes of another length is answered 18 and changes none of them.
+-- The same sentences of calls on lent bytes. A call on bytes of another length is answered 18 and changes none of them.
 pub record LentLeases (called : List ℕ → LeaseCall → Answer (List ℕ) → List ℕ → Type 0) : Type 0 where
   pub leases : Leases (LentRun called)
   pub other-length : (s s′ : List ℕ) (c : LeaseCall) (x : Answer (List ℕ)) → (length s ≡ 2048 → ⊥)

@@ -1,4 +1,4 @@
--- A choice by a test, and tests and properties of numbers and lists.
+-- A choice by a test, tests and properties of numbers and lists, and what holds exactly when.
 use Prim.Native.Nat.{ℕ, _+_}
 use mathlib.Core.Bool.{Bool, true, false}
 use mathlib.Core.List.{List, [], _∷_}
@@ -32,3 +32,7 @@ countBefore p (x ∷ s) = pick (p x) 0 (1 + countBefore p s)
 abbrev pub Every : {A : Type 0} → (A → Type 0) → List A → Type 0
 Every P [] = Unit {0}
 Every P (x ∷ s) = P x × Every P s
+
+-- One holds exactly when the other does.
+abbrev pub Exactly : Type 0 → Type 0 → Type 0
+Exactly P Q = (P → Q) × (Q → P)

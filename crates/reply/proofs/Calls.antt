@@ -9,7 +9,7 @@ use lib.ListN.{length, take, drop}
 use borrow.Author.Tests.{lt-ltb}
 use contract.Lifetimes.{Lfts}
 use denote.Ref.{RefT, now}
-use Rattle.lists.specs.Choice.{Every}
+use Rattle.lists.specs.Choice.{Every, Exactly}
 use Rattle.lists.specs.Machine.{Ran, ended, call, Answered}
 use Rattle.lists.proofs.Machines.{ran-every}
 use Rattle.answer.specs.Answer.{Answer, result, refused}
@@ -21,12 +21,13 @@ use Rattle.command.specs.Answers.{foundMeans, partOf}
 use Rattle.command.specs.Parts.{StandsAt, startOf}
 use Rattle.command.specs.declared.entries.Found.{Found}
 use Rattle.command.proofs.Extents.{nth-at}
+use Rattle.command.proofs.PartLaws.{stands-as}
 use Rattle.command.proofs.Table.{entry-data}
 use Rattle.command.proofs.Calls.{exactly}
 use Rattle.reply.specs.Status.{status, StatusByte}
 use Rattle.reply.specs.Replies.{Reply, reply, replyIn, ReplyOutline, replyOutline, replyMeans, nthItem, itemOf}
 use Rattle.reply.specs.Replies.{replyAnswer}
-use Rattle.reply.specs.Table.{IsReply, ReadJudged, ItemJudged, itemRefused, absentItem, presentItem, ItemData}
+use Rattle.reply.specs.Table.{IsReply, ReplyJudged, ItemJudged, itemRefused, absentItem, presentItem, ItemData}
 use Rattle.reply.specs.Table.{dataOf, noData, StatusWritten, ItemWritten}
 use Rattle.reply.specs.declared.ReplyRead.{ReplyRead}
 use Rattle.reply.proofs.Table.{is-reply, read-by-table, item-by-table, status-written-by-table}
@@ -84,19 +85,17 @@ data-given s n = given (item-by-table s n (nthItem s n) .0 refl)
 
 -- `read_reply` gives each answer, a status and the number of items or 4, 8, 7, exactly when the table gives it.
 pub read-exactly : (κs : Lfts 1) (s : RefT (List ℕ)) (r : ReplyRead) → CalledRead κs s r → (a : Answer ReplyOutline)
-    → (replyMeans r ≡ a → ReadJudged (now s) a) × (ReadJudged (now s) a → replyMeans r ≡ a)
-read-exactly κs s r k a = exactly (ReadJudged (now s)) k (read-by-table (now s) a)
+    → Exactly (replyMeans r ≡ a) (ReplyJudged (now s) a)
+read-exactly κs s r k a = exactly (ReplyJudged (now s)) k (read-by-table (now s) a)
 
 -- `nth_item` gives each answer, an item with its place or 4, 8, 7, 15, exactly when the table gives it.
 pub nth-exactly : (κs : Lfts 1) (s : RefT (List ℕ)) (n : ℕ) (r : Found) → CalledNth κs s n r → (a : Answer Extent)
-    → (foundMeans r ≡ a → ItemJudged (now s) n a) × (ItemJudged (now s) n a → foundMeans r ≡ a)
+    → Exactly (foundMeans r ≡ a) (ItemJudged (now s) n a)
 nth-exactly κs s n r k a = exactly (ItemJudged (now s) n) k (item-by-table (now s) n a)
 
 -- `nth_item_data` hands back a part of the contents with these bytes at this index exactly when the table gives them.
 pub data-exactly : (κs : Lfts 1) (s : RefT (List ℕ)) (n : ℕ) (r : RefT (List ℕ)) → CalledData κs s n r
-    → (start : ℕ) (bytes : List ℕ)
-    → (StandsAt s r start bytes → ItemData (now s) n start bytes)
-    × (ItemData (now s) n start bytes → StandsAt s r start bytes)
+    → (start : ℕ) (bytes : List ℕ) → Exactly (StandsAt s r start bytes) (ItemData (now s) n start bytes)
 data-exactly κs s n r k start bytes = (
   (λ st. let g = data-given (now s) n in
       let m = stands (g .0) (g .1) (g .2) in
@@ -108,17 +107,12 @@ data-exactly κs s n r k start bytes = (
 )
   where
     stands : (start : ℕ) (bytes : List ℕ) → ItemData (now s) n start bytes → StandsAt s r start bytes
-    stands start bytes d =
-        let t = data-is d in
-        subst (λ (x : ℕ). StandsAt s r x bytes) (t .1)
-        (subst (λ (x : List ℕ). StandsAt s r (startOf (nthItem (now s) n)) x) (t .0) k)
+    stands start bytes d = stands-as (nthItem (now s) n) k (data-is d)
 
 -- `write_status` gives each answer, 1 as the length or 8, 1 as refusals, and leaves the output, exactly when the table
 -- says so.
 pub status-exactly : (κs : Lfts 1) (b : ℕ) (out last : RefT (List ℕ)) (r : Written) → CalledStatus κs b out r last
-    → (a : Answer ℕ) (o : List ℕ)
-    → ((writtenMeans r ≡ a) × (now last ≡ o) → StatusWritten b (now out) a o)
-    × (StatusWritten b (now out) a o → (writtenMeans r ≡ a) × (now last ≡ o))
+    → (a : Answer ℕ) (o : List ℕ) → Exactly ((writtenMeans r ≡ a) × (now last ≡ o)) (StatusWritten b (now out) a o)
 status-exactly κs b out last r k a o =
     let t = status-written-by-table b (now out) a o in (
       (λ e. t .0 (sym (e .0) ∙ k .0, sym (e .1) ∙ k .1)),
@@ -128,8 +122,7 @@ status-exactly κs b out last r k a o =
 -- `write_item` gives each answer, a length or 4, 8, 7, 2, 1, and leaves the output, exactly when the table says so.
 pub item-exactly : (κs : Lfts 3) (s : RefT (List ℕ)) (b : ℕ) (d out last : RefT (List ℕ)) (r : Written)
     → CalledItem κs s b d out r last → (a : Answer ℕ) (o : List ℕ)
-    → ((writtenMeans r ≡ a) × (now last ≡ o) → ItemWritten (now s) b (now d) (now out) a o)
-    × (ItemWritten (now s) b (now d) (now out) a o → (writtenMeans r ≡ a) × (now last ≡ o))
+    → Exactly ((writtenMeans r ≡ a) × (now last ≡ o)) (ItemWritten (now s) b (now d) (now out) a o)
 item-exactly κs s b d out last r k a o =
     let t = item-written-by-table (now s) b (now d) (now out) a o in (
       (λ e. t .0 (sym (e .0) ∙ k .0, sym (e .1) ∙ k .1 .0)),
@@ -238,8 +231,7 @@ reads-back b es w t p x j h bytes =
           let d : partOf (now s) (nthItem (now s) (length before)) ≡ e .body =
           ap (λ (l : List ℕ). partOf l (nthItem l (length before))) i
           ∙ item-data-is w t p x before e after (whole before e after q) in
-          subst (λ (k : ℕ). StandsAt s r k (e .body)) (ap startOf a)
-          (subst (λ (l : List ℕ). StandsAt s r (startOf (nthItem (now s) (length before))) l) d c);
+          stands-as (nthItem (now s) (length before)) c (d, ap startOf a);
       ends = λ n k κs s r i c.
           c ∙ ap (λ (l : List ℕ). nthItem l n) i
           ∙ item-by-table w n (refused 15) .1 (absentItem (is-reply w (reply t p x es) .0 h) k);

@@ -7,7 +7,7 @@ use native.Mathlib.Nat.{div-add-mod, div-div-eq-div-mul, div-eq-of-lt, div-eq-of
 use native.Mathlib.Nat.{add-mul-mod-self-left, add-mul-div-left, mul-mod-right}
 use lib.Dec.{leb, ltb, eqb}
 use borrow.Author.Tests.{eqb-false, leb-true, leb-false, le-leb, lt-leb, ltb-true, lt-ltb, eq-eqb, ne-eqb, eqb-true}
-use Rattle.lists.specs.Choice.{pick}
+use Rattle.lists.specs.Choice.{pick, Exactly}
 use Rattle.lists.proofs.Cases.{by-bool}
 use Rattle.answer.specs.Answer.{Answer, result, refused}
 use Rattle.reply.specs.Status.{State, error, ready, idle, haveId, inUse, pause, finish, manual, offline}
@@ -109,20 +109,20 @@ pub named-result : (t : Bool) (p s : ℕ) (u : StatusParts) → statusOf t p s �
 named-result t p s u e = let k = sound-parts t p s u e in (k .0, parts-named t p s (k .1) (k .2))
 
 -- the answer for parts, as a function of them
-abbrev pub answerOf : StatusParts → Answer StatusParts
-answerOf (status t p s) = statusOf t p s
+abbrev pub partsAnswer : StatusParts → Answer StatusParts
+partsAnswer (status t p s) = statusOf t p s
 
-pub named-parts : (u : StatusParts) → StatusNamed u → answerOf u ≡ result u
+pub named-parts : (u : StatusParts) → StatusNamed u → partsAnswer u ≡ result u
 unfolding statusOf
 named-parts u k =
     let n = k .named in
-    ap answerOf (k .parts)
+    ap partsAnswer (k .parts)
     ∙ (simp (le-leb (previousNumber (n .previous)) 3 (named-previous (n .previous)), named-state (n .state)))
     ∙ ap result (sym (k .parts))
 
 -- Parts are answered as a status exactly when they have names, and with 8 exactly when they have none.
 pub parts-by-table : (t : Bool) (p s : ℕ) (a : Answer StatusParts)
-    → (statusOf t p s ≡ a → PartsJudged (status t p s) a) × (PartsJudged (status t p s) a → statusOf t p s ≡ a)
+    → Exactly (statusOf t p s ≡ a) (PartsJudged (status t p s) a)
 parts-by-table t p s a = (
   (λ e. subst (λ (x : Answer StatusParts). PartsJudged (status t p s) x) e (judged (statusOf t p s) refl)),
   told a,
@@ -308,8 +308,7 @@ refused-fault b k e = (
 
 -- A byte is answered with the parts of its status exactly when it is the byte of one, and with 8 exactly when it is the
 -- byte of none.
-pub status-by-table : (b : ℕ) (a : Answer StatusParts)
-    → (statusIn b ≡ a → StatusJudged b a) × (StatusJudged b a → statusIn b ≡ a)
+pub status-by-table : (b : ℕ) (a : Answer StatusParts) → Exactly (statusIn b ≡ a) (StatusJudged b a)
 status-by-table b a = ((λ e. subst (λ (x : Answer StatusParts). StatusJudged b x) e (judged (statusIn b) refl)), told a)
   where
     judged : (x : Answer StatusParts) → statusIn b ≡ x → StatusJudged b x
@@ -329,7 +328,7 @@ status-by-table b a = ((λ e. subst (λ (x : Answer StatusParts). StatusJudged b
 -- ---- faults by their bits
 
 -- A byte is the byte of no status exactly when bit 6 is set or bits 3 to 0 are no state's number.
-pub fault-exactly : (b : ℕ) → b < 256 → (NoStatus b → Fault b) × (Fault b → NoStatus b)
+pub fault-exactly : (b : ℕ) → b < 256 → Exactly (NoStatus b) (Fault b)
 unfolding statusIn statusOf
 fault-exactly b h = (
   (λ n. by-bool (eqb (b / 64 % 2) 0)

@@ -6,6 +6,7 @@ use native.Mathlib.Omega.{arith}
 use lib.Dec.{leb}
 use lib.ListN.{length, drop}
 use borrow.Author.Tests.{leb-true, leb-false}
+use Rattle.lists.specs.Choice.{Exactly}
 use Rattle.lists.specs.Splice.{splice}
 use Rattle.lists.proofs.Cases.{by-bool}
 use Rattle.answer.specs.Answer.{Answer, result, refused}
@@ -16,9 +17,9 @@ use Rattle.command.specs.Table.{Nth, badCount, absent, present}
 use Rattle.command.proofs.Sound.{sound-exactly}
 use Rattle.command.proofs.Table.{unsound-exactly, list-sound, nth-by-table}
 use Rattle.reply.specs.Status.{StatusParts, status, StatusByte, statusIn, isFault}
-use Rattle.reply.specs.Replies.{Reply, reply, headIn, afterStatus, replyIn, ReplyOutline, replyAnswer, itemOf}
+use Rattle.reply.specs.Replies.{Reply, headIn, afterStatus, replyIn, ReplyOutline, replyAnswer, itemOf}
 use Rattle.reply.specs.Replies.{nthItem, statusDraft, itemBytes, withItem, afterReply, itemDraft}
-use Rattle.reply.specs.Table.{IsReply, isReply, NoReply, empty, faulty, unsoundItems, ReadJudged, refusedAs}
+use Rattle.reply.specs.Table.{IsReply, isReply, NoReply, empty, faulty, unsoundItems, ReplyJudged, refusedAs}
 use Rattle.reply.specs.Table.{readAs, ItemJudged, itemRefused, absentItem, presentItem, StatusWritten}
 use Rattle.reply.specs.Table.{statusFault, statusNoRoom, statusFits, ItemWritten, noPrior, longData, longReply}
 use Rattle.reply.specs.Table.{itemNoRoom, itemFits}
@@ -65,7 +66,7 @@ line-of (b ∷ v) = case (statusIn b) (parse items v 0) refl refl
         replyLine (isReply (sound-byte b (status t p x) e) (record { formed = m .1; bytes = sym (m .0) }))
 
 -- Contents are a reply exactly when they are the byte of a status and the bytes of items after it.
-pub is-reply : (s : List ℕ) (r : Reply) → (replyIn s ≡ result r → IsReply s r) × (IsReply s r → replyIn s ≡ result r)
+pub is-reply : (s : List ℕ) (r : Reply) → Exactly (replyIn s ≡ result r) (IsReply s r)
 is-reply s r = ((λ e. known (line-of s) e), reply-of)
   where
     known : {a : Answer Reply} → Line s a → a ≡ result r → IsReply s r
@@ -74,20 +75,19 @@ is-reply s r = ((λ e. known (line-of s) e), reply-of)
 
 -- ---- reading
 
-read-line : {s : List ℕ} {a : Answer Reply} → Line s a → ReadJudged s (replyAnswer a)
+read-line : {s : List ℕ} {a : Answer Reply} → Line s a → ReplyJudged s (replyAnswer a)
 unfolding replyAnswer
 read-line (refusedLine n) = refusedAs n
 read-line (replyLine r) = readAs r
 
-line-read : {s : List ℕ} {a : Answer ReplyOutline} → ReadJudged s a → replyAnswer (replyIn s) ≡ a
+line-read : {s : List ℕ} {a : Answer ReplyOutline} → ReplyJudged s a → replyAnswer (replyIn s) ≡ a
 unfolding replyAnswer
 line-read (refusedAs n) = ap replyAnswer (refused-as n)
 line-read (readAs r) = ap replyAnswer (reply-of r)
 
 -- Every answer to reading a reply is given exactly when the table gives it.
-pub read-by-table : (s : List ℕ) (a : Answer ReplyOutline)
-    → (replyAnswer (replyIn s) ≡ a → ReadJudged s a) × (ReadJudged s a → replyAnswer (replyIn s) ≡ a)
-read-by-table s a = ((λ e. subst (ReadJudged s) e (read-line (line-of s))), line-read)
+pub read-by-table : (s : List ℕ) (a : Answer ReplyOutline) → Exactly (replyAnswer (replyIn s) ≡ a) (ReplyJudged s a)
+read-by-table s a = ((λ e. subst (ReplyJudged s) e (read-line (line-of s))), line-read)
 
 -- ---- the n-th item
 
@@ -127,8 +127,7 @@ line-item (presentItem {b = b} {rest = rest} {t = t} {n = n} {byte = c} {start =
     item-rest b rest t n j ∙ nth-by-table items 1 rest n (result (found c start len)) .1 (present e)
 
 -- Every answer to a call for the n-th item is given exactly when the table gives it.
-pub item-by-table : (s : List ℕ) (n : ℕ) (a : Answer Extent)
-    → (nthItem s n ≡ a → ItemJudged s n a) × (ItemJudged s n a → nthItem s n ≡ a)
+pub item-by-table : (s : List ℕ) (n : ℕ) (a : Answer Extent) → Exactly (nthItem s n ≡ a) (ItemJudged s n a)
 item-by-table s n a = ((λ e. subst (ItemJudged s n) e (item-line s n)), line-item)
 
 -- ---- writing a status
@@ -155,8 +154,7 @@ some-status b out = case (statusIn b) refl out
 
 -- Every answer to writing a status byte alone is given, and every output left, exactly when the table says so.
 pub status-written-by-table : (b : ℕ) (out : List ℕ) (a : Answer ℕ) (last : List ℕ)
-    → (Writes (statusDraft b) out a last → StatusWritten b out a last)
-    × (StatusWritten b out a last → Writes (statusDraft b) out a last)
+    → Exactly (Writes (statusDraft b) out a last) (StatusWritten b out a last)
 status-written-by-table b out a last = (
   (λ w. let l = some-status b out in
       let k = status-writes (l .2) in
@@ -219,8 +217,7 @@ some-item s b d out = case (line-of s)
 
 -- Every answer to writing an item is given, and every output left, exactly when the table says so.
 pub item-written-by-table : (s : List ℕ) (b : ℕ) (d out : List ℕ) (a : Answer ℕ) (last : List ℕ)
-    → (Writes (itemDraft s b d) out a last → ItemWritten s b d out a last)
-    × (ItemWritten s b d out a last → Writes (itemDraft s b d) out a last)
+    → Exactly (Writes (itemDraft s b d) out a last) (ItemWritten s b d out a last)
 item-written-by-table s b d out a last = (
   (λ w. let l = some-item s b d out in
       let k = item-writes (l .2) in

@@ -100,36 +100,36 @@ pub record NamedStatus : Type 0 where
 abbrev pub partsNamed : NamedStatus → StatusParts
 partsNamed s = status (s .toggle) (previousNumber (s .previous)) (stateNumber (s .state))
 
--- Bit 7, bits 5 and 4, bits 3 to 0; bit 6 is in none of the three.
+-- The byte of a status: the toggle is bit 7, the previous frame bits 5 and 4, the state bits 3 to 0. Bit 6 is clear.
 abbrev pub byteNamed : NamedStatus → ℕ
 byteNamed s = pick (s .toggle) 128 0 + (16 * previousNumber (s .previous) + stateNumber (s .state))
 
--- Parts that are a status.
+-- Three parts whose numbers have names.
 pub record StatusNamed (t : StatusParts) : Type 0 where
   pub named : NamedStatus
   pub parts : t ≡ partsNamed named
 
--- A byte that is the byte of a status with these parts.
+-- A number that is the byte of a status with these parts.
 pub record StatusByte (b : ℕ) (t : StatusParts) : Type 0 where
   pub named : NamedStatus
   pub byte : b ≡ byteNamed named
   pub parts : t ≡ partsNamed named
 
--- A fault: the byte of no status.
+-- A number that is the byte of no status.
 abbrev pub NoStatus : ℕ → Type 0
 NoStatus b = (t : StatusParts) → StatusByte b t → ⊥
 
--- The same of a byte by its bits: bit 6 is set, or bits 3 to 0 are no state's number.
+-- A fault as document 01 has it, by the bits of a byte: bit 6 is set, or bits 3 to 0 are no state's number.
 pub data Fault (b : ℕ) : Type 0 where
   bitSix : b / 64 % 2 ≡ 1 → Fault b
   noState : ((s : State) → b % 16 ≡ stateNumber s → ⊥) → Fault b
 
--- What a status byte is answered.
+-- What reading a status byte is answered.
 pub data StatusJudged (b : ℕ) : Answer StatusParts → Type 0 where
   isStatus : (t : StatusParts) → StatusByte b t → StatusJudged b (result t)
   isFault : NoStatus b → StatusJudged b (refused 8)
 
--- What parts are answered.
+-- What making a status of three parts is answered.
 pub data PartsJudged (t : StatusParts) : Answer StatusParts → Type 0 where
   haveNames : StatusNamed t → PartsJudged t (result t)
   nameless : (StatusNamed t → ⊥) → PartsJudged t (refused 8)

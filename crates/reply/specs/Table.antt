@@ -12,13 +12,13 @@ use Rattle.reply.specs.Replies.{Reply, reply, ReplyOutline, replyOutline
 
 -- ---- which contents are a reply
 
--- The byte of a status, and then the bytes of items.
+-- Contents that are a reply: the byte of a status, and then the bytes of items.
 pub data IsReply : List ℕ → Reply → Type 0 where
   isReply : {b : ℕ} {rest : List ℕ} {t : Bool} {p x : ℕ} {es : List Entry} → StatusByte b (status t p x)
       → SoundList items rest es → IsReply (b ∷ rest) (reply t p x es)
 
--- The refusals of contents that are none, in their order: empty, no status, a count that is missing or goes beyond the
--- end.
+-- The refusals of contents that are no reply, in their order: empty, no status, a count that is missing or goes beyond
+-- the end.
 pub data NoReply : List ℕ → ℕ → Type 0 where
   empty : NoReply [] 4
   faulty : {b : ℕ} {rest : List ℕ} → NoStatus b → NoReply (b ∷ rest) 8
@@ -27,10 +27,10 @@ pub data NoReply : List ℕ → ℕ → Type 0 where
 
 -- ---- reading
 
--- What reading a reply is answered: its status and the number of its items.
-pub data ReadJudged (s : List ℕ) : Answer ReplyOutline → Type 0 where
-  refusedAs : {k : ℕ} → NoReply s k → ReadJudged s (refused k)
-  readAs : {r : Reply} → IsReply s r → ReadJudged s (result (replyOutlineOf r))
+-- What reading a reply is answered: a refusal, or its status and the number of its items.
+pub data ReplyJudged (s : List ℕ) : Answer ReplyOutline → Type 0 where
+  refusedAs : {k : ℕ} → NoReply s k → ReplyJudged s (refused k)
+  readAs : {r : Reply} → IsReply s r → ReplyJudged s (result (replyOutlineOf r))
 
 -- What a call for the n-th item is answered. The items begin at index 1, behind the status.
 pub data ItemJudged : List ℕ → ℕ → Answer Extent → Type 0 where
@@ -56,7 +56,7 @@ pub data StatusWritten (b : ℕ) : (out : List ℕ) → Answer ℕ → List ℕ 
       → StatusWritten b (x ∷ out) (result 1) (b ∷ out)
 
 -- What writing the contents so far, s, and an item with byte b and data d after them is answered, and the output
--- afterwards. A refusal leaves it as it was, and what stands past the result stays.
+-- afterwards. A refusal leaves the output as it was, and all after what was written is as it was.
 pub data ItemWritten (s : List ℕ) (b : ℕ) (d out : List ℕ) : Answer ℕ → List ℕ → Type 0 where
   noPrior : {k : ℕ} → NoReply s k → ItemWritten s b d out (refused k) out
   longData : {r : Reply} → IsReply s r → 255 < length d → ItemWritten s b d out (refused 7) out

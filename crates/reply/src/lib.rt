@@ -62,8 +62,8 @@ pub fn nth_item(contents: &[u8], n: usize) -> Found
     }
 }
 
-// The data of the n-th item, the part of the contents where it stands; empty and at the beginning where `nth_item`
-// refuses.
+// The data of the n-th item, as a part of the contents. Where `nth_item` refuses, it is the empty part at the
+// beginning.
 pub fn nth_item_data(contents: &[u8], n: usize) -> &[u8]
     ensures { λ r. ⌜ IsData (contents .entry) r (nthItem (now (contents .entry)) n) ⌝ }
 {
@@ -90,7 +90,7 @@ pub fn write_status(byte: u8, out: &mut [u8]) -> Written
 }
 
 // Writes a reply from the contents of a reply so far and an item, which it puts last. Refusals 4, 8, 7, 2 and 1.
-// The contract names the byte's range too: by it, what a run of calls wrote is shown to read back.
+// The contract says that `byte` is below 256, because the proof that written items read back needs it.
 pub fn write_item(prior: &[u8], byte: u8, body: &[u8], out: &mut [u8]) -> Written
     ensures { λ r. ⌜ writtenMeans r ≡ draftAnswer (itemDraft (now (prior .entry)) byte (now (body .entry)))
         (length (now (out .entry))) ⌝ }

@@ -73,7 +73,7 @@ impl Status {
         [Self::OK, Self::REJECT, Self::BAD, Self::NOT_READY]
     }
 
-    // A status of its parts. Refusal 8 where `previous` or `state` is none of the names.
+    // Makes a status of its parts. Refusal 8 where `previous` or `state` is none of the constants above.
     pub fn of(toggle: bool, previous: u8, state: u8) -> StatusRead
         ensures { λ r. ⌜ statusMeans r ≡ statusOf toggle previous state ⌝ }
     {

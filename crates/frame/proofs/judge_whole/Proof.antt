@@ -13,7 +13,8 @@ St e = e .before .before .before
 
 found : (e : tie.After-examine-whole) (x : Examined) → e .examine-whole .result ≡ x
     → ExaminesWhole (St e .args .kind) (St e .args .s .now) x
-found e x q = subst (λ (y : Examined). ExaminesWhole (St e .args .kind) (St e .args .s .now) y) q (e .examine-whole .ensures)
+found e x q =
+    subst (λ (y : Examined). ExaminesWhole (St e .args .kind) (St e .args .s .now) y) q (e .examine-whole .ensures)
 
 sound : (k : tie.After-known-told2)
     → SoundAt (St (k .before .before .before) .args .kind) (St (k .before .before .before) .args .s .now)

@@ -39,7 +39,8 @@ returns-3 : tie.Need-returns-3
 returns-3 c =
     let e : tie.Else2 = search needs in
     let d = sound e in
-    answer-no-room _ _ _ (d .judged) (omega (arith, d .counted, ap length (contents-of (St e .args .header) (d .contents))))
+    answer-no-room _ _ _ (d .judged)
+    (omega (arith, d .counted, ap length (contents-of (St e .args .header) (d .contents))))
 
 sub-copy : tie.Need-sub-copy
 sub-copy c = search needs
