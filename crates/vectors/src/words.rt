@@ -10,13 +10,20 @@ pub(crate) fn upto(s: &[u8], mark: u8) -> &[u8]
     &s[..end]
 }
 
-// What stands after the first `mark`, or nothing.
-pub(crate) fn past(s: &[u8], mark: u8) -> &[u8] {
-    let end = index_of(s, mark);
-    if s.len() <= end {
-        return &s[..0];
+// What stands after so many marks, or nothing.
+pub(crate) fn after(s: &[u8], mark: u8, marks: usize) -> &[u8] {
+    let mut left = marks;
+    let mut i = 0;
+    while i < s.len() {
+        if left == 0 {
+            return &s[i..];
+        }
+        if s[i] == mark {
+            left = left - 1;
+        }
+        i += 1;
     }
-    &s[end + 1..]
+    &s[..0]
 }
 
 pub(crate) fn first(s: &[u8]) -> &[u8] {
@@ -24,9 +31,56 @@ pub(crate) fn first(s: &[u8]) -> &[u8] {
 }
 
 pub(crate) fn rest(s: &[u8]) -> &[u8] {
-    past(s, b' ')
+    after(s, b' ', 1)
 }
 
+// How many groups a stroke parts.
+pub(crate) fn groups(s: &[u8]) -> usize {
+    let mut n = 0;
+    let mut i = 0;
+    while i < s.len() {
+        n += stroke(s[i]);
+        i += 1;
+    }
+    n + 1
+}
+
+// 1 for a stroke, 0 for any other character.
+fn stroke(c: u8) -> usize
+    ensures { λ r. ⌜ r ≤ 1 ⌝ }
+{
+    if c == b'/' {
+        return 1;
+    }
+    0
+}
+
+// One of them, without the space after the stroke.
+pub(crate) fn group(s: &[u8], k: usize) -> &[u8] {
+    unspaced(upto(after(s, b'/', k), b'/'))
+}
+
+fn unspaced(s: &[u8]) -> &[u8] {
+    if s.len() == 0 {
+        return s;
+    }
+    if s[0] == b' ' {
+        return &s[1..];
+    }
+    s
+}
+
+// The index of a word among so many that a space parts, or how many they are.
+pub(crate) fn index_among(all: &[u8], count: usize, word: &[u8]) -> usize {
+    let mut k = 0;
+    while k < count {
+        if check::same(first(after(all, b' ', k)), word) {
+            return k;
+        }
+        k += 1;
+    }
+    k
+}
 // Puts bytes, two digits each and one character between two of them, first in `out`, and answers how many there are.
 pub(crate) fn bytes(s: &[u8], out: &mut [u8]) -> usize {
     let mut n = 0;

@@ -60,9 +60,50 @@ pub fn nth_inside(contents: &[u8], w: usize, n: usize) -> Result<Found, u8> {
     })
 }
 
+/// A walker over one list of commands: a frame's contents, or a wrapper's data.
+#[derive(Clone, Copy, Debug)]
+pub struct Cursor<'a> {
+    list: &'a [u8],
+    at: usize,
+}
+
+impl<'a> Cursor<'a> {
+    /// A cursor at the first command.
+    pub fn new(list: &'a [u8]) -> Self {
+        Cursor::at(list, 0)
+    }
+
+    /// A cursor at any index; one past the end finds no command.
+    pub fn at(list: &'a [u8], at: usize) -> Self {
+        Cursor { list, at }
+    }
+
+    /// The index of the next command.
+    pub fn index(self) -> usize {
+        self.at
+    }
+
+    /// The command at the cursor, which then moves past it. All counts from there
+    /// on are checked first, and a refusal leaves the cursor where it is.
+    ///
+    /// Refusals, in this order: 7, 15.
+    pub fn step(&mut self) -> Result<Found, u8> {
+        if self.at >= self.list.len() {
+            return Err(refusal::NONE);
+        }
+        let command = command_at(self.list, self.at)?;
+        let mut at = command.end();
+        while at < self.list.len() {
+            at = command_at(self.list, at)?.end();
+        }
+        self.at = command.end();
+        Ok(command)
+    }
+}
+
 /// Whether the contents are a sound list with a sound 76 wrapper that holds the
 /// command to terminate the workout.
-pub(crate) fn terminates(contents: &[u8]) -> bool {
+pub fn terminates(contents: &[u8]) -> bool {
     sound_with(contents, |byte, data| {
         byte == PROPRIETARY_WRAPPER
             && sound_with(data, |byte, data| {

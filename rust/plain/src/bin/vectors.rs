@@ -4,7 +4,7 @@
 use std::io::{self, Read as _};
 use std::process::ExitCode;
 
-use plain::command::{self, Found};
+use plain::command::{self, Cursor, Found};
 use plain::frame::{self, Read};
 use plain::line::{Answer, Line};
 use plain::reply::{self, Status};
@@ -14,6 +14,7 @@ use plain::{lease, refusal};
 /// Room for whatever the examples write.
 const ROOM: usize = 300;
 const TABLE_LEN: usize = 2_048;
+const TOKEN_LEN: usize = 8;
 
 fn main() -> ExitCode {
     let mut text = String::new();
@@ -51,7 +52,12 @@ fn run(line: &str) -> Option<String> {
             workout_answer(arguments, |seconds, split| Goal::Time { seconds, split })?
         }
         "lease" => lease_answer(arguments)?,
-        "line" => line_answer(&bytes(arguments)?),
+        "line" => line_answer(arguments)?,
+        "command" => command_answer(arguments)?,
+        "inside" => inside_answer(arguments)?,
+        "item" => item_answer(arguments)?,
+        "step" => step_answer(arguments)?,
+        "status-names" => names_answer(),
         "number" => format!(" number={}", number(&bytes(arguments)?)),
         _ => return None,
     };
@@ -61,6 +67,12 @@ fn run(line: &str) -> Option<String> {
 fn bytes(text: &str) -> Option<Vec<u8>> {
     let byte = |word| u8::from_str_radix(word, 16).ok();
     text.split_whitespace().map(byte).collect()
+}
+
+/// A decimal number and the bytes after it.
+fn number_and_bytes(text: &str) -> Option<(usize, Vec<u8>)> {
+    let (number, rest) = text.split_once(' ').unwrap_or((text, ""));
+    Some((number.parse().ok()?, bytes(rest)?))
 }
 
 fn hex(bytes: &[u8]) -> String {
@@ -122,9 +134,19 @@ fn told_frame(read: Read, contents: &[u8]) -> String {
 
 fn contents_answer(contents: &[u8]) -> String {
     let commands = top_commands(contents);
+    let steps = steps_over(contents);
+    let by_steps = by_steps(contents);
+    let stop = if command::terminates(contents) {
+        "yes"
+    } else {
+        "no"
+    };
     let reply = reply_in(contents).unwrap_or_else(refused);
     let workout = workout_in(contents).unwrap_or_else(refused);
-    format!(" commands={commands} reply={reply} workout={workout}")
+    format!(
+        " commands={commands} steps=[{steps}] by-steps=[{by_steps}] stop={stop} \
+         reply={reply} workout={workout}"
+    )
 }
 
 /// Entries up to the first that does not exist, or why they can't be told.
@@ -174,6 +196,94 @@ fn top_command(contents: &[u8], index: usize, entry: Found) -> String {
         joined(&list, |_, entry| with_data(contents, entry))
     });
     format!("{}{{{inside}}}", place(entry))
+}
+
+/// What a cursor finds step by step, and where it then stands, up to its first
+/// refusal.
+fn steps_over(contents: &[u8]) -> String {
+    let mut cursor = Cursor::new(contents);
+    let mut steps = Vec::new();
+    loop {
+        let found = cursor.step();
+        let text = found_text(contents, found);
+        steps.push(format!("{text}>{}", cursor.index()));
+        if found.is_err() {
+            return steps.join(",");
+        }
+    }
+}
+
+/// The commands up to the first refusal, each reached by the steps of a new
+/// cursor.
+fn by_steps(contents: &[u8]) -> String {
+    let mut texts = Vec::new();
+    loop {
+        let found = nth_by_steps(contents, texts.len());
+        texts.push(found_text(contents, found));
+        if found.is_err() {
+            return texts.join(",");
+        }
+    }
+}
+
+fn nth_by_steps(contents: &[u8], n: usize) -> Result<Found, u8> {
+    let mut cursor = Cursor::new(contents);
+    for _ in 0..n {
+        cursor.step()?;
+    }
+    cursor.step()
+}
+
+fn found_text(contents: &[u8], found: Result<Found, u8>) -> String {
+    found.map_or_else(refused, |entry| with_data(contents, entry))
+}
+
+fn command_answer(arguments: &str) -> Option<String> {
+    let (n, contents) = number_and_bytes(arguments)?;
+    let nth = found_text(&contents, command::nth(&contents, n));
+    let by_steps = found_text(&contents, nth_by_steps(&contents, n));
+    Some(format!(" nth={nth} by-steps={by_steps}"))
+}
+
+fn inside_answer(arguments: &str) -> Option<String> {
+    let (wrapper, rest) = arguments.split_once(' ')?;
+    let (n, contents) = number_and_bytes(rest)?;
+    let found = command::nth_inside(&contents, wrapper.parse().ok()?, n);
+    Some(format!(" nth={}", found_text(&contents, found)))
+}
+
+fn item_answer(arguments: &str) -> Option<String> {
+    let (n, contents) = number_and_bytes(arguments)?;
+    let found = reply::nth_item(&contents, n);
+    Some(format!(" nth={}", found_text(&contents, found)))
+}
+
+fn step_answer(arguments: &str) -> Option<String> {
+    let (at, contents) = number_and_bytes(arguments)?;
+    let mut cursor = Cursor::at(&contents, at);
+    let found = found_text(&contents, cursor.step());
+    Some(format!(" found={found} next={}", cursor.index()))
+}
+
+fn names_answer() -> String {
+    let results = [
+        Status::PREVIOUS_OK,
+        Status::PREVIOUS_REJECT,
+        Status::PREVIOUS_BAD,
+        Status::PREVIOUS_NOT_READY,
+    ];
+    let states = [
+        Status::ERROR,
+        Status::READY,
+        Status::IDLE,
+        Status::HAVE_ID,
+        Status::IN_USE,
+        Status::PAUSE,
+        Status::FINISH,
+        Status::MANUAL,
+        Status::OFFLINE,
+    ];
+    format!(" results={} states={}", hex(&results), hex(&states))
 }
 
 fn reply_in(contents: &[u8]) -> Result<String, u8> {
@@ -251,26 +361,58 @@ fn lease_call(table: &mut [u8], call: &str) -> Option<String> {
     let mut words = call.split(' ');
     let name = words.next()?;
     let address = u32::from_str_radix(words.next()?, 16).ok()?;
-    let token = words.next()?.parse().ok()?;
+    let token = words.next().map_or(Some(0), |token| token.parse().ok())?;
     let done = |()| "done".to_string();
     let answer = match name {
         "hold" => lease::hold(table, address, token).map_or_else(refused, done),
         "release" => lease::release(table, address, token).map_or_else(refused, done),
         "stop" => value(written(|out| lease::stop(table, address, token, out))),
+        "bytes" => hex(&table[usize::try_from(address).ok()? * TOKEN_LEN..][..TOKEN_LEN]),
         _ => return None,
     };
     Some(format!(" {name}={answer}"))
 }
 
-fn line_answer(bytes: &[u8]) -> String {
+/// The answers of the reader to single bytes, for the two calls that take one,
+/// and to the same bytes fed at once.
+fn line_answer(arguments: &str) -> Option<String> {
+    let groups: Option<Vec<_>> = arguments.split(" / ").map(bytes).collect();
+    let groups = groups?;
+    let singly = line_answers(&groups, feed_singly);
+    let at_once = line_answers(&groups, feed_at_once);
+    Some(format!(" step:{singly} step_in:{singly} feed_in:{at_once}"))
+}
+
+/// The answers of one reader that is finished after each group.
+fn line_answers(groups: &[Vec<u8>], feed: impl Fn(&mut Line, &[u8]) -> String) -> String {
     let mut line = Line::new();
-    let mut text = String::new();
-    for (at, &byte) in bytes.iter().enumerate() {
+    let answers = groups.iter().map(|group| {
+        let text = feed(&mut line, group);
+        let last = line.finish();
+        text + &told_at(group.len(), last, line.contents())
+    });
+    let answers: Vec<String> = answers.collect();
+    answers.join(" /")
+}
+
+fn feed_singly(line: &mut Line, bytes: &[u8]) -> String {
+    let calls = bytes.iter().enumerate();
+    let answers = calls.map(|(at, &byte)| {
         let answer = line.feed(byte);
-        text += &told_at(at, answer, line.contents());
+        told_at(at, answer, line.contents())
+    });
+    answers.collect()
+}
+
+fn feed_at_once(line: &mut Line, bytes: &[u8]) -> String {
+    let mut text = String::new();
+    let mut fed = 0;
+    while fed < bytes.len() {
+        let (taken, answer) = line.feed_chunk(&bytes[fed..]);
+        fed += taken;
+        text += &told_at(fed - 1, answer, line.contents());
     }
-    let last = line.finish();
-    text + &told_at(bytes.len(), last, line.contents())
+    text
 }
 
 fn told_at(at: usize, answer: Answer, contents: &[u8]) -> String {

@@ -2,8 +2,8 @@ use Prim.Native.Nat.{_≤_, _-_}
 use mathlib.Core.Path.{_≡_}
 use lib.ListN.{length}
 use borrow.Author.Needs.{needs}
-use Rattle.vectors.proofs.contents.rewrite.Statement.{statement}
-use Rattle.vectors.proofs.contents.rewrite.Tie as tie
+use Rattle.vectors.proofs.replies.rewrite.Statement.{statement}
+use Rattle.vectors.proofs.replies.rewrite.Tie as tie
 
 abbrev Inv-loop : tie.InvT-loop
 Inv-loop contents items room₀ len₀ n₀ room len n = (n ≤ items) × (length room ≡ length room₀)

@@ -1,17 +1,17 @@
 use Prim.Native.Nat.{_≤_, _-_}
 use lib.ListN.{length}
 use borrow.Author.Needs.{needs}
-use Rattle.vectors.proofs.wire.feed.Statement.{statement}
-use Rattle.vectors.proofs.wire.feed.Tie as tie
+use Rattle.vectors.proofs.lines.step_in_all.Statement.{statement}
+use Rattle.vectors.proofs.lines.step_in_all.Tie as tie
+use Rattle.line.proofs.step_in.Reads as step-in-reads
+use Rattle.vectors.proofs.lines.finish.Reads as finish-reads
+use Rattle.vectors.proofs.lines.print_told.Reads as print-told-reads
 
 abbrev Inv-loop : tie.InvT-loop
-Inv-loop bytes held₀ state₀ i₀ held state i = i ≤ length bytes
+Inv-loop held₀ bytes s₀ i₀ held s i = i ≤ length bytes
 
 abbrev μ-loop : tie.MeasureT-loop
-μ-loop bytes held₀ state₀ i₀ held state i = length bytes - i
-
-new-requires : tie.Need-new-requires Inv-loop μ-loop
-new-requires c κs = search needs
+μ-loop held₀ bytes s₀ i₀ held s i = length bytes - i
 
 loop-holds : tie.Need-loop-holds Inv-loop μ-loop
 loop-holds c = search needs
@@ -34,22 +34,18 @@ loop-less c = search needs
 loop-again : tie.Need-loop-again Inv-loop μ-loop
 loop-again c = search needs
 
-finish-in-requires : tie.Need-finish-in-requires Inv-loop μ-loop
-finish-in-requires c κs = search needs
-
-print-told-requires-2 : tie.Need-print-told-requires-2 Inv-loop μ-loop
-print-told-requires-2 c κs = search needs
+finish-requires : tie.Need-finish-requires Inv-loop μ-loop
+finish-requires c κs = search needs
 
 returns : tie.Need-returns Inv-loop μ-loop
 returns c = search needs
 
-pub feed-spec : {M : Type 1} → statement M
-feed-spec =
+pub step-in-all-spec : {M : Type 1} → statement M
+step-in-all-spec =
     tie.close
     (tie.spec
     Inv-loop
     μ-loop
-    new-requires
     loop-holds
     shared-slice-read-step-in
     step-in-requires
@@ -57,6 +53,5 @@ feed-spec =
     add-i
     loop-less
     loop-again
-    finish-in-requires
-    print-told-requires-2
+    finish-requires
     returns)

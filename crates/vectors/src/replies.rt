@@ -1,0 +1,133 @@
+// A reply in a frame's contents, and the names of a status's parts.
+use crate::commands;
+use crate::print;
+use crate::words;
+use answer::Written;
+use command::entries;
+use command::entries::Found;
+use reply::ReplyRead;
+use reply::status::Status;
+
+// The words of an answer, by index.
+const REPLY: usize = 0;
+
+const TOGGLE: usize = 1;
+
+const PREVIOUS: usize = 2;
+
+const STATE: usize = 3;
+
+const ITEMS: usize = 4;
+
+const WRITTEN: usize = 5;
+
+const RESULTS: usize = 6;
+
+const STATES: usize = 7;
+
+fn word(index: usize) {
+    print::nth_word(
+        b" reply=|toggle:|,previous:|,state:|,items:[|],written:| results=| states=",
+        index,
+    );
+}
+
+pub(crate) fn print_reply(contents: &[u8]) {
+    word(REPLY);
+    let read = reply::read_reply(contents);
+    match read {
+        ReplyRead::Reply { status, items } => {
+            print_status(status);
+            print_items(contents, items);
+            print_rewritten(contents, status, items);
+        }
+        ReplyRead::Refused(why) => print::refusal(print::REFUSED, why),
+    }
+}
+
+fn print_status(status: Status) {
+    word(TOGGLE);
+    print::number(status.toggle() as u64);
+    word(PREVIOUS);
+    print::number(status.previous() as u64);
+    word(STATE);
+    print::number(status.state() as u64);
+}
+
+fn print_items(contents: &[u8], items: usize) {
+    word(ITEMS);
+    let mut n = 0;
+    while n < items {
+        print::comma(n);
+        print_item(contents, n);
+        n += 1;
+    }
+}
+
+fn print_item(contents: &[u8], n: usize) {
+    commands::print_found(
+        reply::nth_item(contents, n),
+        reply::nth_item_data(contents, n),
+    );
+}
+
+pub(crate) fn print_nth_item(contents: &[u8], n: usize) {
+    commands::word(commands::NTH);
+    print_item(contents, n);
+}
+
+fn print_rewritten(contents: &[u8], status: Status, items: usize) {
+    word(WRITTEN);
+    let mut room = io::buffer();
+    let n = rewrite(contents, status, items, &mut room);
+    print::hex(entries::part(&room, 0, n));
+}
+
+// The reply written from its status and its items, one after the other.
+fn rewrite(contents: &[u8], status: Status, items: usize, room: &mut [u8]) -> usize {
+    let mut len = length_of(reply::write_status(status.to_byte(), room));
+    let mut n = 0;
+    while n < items {
+        len = rewrite_item(contents, n, len, room);
+        n += 1;
+    }
+    len
+}
+
+fn rewrite_item(contents: &[u8], n: usize, len: usize, room: &mut [u8]) -> usize {
+    let mut prior = io::buffer();
+    let k = words::copy(entries::part(room, 0, len), &mut prior);
+    let found = reply::nth_item(contents, n);
+    match found {
+        Found::At { byte, start, len } => {
+            let body = entries::part(contents, start, len);
+            length_of(reply::write_item(entries::part(&prior, 0, k), byte, body, room))
+        }
+        Found::Refused(_) => 0,
+    }
+}
+
+// How much was written, 0 for a refusal.
+fn length_of(written: Written) -> usize {
+    match written {
+        Written::Length(n) => n,
+        Written::Refused(_) => 0,
+    }
+}
+
+// The names in the order of document 01.
+pub(crate) fn print_names() {
+    word(RESULTS);
+    print::hex(&[Status::OK, Status::REJECT, Status::BAD, Status::NOT_READY]);
+    word(STATES);
+    print::hex(&[Status::ERROR, Status::READY, Status::IDLE, Status::HAVE_ID]);
+    print::hex(
+        &[
+            Status::IN_USE,
+            Status::PAUSE,
+            Status::FINISH,
+            Status::MANUAL,
+            Status::OFFLINE,
+        ],
+    );
+}
