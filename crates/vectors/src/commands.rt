@@ -105,7 +105,7 @@ fn print_reason(n: usize, why: Refusal) {
     }
     match why {
         Refusal::Absent => {}
-        _ => print::refusal(print::REFUSED, why),
+        _ => print::refusal(why),
     }
 }
 
@@ -201,7 +201,7 @@ pub(crate) fn print_found(found: Found, body: &[u8]) {
             print_place(byte, start, len);
             print_data(body);
         }
-        Found::Refused(why) => print::refusal(print::REFUSED, why),
+        Found::Refused(why) => print::refusal(why),
     }
 }
 

@@ -5,7 +5,7 @@ use crate::words;
 use command::entries;
 use lease::LeaseAnswer;
 
-// Calls, by their index among those that `run_call` knows.
+// Calls, by their index among those that `call_index` knows.
 const HOLD: usize = 0;
 
 const RELEASE: usize = 1;
@@ -27,17 +27,15 @@ pub(crate) fn run_calls(calls: &[u8]) {
 
 // A call's name, an address as a byte, and a token.
 fn run_call(call: &[u8], table: &mut [u8; 2048]) {
-    let name = words::first(call);
-    let rest = words::rest(call);
-    let address = words::pair_at(rest, 0) as u32;
-    let token = words::number(words::first(words::rest(rest)));
+    let name = words::nth(call, 0);
+    let address = words::pair_at(words::nth(call, 1), 0) as u32;
+    let token = words::number(words::nth(call, 2));
     print_name(name);
-    answer(
-        words::index_among(b"hold release stop bytes", 4, name),
-        table,
-        address,
-        token,
-    );
+    answer(call_index(name), table, address, token);
+}
+
+fn call_index(name: &[u8]) -> usize {
+    words::index_among(b"hold release stop bytes", 4, name)
 }
 
 fn print_name(name: &[u8]) {
@@ -56,6 +54,10 @@ fn answer(call: usize, table: &mut [u8; 2048], address: u32, token: u64) {
     if call == STOP {
         return stop(table, address, token);
     }
+    print_own(table, address)
+}
+
+fn print_own(table: &[u8], address: u32) {
     print::hex(entries::part(table, OWN * address as usize, OWN));
 }
 
@@ -68,6 +70,6 @@ fn stop(table: &[u8], address: u32, token: u64) {
 fn print_outcome(outcome: LeaseAnswer) {
     match outcome {
         LeaseAnswer::Done => print::text(b"done"),
-        LeaseAnswer::Refused(why) => print::refusal(print::REFUSED, why),
+        LeaseAnswer::Refused(why) => print::refusal(why),
     }
 }

@@ -1,4 +1,4 @@
-// The line reader: by value, over a lent array by the byte, and over a lent array by the chunk.
+// The line reader: by value, fed by the byte, and over a lent array, fed by the chunk.
 use crate::print;
 use crate::wire;
 use crate::words;
@@ -14,55 +14,34 @@ ghost use lib.ListN.{length};
 // The words of an answer, by index.
 const STEP: usize = 0;
 
-const STEP_IN: usize = 1;
+const FEED_IN: usize = 1;
 
-const FEED_IN: usize = 2;
-
-const AT: usize = 3;
-
-const FINISHED: usize = 4;
+const AT: usize = 2;
 
 fn word(index: usize) {
-    print::nth_word(b" step:| step_in:| feed_in:| at=| /", index);
+    print::nth_word(b" step:| feed_in:| at=", index);
 }
 
+// Both readers get each group of bytes, and a finish after it.
 pub(crate) fn run_calls(calls: &[u8]) {
+    let mut reader = LineReader::new();
+    let mut held = [0u8; 118];
+    let mut state = reader.state;
     let n = words::groups(calls);
-    word(STEP);
-    run_by_value(calls, n);
-    word(STEP_IN);
-    run_lent(calls, n);
-    word(FEED_IN);
-    run_by_chunk(calls, n);
-}
-
-// A stroke before each group but the first.
-fn print_stroke(k: usize) {
-    if k != 0 {
-        word(FINISHED);
+    let mut k = 0;
+    while k < n {
+        let mut room = io::buffer();
+        let len = words::bytes(words::group(calls, k), &mut room);
+        reader = step_all(reader, entries::part(&room, 0, len));
+        state = feed_all(&mut held, state, entries::part(&room, 0, len));
+        k += 1;
     }
 }
 
 // ---- by value
 
-fn run_by_value(calls: &[u8], groups: usize) {
-    let mut reader = LineReader::new();
-    let mut k = 0;
-    while k < groups {
-        print_stroke(k);
-        reader = step_group(reader, words::group(calls, k));
-        k += 1;
-    }
-}
-
-fn step_group(reader: LineReader, group: &[u8]) -> LineReader {
-    let mut room = io::buffer();
-    let n = words::bytes(group, &mut room);
-    step_all(reader, entries::part(&room, 0, n))
-}
-
-// Feeds the bytes and finishes.
 fn step_all(reader: LineReader, bytes: &[u8]) -> LineReader {
+    word(STEP);
     let mut r = reader;
     let mut i = 0;
     while i < bytes.len() {
@@ -84,67 +63,10 @@ fn print_answer(index: usize, answer: StepAnswer) {
     print_told(index, told, &contents);
 }
 
-// ---- over a lent array, by the byte
-
-fn run_lent(calls: &[u8], groups: usize) {
-    let mut held = [0u8; 118];
-    let reader = LineReader::new();
-    let mut state = reader.state;
-    let mut k = 0;
-    while k < groups {
-        print_stroke(k);
-        state = step_in_group(&mut held, state, words::group(calls, k));
-        k += 1;
-    }
-}
-
-fn step_in_group(held: &mut [u8; 118], state: State, group: &[u8]) -> State {
-    let mut room = io::buffer();
-    let n = words::bytes(group, &mut room);
-    step_in_all(held, state, entries::part(&room, 0, n))
-}
-
-fn step_in_all(held: &mut [u8; 118], state: State, bytes: &[u8]) -> State {
-    let mut s = state;
-    let mut i = 0;
-    while i < bytes.len() {
-        let step = line::step_in(held, s, bytes[i]);
-        let told = step.told;
-        print_told(i, told, held);
-        s = step.state;
-        i += 1;
-    }
-    finish(held, s, i)
-}
-
-fn finish(held: &[u8; 118], state: State, index: usize) -> State {
-    let last = line::finish_in(state);
-    let told = last.told;
-    print_told(index, told, held);
-    last.state
-}
-
-// ---- over a lent array, by the chunk
-
-fn run_by_chunk(calls: &[u8], groups: usize) {
-    let mut held = [0u8; 118];
-    let reader = LineReader::new();
-    let mut state = reader.state;
-    let mut k = 0;
-    while k < groups {
-        print_stroke(k);
-        state = feed_group(&mut held, state, words::group(calls, k));
-        k += 1;
-    }
-}
-
-fn feed_group(held: &mut [u8; 118], state: State, group: &[u8]) -> State {
-    let mut room = io::buffer();
-    let n = words::bytes(group, &mut room);
-    feed_all(held, state, entries::part(&room, 0, n))
-}
+// ---- over a lent array
 
 fn feed_all(held: &mut [u8; 118], state: State, bytes: &[u8]) -> State {
+    word(FEED_IN);
     let mut s = state;
     let mut i = 0;
     while i < bytes.len() {
@@ -155,6 +77,13 @@ fn feed_all(held: &mut [u8; 118], state: State, bytes: &[u8]) -> State {
         s = step.state;
     }
     finish(held, s, i)
+}
+
+fn finish(held: &[u8; 118], state: State, index: usize) -> State {
+    let last = line::finish_in(state);
+    let told = last.told;
+    print_told(index, told, held);
+    last.state
 }
 
 // At least one of the bytes is taken.

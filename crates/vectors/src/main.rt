@@ -12,34 +12,30 @@ mod workouts;
 
 use command::entries;
 
-// Operations, by their index among those that `run_line` knows.
+// Operations, by their index among those that `operation` knows.
 const FRAME: usize = 0;
 
 const CONTENTS: usize = 1;
 
-const WRITE_STANDARD: usize = 2;
+const STANDARD: usize = 2;
 
-const WRITE_EXTENDED: usize = 3;
+const EXTENDED: usize = 3;
 
 const NUMBER: usize = 4;
 
 const COMMAND: usize = 5;
 
-const INSIDE: usize = 6;
-
 const STEP: usize = 7;
 
 const ITEM: usize = 8;
 
-const WORKOUT_DISTANCE: usize = 9;
-
-const WORKOUT_TIME: usize = 10;
+const TIME: usize = 10;
 
 const LEASE: usize = 11;
 
 const LINE: usize = 12;
 
-const STATUS_NAMES: usize = 13;
+const NAMES: usize = 13;
 
 fn main() {
     let mut text = io::large_buffer();
@@ -64,9 +60,8 @@ fn run_line(line: &[u8]) {
     if !is_example(line) {
         return;
     }
-    let rest = words::rest(line);
-    print::text(words::first(line));
-    run(operation(words::first(rest)), words::rest(rest));
+    print::text(words::nth(line, 0));
+    run(operation(words::nth(line, 1)), words::after(line, b' ', 2));
     print::character(b'\n');
 }
 
@@ -80,24 +75,18 @@ fn is_example(line: &[u8]) -> bool {
 
 fn operation(name: &[u8]) -> usize {
     words::index_among(
-        b"frame contents write-standard write-extended number command inside step item workout-distance workout-time lease line status-names",
+        b"frame contents standard extended number command inside step item distance time lease line names",
         14,
         name,
     )
 }
 
 fn run(operation: usize, arguments: &[u8]) {
-    if operation <= NUMBER {
+    if operation <= ITEM {
         return run_on_bytes(operation, arguments);
     }
-    if operation <= ITEM {
-        return run_on_number(operation, arguments);
-    }
-    if operation == WORKOUT_DISTANCE {
-        return workouts::write_distance(arguments);
-    }
-    if operation == WORKOUT_TIME {
-        return workouts::write_time(arguments);
+    if operation <= TIME {
+        return workouts::write(operation == TIME, arguments);
     }
     if operation == LEASE {
         return leases::run_calls(arguments);
@@ -105,13 +94,13 @@ fn run(operation: usize, arguments: &[u8]) {
     if operation == LINE {
         return lines::run_calls(arguments);
     }
-    if operation == STATUS_NAMES {
+    if operation == NAMES {
         return replies::print_names();
     }
     print::character(b'?');
 }
 
-// The argument is bytes.
+// The arguments are bytes.
 fn run_on_bytes(operation: usize, arguments: &[u8]) {
     let mut room = io::buffer();
     let n = words::bytes(arguments, &mut room);
@@ -125,40 +114,42 @@ fn run_bytes(operation: usize, bytes: &[u8]) {
     if operation == CONTENTS {
         return wire::print_contents(bytes);
     }
-    if operation == WRITE_STANDARD {
-        return wire::write_standard(bytes);
+    if operation == STANDARD {
+        return wire::print_standard(bytes);
     }
-    if operation == WRITE_EXTENDED {
-        return wire::write_extended(bytes);
+    if operation == NUMBER {
+        return wire::print_number(bytes);
     }
-    wire::print_number(bytes)
+    run_at(
+        operation,
+        words::byte_at(bytes, 0),
+        entries::part(bytes, 1, bytes.len()),
+    )
 }
 
-// The arguments are a number, for `inside` another, and bytes.
-fn run_on_number(operation: usize, arguments: &[u8]) {
-    let n = words::number(words::first(arguments)) as usize;
-    let rest = words::rest(arguments);
-    if operation == INSIDE {
-        return run_inside(n, rest);
-    }
-    let mut room = io::buffer();
-    let k = words::bytes(rest, &mut room);
-    run_nth(operation, n, entries::part(&room, 0, k))
-}
-
-fn run_inside(w: usize, arguments: &[u8]) {
-    let n = words::number(words::first(arguments)) as usize;
-    let mut room = io::buffer();
-    let k = words::bytes(words::rest(arguments), &mut room);
-    commands::print_inside(entries::part(&room, 0, k), w, n)
-}
-
-fn run_nth(operation: usize, n: usize, bytes: &[u8]) {
+// The first of the bytes is a number or an address.
+fn run_at(operation: usize, n: u8, bytes: &[u8]) {
     if operation == COMMAND {
-        return commands::print_command(bytes, n);
+        return commands::print_command(bytes, n as usize);
     }
     if operation == STEP {
-        return commands::print_step_from(bytes, n);
+        return commands::print_step_from(bytes, n as usize);
     }
-    replies::print_nth_item(bytes, n)
+    if operation == ITEM {
+        return replies::print_nth_item(bytes, n as usize);
+    }
+    run_between(
+        operation,
+        n,
+        words::byte_at(bytes, 0),
+        entries::part(bytes, 1, bytes.len()),
+    )
+}
+
+// The first two are.
+fn run_between(operation: usize, first: u8, second: u8, bytes: &[u8]) {
+    if operation == EXTENDED {
+        return wire::print_extended(first, second, bytes);
+    }
+    commands::print_inside(bytes, first as usize, second as usize)
 }

@@ -4,18 +4,16 @@ use answer::Refusal;
 use libc::STDOUT_FILENO;
 
 // Words that every answer uses, by their index in the text of `word`.
-pub(crate) const REFUSED: usize = 0;
+const REFUSED: usize = 0;
 
-pub(crate) const CODE: usize = 1;
+pub(crate) const LEN: usize = 1;
 
-pub(crate) const LEN: usize = 2;
+pub(crate) const CONTENTS: usize = 2;
 
-pub(crate) const CONTENTS: usize = 3;
-
-pub(crate) const WRITTEN: usize = 4;
+pub(crate) const WRITTEN: usize = 3;
 
 pub(crate) fn word(index: usize) {
-    nth_word(b"refused:| code=| len=| contents=| written=", index);
+    nth_word(b"refused:| len=| contents=| written=", index);
 }
 
 // A word of a text in which a stroke parts two words. The checker's work on a function grows quickly with the literals
@@ -53,18 +51,11 @@ pub(crate) fn hex_byte(b: u8) {
     text(&digits);
 }
 
-// Two digits for each byte, after a word.
-pub(crate) fn bytes(index: usize, s: &[u8]) {
-    word(index);
-    hex(s);
-}
-
 pub(crate) fn number(n: u64) {
     io::print_decimal(STDOUT_FILENO, n);
 }
 
-// A refusal's number, after a word.
-pub(crate) fn refusal(index: usize, why: Refusal) {
-    word(index);
+pub(crate) fn refusal(why: Refusal) {
+    word(REFUSED);
     number(why.number() as u64);
 }

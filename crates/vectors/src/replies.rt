@@ -41,7 +41,7 @@ pub(crate) fn print_reply(contents: &[u8]) {
             print_items(contents, items);
             print_rewritten(contents, status, items);
         }
-        ReplyRead::Refused(why) => print::refusal(print::REFUSED, why),
+        ReplyRead::Refused(why) => print::refusal(why),
     }
 }
 

@@ -31,20 +31,22 @@ pub(crate) fn read(wire: &[u8]) {
     let mut room = io::buffer();
     let found = frame::read_frame(wire, &mut room);
     match found {
-        Read::Standard { len } => {
-            let contents = entries::part(&room, 0, len);
-            print_standard_frame(contents);
-            print_standard(contents);
-            print_contents(contents);
-        }
-        Read::Extended { to, from, len } => {
-            let contents = entries::part(&room, 0, len);
-            print_extended_frame(to, from, contents);
-            print_extended(to, from, contents);
-            print_contents(contents);
-        }
+        Read::Standard { len } => tell_standard(entries::part(&room, 0, len)),
+        Read::Extended { to, from, len } => tell_extended(to, from, entries::part(&room, 0, len)),
         Read::Refused(why) => print_refused(why),
     }
+}
+
+fn tell_standard(contents: &[u8]) {
+    print_standard_frame(contents);
+    print_standard(contents);
+    print_contents(contents);
+}
+
+fn tell_extended(to: u8, from: u8, contents: &[u8]) {
+    print_extended_frame(to, from, contents);
+    print_extended(to, from, contents);
+    print_contents(contents);
 }
 
 pub(crate) fn print_standard_frame(contents: &[u8]) {
@@ -63,7 +65,8 @@ pub(crate) fn print_extended_frame(to: u8, from: u8, contents: &[u8]) {
 fn print_body(contents: &[u8]) {
     print::word(print::LEN);
     print::number(contents.len() as u64);
-    print::bytes(print::CONTENTS, contents);
+    print::word(print::CONTENTS);
+    print::hex(contents);
 }
 
 pub(crate) fn print_refused(why: Refusal) {
@@ -88,7 +91,7 @@ pub(crate) fn print_number(bytes: &[u8]) {
 pub(crate) fn print_written(written: Written, room: &[u8]) {
     match written {
         Written::Length(n) => print::hex(entries::part(room, 0, n)),
-        Written::Refused(why) => print::refusal(print::REFUSED, why),
+        Written::Refused(why) => print::refusal(why),
     }
 }
 
@@ -100,36 +103,9 @@ pub(crate) fn print_standard(contents: &[u8]) {
     print_written(written, &room);
 }
 
-fn print_extended(to: u8, from: u8, contents: &[u8]) {
+pub(crate) fn print_extended(to: u8, from: u8, contents: &[u8]) {
     let mut room = io::buffer();
     let written = frame::write_extended(to, from, contents, &mut room);
     print::word(print::WRITTEN);
     print_written(written, &room);
-}
-
-pub(crate) fn write_standard(contents: &[u8]) {
-    let mut room = io::buffer();
-    let written = frame::write_standard(contents, &mut room);
-    print_writing(written, &room);
-}
-
-// The first two bytes are the addresses.
-pub(crate) fn write_extended(bytes: &[u8]) {
-    if bytes.len() < 2 {
-        return;
-    }
-    let mut room = io::buffer();
-    let written = frame::write_extended(bytes[0], bytes[1], &bytes[2..], &mut room);
-    print_writing(written, &room);
-}
-
-fn print_writing(written: Written, room: &[u8]) {
-    match written {
-        Written::Length(n) => {
-            print::word(print::LEN);
-            print::number(n as u64);
-            print::bytes(print::WRITTEN, entries::part(room, 0, n));
-        }
-        Written::Refused(why) => print::refusal(print::CODE, why),
-    }
 }

@@ -26,12 +26,9 @@ pub(crate) fn after(s: &[u8], mark: u8, marks: usize) -> &[u8] {
     &s[..0]
 }
 
-pub(crate) fn first(s: &[u8]) -> &[u8] {
-    upto(s, b' ')
-}
-
-pub(crate) fn rest(s: &[u8]) -> &[u8] {
-    after(s, b' ', 1)
+// The word after so many others.
+pub(crate) fn nth(s: &[u8], k: usize) -> &[u8] {
+    upto(after(s, b' ', k), b' ')
 }
 
 // How many groups a stroke parts.
@@ -74,7 +71,7 @@ fn unspaced(s: &[u8]) -> &[u8] {
 pub(crate) fn index_among(all: &[u8], count: usize, word: &[u8]) -> usize {
     let mut k = 0;
     while k < count {
-        if check::same(first(after(all, b' ', k)), word) {
+        if check::same(nth(all, k), word) {
             return k;
         }
         k += 1;
@@ -93,6 +90,14 @@ pub(crate) fn bytes(s: &[u8], out: &mut [u8]) -> usize {
         i += 3;
     }
     n
+}
+
+// The byte at an index, 0 past the end.
+pub(crate) fn byte_at(s: &[u8], i: usize) -> u8 {
+    if s.len() <= i {
+        return 0;
+    }
+    s[i]
 }
 
 // Puts as much of a slice first in `out` as fits, and answers how much that is.

@@ -39,7 +39,7 @@ pub(crate) fn print_workout(contents: &[u8]) {
             print_goal(workout);
             print_rewritten(workout);
         }
-        WorkoutRead::Refused(why) => print::refusal(print::REFUSED, why),
+        WorkoutRead::Refused(why) => print::refusal(why),
     }
 }
 
@@ -67,34 +67,35 @@ fn print_rewritten(workout: Workout) {
     wire::print_written(written, &room);
 }
 
-pub(crate) fn write_distance(arguments: &[u8]) {
-    let goal = Metres(words::number32(words::first(arguments)));
-    let rest = words::rest(arguments);
-    let split = Metres(words::number32(words::first(rest)));
-    let watts = words::number16(words::rest(rest));
-    let goal = Goal::Distance { goal, split };
-    write_workout(Workout { goal, watts })
-}
-
-pub(crate) fn write_time(arguments: &[u8]) {
-    let goal = Seconds(words::number32(words::first(arguments)));
-    let rest = words::rest(arguments);
-    let split = Hundredths(words::number32(words::first(rest)));
-    let watts = words::number16(words::rest(rest));
-    let goal = Goal::Time { goal, split };
-    write_workout(Workout { goal, watts })
-}
-
 // A workout's contents, and the standard frame that has them.
+pub(crate) fn write(is_time: bool, arguments: &[u8]) {
+    let goal = words::number32(words::nth(arguments, 0));
+    let split = words::number32(words::nth(arguments, 1));
+    let watts = words::number16(words::nth(arguments, 2));
+    let goal = goal_of(is_time, goal, split);
+    write_workout(Workout { goal, watts })
+}
+
+fn goal_of(is_time: bool, goal: u32, split: u32) -> Goal {
+    if is_time {
+        return Goal::Time {
+            goal: Seconds(goal),
+            split: Hundredths(split),
+        };
+    }
+    Goal::Distance {
+        goal: Metres(goal),
+        split: Metres(split),
+    }
+}
+
 fn write_workout(workout: Workout) {
     let mut room = io::buffer();
     let written = workout::write_workout(workout, &mut room);
+    print::word(print::CONTENTS);
+    wire::print_written(written, &room);
     match written {
-        Written::Length(n) => {
-            let contents = entries::part(&room, 0, n);
-            print::bytes(print::CONTENTS, contents);
-            wire::print_standard(contents);
-        }
-        Written::Refused(why) => print::refusal(print::CODE, why),
+        Written::Length(n) => wire::print_standard(entries::part(&room, 0, n)),
+        Written::Refused(_) => {}
     }
 }

@@ -43,21 +43,17 @@ fn run(line: &str) -> Option<String> {
     let answer = match operation {
         "frame" => frame_answer(&bytes(arguments)?),
         "contents" => contents_answer(&bytes(arguments)?),
-        "write-standard" => standard_answer(&bytes(arguments)?),
-        "write-extended" => extended_answer(&bytes(arguments)?)?,
-        "workout-distance" => {
-            workout_answer(arguments, |metres, split| Goal::Distance { metres, split })?
-        }
-        "workout-time" => {
-            workout_answer(arguments, |seconds, split| Goal::Time { seconds, split })?
-        }
+        "standard" => standard_answer(&bytes(arguments)?),
+        "extended" => extended_answer(&bytes(arguments)?)?,
+        "distance" => workout_answer(arguments, |metres, split| Goal::Distance { metres, split })?,
+        "time" => workout_answer(arguments, |seconds, split| Goal::Time { seconds, split })?,
         "lease" => lease_answer(arguments)?,
         "line" => line_answer(arguments)?,
-        "command" => command_answer(arguments)?,
-        "inside" => inside_answer(arguments)?,
-        "item" => item_answer(arguments)?,
-        "step" => step_answer(arguments)?,
-        "status-names" => names_answer(),
+        "command" => command_answer(&bytes(arguments)?)?,
+        "inside" => inside_answer(&bytes(arguments)?)?,
+        "item" => item_answer(&bytes(arguments)?)?,
+        "step" => step_answer(&bytes(arguments)?)?,
+        "names" => names_answer(),
         "number" => format!(" number={}", number(&bytes(arguments)?)),
         _ => return None,
     };
@@ -67,12 +63,6 @@ fn run(line: &str) -> Option<String> {
 fn bytes(text: &str) -> Option<Vec<u8>> {
     let byte = |word| u8::from_str_radix(word, 16).ok();
     text.split_whitespace().map(byte).collect()
-}
-
-/// A decimal number and the bytes after it.
-fn number_and_bytes(text: &str) -> Option<(usize, Vec<u8>)> {
-    let (number, rest) = text.split_once(' ').unwrap_or((text, ""));
-    Some((number.parse().ok()?, bytes(rest)?))
 }
 
 fn hex(bytes: &[u8]) -> String {
@@ -238,30 +228,31 @@ fn found_text(contents: &[u8], found: Result<Found, u8>) -> String {
     found.map_or_else(refused, |entry| with_data(contents, entry))
 }
 
-fn command_answer(arguments: &str) -> Option<String> {
-    let (n, contents) = number_and_bytes(arguments)?;
-    let nth = found_text(&contents, command::nth(&contents, n));
-    let by_steps = found_text(&contents, nth_by_steps(&contents, n));
+fn command_answer(arguments: &[u8]) -> Option<String> {
+    let (&n, contents) = arguments.split_first()?;
+    let nth = found_text(contents, command::nth(contents, n.into()));
+    let by_steps = found_text(contents, nth_by_steps(contents, n.into()));
     Some(format!(" nth={nth} by-steps={by_steps}"))
 }
 
-fn inside_answer(arguments: &str) -> Option<String> {
-    let (wrapper, rest) = arguments.split_once(' ')?;
-    let (n, contents) = number_and_bytes(rest)?;
-    let found = command::nth_inside(&contents, wrapper.parse().ok()?, n);
-    Some(format!(" nth={}", found_text(&contents, found)))
+fn inside_answer(arguments: &[u8]) -> Option<String> {
+    let &[wrapper, n, ref contents @ ..] = arguments else {
+        return None;
+    };
+    let found = command::nth_inside(contents, wrapper.into(), n.into());
+    Some(format!(" nth={}", found_text(contents, found)))
 }
 
-fn item_answer(arguments: &str) -> Option<String> {
-    let (n, contents) = number_and_bytes(arguments)?;
-    let found = reply::nth_item(&contents, n);
-    Some(format!(" nth={}", found_text(&contents, found)))
+fn item_answer(arguments: &[u8]) -> Option<String> {
+    let (&n, contents) = arguments.split_first()?;
+    let found = reply::nth_item(contents, n.into());
+    Some(format!(" nth={}", found_text(contents, found)))
 }
 
-fn step_answer(arguments: &str) -> Option<String> {
-    let (at, contents) = number_and_bytes(arguments)?;
-    let mut cursor = Cursor::at(&contents, at);
-    let found = found_text(&contents, cursor.step());
+fn step_answer(arguments: &[u8]) -> Option<String> {
+    let (&at, contents) = arguments.split_first()?;
+    let mut cursor = Cursor::at(contents, at.into());
+    let found = found_text(contents, cursor.step());
     Some(format!(" found={found} next={}", cursor.index()))
 }
 
@@ -333,10 +324,7 @@ fn extended_answer(arguments: &[u8]) -> Option<String> {
 }
 
 fn writing_answer(wire: Result<Vec<u8>, u8>) -> String {
-    match wire {
-        Ok(wire) => format!(" len={} written={}", wire.len(), hex(&wire)),
-        Err(code) => format!(" code={code}"),
-    }
+    format!(" written={}", value(wire))
 }
 
 fn workout_answer(arguments: &str, goal: impl Fn(u32, u32) -> Goal) -> Option<String> {
@@ -345,7 +333,7 @@ fn workout_answer(arguments: &str, goal: impl Fn(u32, u32) -> Goal) -> Option<St
     let watts = words.next()?.parse().ok()?;
     let contents = match written(|out| workout::write(Workout { goal, watts }, out)) {
         Ok(contents) => contents,
-        Err(code) => return Some(format!(" code={code}")),
+        Err(code) => return Some(format!(" contents={}", refused(code))),
     };
     let wire = value(written(|out| frame::write_standard(&contents, out)));
     Some(format!(" contents={} written={wire}", hex(&contents)))
@@ -373,26 +361,17 @@ fn lease_call(table: &mut [u8], call: &str) -> Option<String> {
     Some(format!(" {name}={answer}"))
 }
 
-/// The answers of the reader to single bytes, for the two calls that take one,
-/// and to the same bytes fed at once.
+/// The answers of a reader that gets single bytes and of one that gets a group's
+/// bytes at once; both are finished after each group.
 fn line_answer(arguments: &str) -> Option<String> {
-    let groups: Option<Vec<_>> = arguments.split(" / ").map(bytes).collect();
-    let groups = groups?;
-    let singly = line_answers(&groups, feed_singly);
-    let at_once = line_answers(&groups, feed_at_once);
-    Some(format!(" step:{singly} step_in:{singly} feed_in:{at_once}"))
-}
-
-/// The answers of one reader that is finished after each group.
-fn line_answers(groups: &[Vec<u8>], feed: impl Fn(&mut Line, &[u8]) -> String) -> String {
-    let mut line = Line::new();
-    let answers = groups.iter().map(|group| {
-        let text = feed(&mut line, group);
-        let last = line.finish();
-        text + &told_at(group.len(), last, line.contents())
-    });
-    let answers: Vec<String> = answers.collect();
-    answers.join(" /")
+    let (mut single, mut chunked) = (Line::new(), Line::new());
+    let group = |group| {
+        let bytes = bytes(group)?;
+        let step = feed_singly(&mut single, &bytes) + &finish(&mut single, bytes.len());
+        let feed_in = feed_at_once(&mut chunked, &bytes) + &finish(&mut chunked, bytes.len());
+        Some(format!(" step:{step} feed_in:{feed_in}"))
+    };
+    arguments.split(" / ").map(group).collect()
 }
 
 fn feed_singly(line: &mut Line, bytes: &[u8]) -> String {
@@ -413,6 +392,11 @@ fn feed_at_once(line: &mut Line, bytes: &[u8]) -> String {
         text += &told_at(fed - 1, answer, line.contents());
     }
     text
+}
+
+fn finish(line: &mut Line, at: usize) -> String {
+    let last = line.finish();
+    told_at(at, last, line.contents())
 }
 
 fn told_at(at: usize, answer: Answer, contents: &[u8]) -> String {

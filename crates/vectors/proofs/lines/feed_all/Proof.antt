@@ -6,12 +6,16 @@ use Rattle.vectors.proofs.lines.feed_all.Tie as tie
 use Rattle.vectors.proofs.lines.feed_some.Reads as feed-some-reads
 use Rattle.vectors.proofs.lines.finish.Reads as finish-reads
 use Rattle.vectors.proofs.lines.print_told.Reads as print-told-reads
+use Rattle.vectors.proofs.lines.word.Reads as word-reads
 
 abbrev Inv-loop : tie.InvT-loop
 Inv-loop held₀ bytes s₀ i₀ held s i = i ≤ length bytes
 
 abbrev μ-loop : tie.MeasureT-loop
 μ-loop held₀ bytes s₀ i₀ held s i = length bytes - i
+
+word-requires : tie.Need-word-requires Inv-loop μ-loop
+word-requires c κs = search needs
 
 loop-holds : tie.Need-loop-holds Inv-loop μ-loop
 loop-holds c = search needs
@@ -55,6 +59,7 @@ feed-all-spec =
     (tie.spec
     Inv-loop
     μ-loop
+    word-requires
     loop-holds
     sub-feed-some
     part-feed-some-start

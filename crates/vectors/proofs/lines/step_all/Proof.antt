@@ -6,12 +6,16 @@ use Rattle.vectors.proofs.lines.step_all.Tie as tie
 use Rattle.line.proofs.LineReader.finish.Reads as finish-reads
 use Rattle.line.proofs.LineReader.step.Reads as step-reads
 use Rattle.vectors.proofs.lines.print_answer.Reads as print-answer-reads
+use Rattle.vectors.proofs.lines.word.Reads as word-reads
 
 abbrev Inv-loop : tie.InvT-loop
 Inv-loop bytes r₀ i₀ r i = i ≤ length bytes
 
 abbrev μ-loop : tie.MeasureT-loop
 μ-loop bytes r₀ i₀ r i = length bytes - i
+
+word-requires : tie.Need-word-requires Inv-loop μ-loop
+word-requires c κs = search needs
 
 loop-holds : tie.Need-loop-holds Inv-loop μ-loop
 loop-holds c = search needs
@@ -49,6 +53,7 @@ step-all-spec =
     (tie.spec
     Inv-loop
     μ-loop
+    word-requires
     loop-holds
     shared-slice-read-step
     step-requires

@@ -3,8 +3,7 @@ use borrow.Author.Needs.{needs}
 use Rattle.vectors.proofs.words.index_among.Statement.{statement}
 use Rattle.vectors.proofs.words.index_among.Tie as tie
 use Rattle.check.proofs.same.Reads as same-reads
-use Rattle.vectors.proofs.words.after.Reads as after-reads
-use Rattle.vectors.proofs.words.first.Reads as first-reads
+use Rattle.vectors.proofs.words.nth.Reads as nth-reads
 
 abbrev Inv-loop : tie.InvT-loop
 Inv-loop all count word k₀ k = k ≤ count
@@ -15,11 +14,8 @@ abbrev μ-loop : tie.MeasureT-loop
 loop-holds : tie.Need-loop-holds Inv-loop μ-loop
 loop-holds c = search needs
 
-after-requires : tie.Need-after-requires Inv-loop μ-loop
-after-requires c κs = search needs
-
-first-requires : tie.Need-first-requires Inv-loop μ-loop
-first-requires c κs = search needs
+nth-requires : tie.Need-nth-requires Inv-loop μ-loop
+nth-requires c κs = search needs
 
 same-requires : tie.Need-same-requires Inv-loop μ-loop
 same-requires c κs = search needs
@@ -46,8 +42,7 @@ index-among-spec =
     Inv-loop
     μ-loop
     loop-holds
-    after-requires
-    first-requires
+    nth-requires
     same-requires
     returns
     add-k
