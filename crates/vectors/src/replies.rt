@@ -1,8 +1,8 @@
 // A reply in a frame's contents, and the names of a status's parts.
 use crate::commands;
 use crate::print;
+use crate::wire;
 use crate::words;
-use answer::Written;
 use command::entries;
 use command::entries::Found;
 use reply::ReplyRead;
@@ -76,43 +76,32 @@ pub(crate) fn print_nth_item(contents: &[u8], n: usize) {
     print_item(contents, n);
 }
 
+// The reply written again: from what stands before its last item and that item, or from its status.
 fn print_rewritten(contents: &[u8], status: Status, items: usize) {
     word(WRITTEN);
-    let mut room = io::buffer();
-    let n = rewrite(contents, status, items, &mut room);
-    print::hex(entries::part(&room, 0, n));
-}
-
-// The reply written from its status and its items, one after the other.
-fn rewrite(contents: &[u8], status: Status, items: usize, room: &mut [u8]) -> usize {
-    let mut len = length_of(reply::write_status(status.to_byte(), room));
-    let mut n = 0;
-    while n < items {
-        len = rewrite_item(contents, n, len, room);
-        n += 1;
+    if items == 0 {
+        return print_written_status(status);
     }
-    len
-}
-
-fn rewrite_item(contents: &[u8], n: usize, len: usize, room: &mut [u8]) -> usize {
-    let mut prior = io::buffer();
-    let k = words::copy(entries::part(room, 0, len), &mut prior);
-    let found = reply::nth_item(contents, n);
-    match found {
+    let last = reply::nth_item(contents, items - 1);
+    match last {
         Found::At { byte, start, len } => {
-            let body = entries::part(contents, start, len);
-            length_of(reply::write_item(entries::part(&prior, 0, k), byte, body, room))
+            let prior = entries::part(contents, 0, words::less(start, 2));
+            print_written_item(prior, byte, entries::part(contents, start, len));
         }
-        Found::Refused(_) => 0,
+        Found::Refused(why) => print::refusal(why),
     }
 }
 
-// How much was written, 0 for a refusal.
-fn length_of(written: Written) -> usize {
-    match written {
-        Written::Length(n) => n,
-        Written::Refused(_) => 0,
-    }
+fn print_written_status(status: Status) {
+    let mut room = io::buffer();
+    let written = reply::write_status(status.to_byte(), &mut room);
+    wire::print_written(written, &room);
+}
+
+fn print_written_item(prior: &[u8], byte: u8, body: &[u8]) {
+    let mut room = io::buffer();
+    let written = reply::write_item(prior, byte, body, &mut room);
+    wire::print_written(written, &room);
 }
 
 // The names in the order of document 01.

@@ -100,15 +100,12 @@ pub(crate) fn byte_at(s: &[u8], i: usize) -> u8 {
     s[i]
 }
 
-// Puts as much of a slice first in `out` as fits, and answers how much that is.
-pub(crate) fn copy(s: &[u8], out: &mut [u8]) -> usize {
-    let mut n = 0;
-    let mut i = 0;
-    while i < s.len() {
-        n = put(s[i], out, n);
-        i += 1;
+// A number less another, or 0.
+pub(crate) fn less(a: usize, b: usize) -> usize {
+    if a <= b {
+        return 0;
     }
-    n
+    a - b
 }
 
 // The byte whose two digits stand from an index on.

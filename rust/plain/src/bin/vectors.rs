@@ -294,11 +294,14 @@ fn reply_in(contents: &[u8]) -> Result<String, u8> {
     ))
 }
 
+/// The reply written from what stands before its last item and that item, or from
+/// its status.
 fn rewritten_reply(contents: &[u8], items: &[Found]) -> Result<Vec<u8>, u8> {
-    let start = written(|out| reply::write_status(contents[0], out))?;
-    items.iter().try_fold(start, |prior, &item| {
-        written(|out| reply::write_item(&prior, item.byte, data_of(contents, item), out))
-    })
+    let Some(&last) = items.last() else {
+        return written(|out| reply::write_status(contents[0], out));
+    };
+    let prior = &contents[..last.start - 2];
+    written(|out| reply::write_item(prior, last.byte, data_of(contents, last), out))
 }
 
 fn workout_in(contents: &[u8]) -> Result<String, u8> {
