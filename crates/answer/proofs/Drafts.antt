@@ -8,14 +8,10 @@ use lib.Dec.{leb}
 use lib.ListN.{length, take, drop}
 use lib.Seq.{take-at}
 use borrow.Author.Tests.{lt-leb, le-leb}
-use Rattle.answer.specs.Draft.{Draft, draftAnswer, draftOut}
-use Rattle.answer.specs.Answer.{result, refused, Answer}
+use Rattle.answer.specs.Draft.{Draft, draftAnswer, draftOut, Writes}
+use Rattle.answer.specs.Answer.{result, refused}
 use Rattle.lists.specs.Splice.{splice}
 use Rattle.lists.proofs.Cases.{by-bool}
-
--- an answer, and the output with it, are those of a draft
-abbrev pub Writes : Draft → List ℕ → Answer ℕ → List ℕ → Type 0
-Writes d out a last = (a ≡ draftAnswer d (length out)) × (last ≡ draftOut d out)
 
 pub writes-refusal : (d : Draft) (n : ℕ) (out : List ℕ) → d ≡ refused n → Writes d out (refused n) out
 unfolding draftAnswer draftOut

@@ -1,5 +1,6 @@
 -- What every writer of these crates answers and leaves in the output that it is lent.
 use Prim.Native.Nat.{ℕ}
+use mathlib.Core.Path.{_≡_}
 use mathlib.Core.List.{List, _++_}
 use lib.Dec.{leb}
 use lib.ListN.{length, drop}
@@ -27,3 +28,7 @@ draftAnswer (result w) room = pick (leb (length w) room) (result (length w)) (re
 unfoldable pub draftOut : Draft → List ℕ → List ℕ
 draftOut (refused n) out = out
 draftOut (result w) out = pick (leb (length w) (length out)) (w ++ drop (length w) out) out
+
+-- What a call that writes a draft answers, and the output that it was lent before and after.
+abbrev pub Writes : Draft → (out : List ℕ) → Answer ℕ → (last : List ℕ) → Type 0
+Writes d out a last = (a ≡ draftAnswer d (length out)) × (last ≡ draftOut d out)

@@ -3,21 +3,18 @@ use Prim.Native.Nat.{ℕ, suc, _+_, _-_, _≤_}
 use mathlib.Core.Path.{_≡_, refl, sym, ap, _∙_}
 use mathlib.Core.List.{List, [], _∷_}
 use native.Mathlib.Omega.{arith}
-use lib.Dec.{ltb}
 use lib.ListN.{length, drop}
 use lib.Seq.{drop-drop, drop-append-seam}
-use borrow.Author.Tests.{ltb-false}
-use Rattle.lists.proofs.Cases.{by-bool}
 use Rattle.answer.specs.Refusals.{numberOf}
 use Rattle.answer.specs.declared.Refusal.{Refusal}
-use Rattle.command.specs.Entries.{Entry, commands, entryBytes, listBytes, WellFormed, AllWellFormed, Parsed}
-use Rattle.command.specs.Entries.{unsound, sound, parse, headOf, found, nthOf, nthIn, Extent}
+use Rattle.command.specs.Entries.{Entry, commands, entryBytes, listBytes, AllWellFormed, Parsed}
+use Rattle.command.specs.Entries.{unsound, sound, parse, found, nthOf, nthIn, Extent}
 use Rattle.answer.specs.Answer.{Answer, result, refused}
 use Rattle.command.specs.Answers.{foundMeans}
 use Rattle.command.specs.Traversal.{commandAt, indexPast, indexAfter}
 use Rattle.command.specs.declared.entries.Found.{Found}
 use Rattle.command.specs.declared.entries.Found.the-variants.{At, Refused}
-use Rattle.command.proofs.Extents.{found-within}
+use Rattle.command.proofs.Extents.{found-within, width-of}
 use Rattle.command.proofs.Sound.{sound-exactly, parse-wire}
 
 -- the n-th command from an index on
@@ -30,17 +27,9 @@ unfolding commandAt nthIn nthOf
 refused-from s at k h n = case (parse commands (drop at s) 0) h
   where
     case : (p : Parsed) → nthIn commands at p 0 ≡ refused k → nthIn commands at p n ≡ refused k
-    case unsound e = e
+    case (unsound i) e = e
     case (sound []) e = e
     case (sound (x ∷ es)) e = let w : _≡_ {A = ℕ} 0 1 = cc in absurd (omega arith)
-
-width-of : (e : Entry) → WellFormed commands e
-    → headOf commands (e .byte) + length (e .body) ≡ length (entryBytes commands e)
-unfolding entryBytes
-width-of e f =
-    by-bool (ltb (e .byte) commands)
-    (λ y. simp y (omega arith))
-    (λ y. let z : length (e .body) ≡ 0 = ap length (f (ltb-false (e .byte) commands y)) in simp y (omega arith))
 
 -- a move past the first of sound commands leads to the others
 pub one-past : (s : List ℕ) (at : ℕ) (e : Entry) (es : List Entry) → parse commands (drop at s) 0 ≡ sound (e ∷ es)
@@ -49,7 +38,7 @@ unfolding commandAt indexAfter nthIn nthOf listBytes AllWellFormed
 one-past s at e es h =
     let m = sound-exactly commands (drop at s) (e ∷ es) .0 h in
     let p : indexAfter s at ≡ at + length (entryBytes commands e) =
-    ap (λ (x : Parsed). indexPast at (nthIn commands at x 0)) h ∙ omega (arith, width-of e (m .1 .0)) in
+    ap (λ (x : Parsed). indexPast at (nthIn commands at x 0)) h ∙ omega (arith, width-of commands e (m .1 .0)) in
     let d : drop (at + length (entryBytes commands e)) s ≡ listBytes commands es =
     sym (drop-drop (length (entryBytes commands e)) at s) ∙ ap (drop (length (entryBytes commands e))) (sym (m .0))
     ∙ drop-append-seam (entryBytes commands e) (listBytes commands es) in (
@@ -72,7 +61,7 @@ next-from s at n = case (parse commands (drop at s) 0) refl
         ∙ sym (refused-from s at k e (suc n))
 
     case : (p : Parsed) → parse commands (drop at s) 0 ≡ p → nthFrom s (indexPast at (here 0)) n ≡ here (suc n)
-    case unsound e = stays 7 (ap (λ (x : Parsed). nthIn commands at x 0) e)
+    case (unsound i) e = stays 7 (ap (λ (x : Parsed). nthIn commands at x 0) e)
     case (sound []) e = stays 15 (ap (λ (x : Parsed). nthIn commands at x 0) e)
     case (sound (x ∷ es)) e =
         let o = one-past s at x es e in

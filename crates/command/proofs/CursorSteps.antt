@@ -7,7 +7,6 @@ use native.Mathlib.Nat.{add-zero}
 use native.Mathlib.Omega.{arith}
 use lib.ListN.{length, take, drop, length-append, length-drop, drop-of-length-le}
 use lib.Seq.{take-take, drop-drop, length-take-le}
-use denote.Ref.{RefT, now}
 use Rattle.lists.specs.Choice.{pick}
 use Rattle.command.specs.Entries.{Entry, commands, entryBytes, listBytes, Parsed, unsound, sound, parse, found}
 use Rattle.command.specs.Entries.{nthOf, nthIn, Extent}
@@ -15,7 +14,6 @@ use Rattle.answer.specs.Answer.{Answer, result, refused}
 use Rattle.command.specs.Answers.{partOf, InContents}
 use Rattle.command.specs.Commands.{isWrapper, nthCommand, shifted, inside, nthInside}
 use Rattle.command.specs.Traversal.{commandAt, indexPast, indexAfter, indexOf}
-use Rattle.command.specs.declared.cursor.CommandCursor.{CommandCursor}
 use Rattle.command.proofs.CursorMoves.{nthFrom, one-past, next-from}
 use Rattle.command.proofs.Extents.{within-command}
 use Rattle.command.proofs.Sound.{sound-exactly}
@@ -59,26 +57,11 @@ moves-add s (suc j) k at =
     let z : suc j + k ≡ suc (j + k) = omega arith in
     ap (λ (n : ℕ). indexOf s n at) z ∙ moves-add s j k (indexAfter s at)
 
--- Any row of cursors of which the first is as `new` ensures and each other as `advanced` ensures of the one before: the
--- k-th answers as the call with n = k does.
-pub run-answers : (s : RefT (List ℕ)) (row : ℕ → CommandCursor) → (row 0 .contents ≡ s) × (row 0 .at ≡ 0)
-    → ((k : ℕ) → (row (suc k) .contents ≡ row k .contents)
-    × (row (suc k) .at ≡ indexAfter (now (row k .contents)) (row k .at)))
-    → (k : ℕ) → commandAt (now (row k .contents)) (row k .at) ≡ nthCommand (now s) k
+-- one move more
+pub index-more : (s : List ℕ) (k at : ℕ) → indexOf s (suc k) at ≡ indexAfter s (indexOf s k at)
 unfolding indexOf
-run-answers s row first next k =
-    let r = stands k in ap (λ (c : RefT (List ℕ)). commandAt (now c) (row k .at)) (r .0) ∙ ap (commandAt (now s)) (r .1)
-    ∙ kth-step (now s) k
-  where
-    stands : (k : ℕ) → (row k .contents ≡ s) × (row k .at ≡ indexOf (now s) k 0)
-    stands zero = first
-    stands (suc k) =
-        let r = stands k in
-        let one : suc k ≡ k + 1 = omega arith in (
-          next k .0 ∙ r .0,
-          next k .1 ∙ ap (λ (c : RefT (List ℕ)). indexAfter (now c) (row k .at)) (r .0) ∙ ap (indexAfter (now s)) (r .1)
-              ∙ sym (ap (λ (n : ℕ). indexOf (now s) n 0) one ∙ moves-add (now s) k 1 0),
-        )
+index-more s k at =
+    let one : suc k ≡ k + 1 = omega arith in ap (λ (n : ℕ). indexOf s n at) one ∙ moves-add s k 1 at
 
 -- ---- refusals
 
@@ -106,10 +89,10 @@ end-always s es h k =
     (stands, ap (commandAt s) stands ∙ none)
 
 -- On an unsound list a new cursor answers 7 and stays at the start, however often it is moved.
-pub unsound-always : (s : List ℕ) → parse commands s 0 ≡ unsound → (k : ℕ)
+pub unsound-always : (s : List ℕ) (at : ℕ) → parse commands s 0 ≡ unsound at → (k : ℕ)
     → (indexOf s k 0 ≡ 0) × (commandAt s (indexOf s k 0) ≡ refused 7)
 unfolding nthCommand nthIn indexOf
-unsound-always s h k =
+unsound-always s at h k =
     let seven : (n : ℕ) → commandAt s (indexOf s n 0) ≡ refused 7 =
     λ n. kth-step s n ∙ ap (λ (p : Parsed). nthIn commands 0 p n) h in
     (refused-stays s 0 7 (seven 0) k, seven k)

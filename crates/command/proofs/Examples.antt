@@ -2,7 +2,8 @@
 use mathlib.Core.Path.{_≡_, refl}
 use mathlib.Core.Bool.{true, false}
 use mathlib.Core.List.{[], _∷_}
-use Rattle.command.specs.Entries.{entryBytes, withEntry, parse, found, nthOf, nthIn}
+use Rattle.command.specs.Entries.{commands, items, entryBytes, withEntry, parse, found, nthOf, nthIn}
+use Rattle.command.specs.Answers.{entryCount, failsAt, counted}
 use Rattle.answer.specs.Answer.{result, refused}
 use Rattle.command.specs.Commands.{nthCommand, inside, nthInside}
 use Rattle.command.specs.Traversal.{commandAt, indexAfter, indexOf}
@@ -30,7 +31,19 @@ pub examples :
 unfolding entryBytes withEntry parse nthOf nthIn nthCommand inside nthInside
 examples = (refl, refl, refl, refl, refl, refl, refl, refl, refl, refl, refl, refl)
 
--- the same of a command cursor
+-- the number of commands, and the place of the one that fails
+pub count-examples :
+    -- a short command and a wrapper, whose data is not looked into
+    (counted 0 (parse commands (0x80 ∷ 0x76 ∷ 0x01 ∷ 0x13 ∷ []) 0) ≡ entryCount 2)
+    -- a count that is missing, and one that goes beyond the end
+    × (counted 0 (parse commands (0x80 ∷ 0x20 ∷ 0x01 ∷ 0x05 ∷ 0x34 ∷ []) 0) ≡ failsAt 7 4)
+    × (counted 0 (parse commands (0x80 ∷ 0x20 ∷ 0x05 ∷ []) 0) ≡ failsAt 7 1)
+    -- the items of a reply, which begin at index 1
+    × (counted 1 (parse items (0x80 ∷ 0x00 ∷ 0x81 ∷ []) 0) ≡ failsAt 7 3)
+unfolding entryBytes withEntry parse counted
+count-examples = (refl, refl, refl, refl)
+
+-- what a command cursor answers
 pub cursor-examples :
     -- a short command, a wrapper, and then the end, where it stays
     (commandAt (0x80 ∷ 0x76 ∷ 0x02 ∷ 0x13 ∷ 0x00 ∷ []) 0 ≡ result (found 0x80 1 0))

@@ -66,7 +66,16 @@ nth-at limit at (d ∷ before) e rest =
     (add-assoc at (length (entryBytes limit d)) (length (listBytes limit before))
     ∙ ap (λ (n : ℕ). at + n) (sym (length-append (entryBytes limit d) (listBytes limit before))))
 
-body-at : (limit : ℕ) (p : List ℕ) (e : Entry) (r : List ℕ) → WellFormed limit e
+-- An entry's bytes are its byte, its count where it has one, and its data.
+pub width-of : (limit : ℕ) (e : Entry) → WellFormed limit e
+    → headOf limit (e .byte) + length (e .body) ≡ length (entryBytes limit e)
+unfolding entryBytes
+width-of limit e f =
+    by-bool (ltb (e .byte) limit)
+    (λ y. simp y (omega arith))
+    (λ y. let z : length (e .body) ≡ 0 = ap length (f (ltb-false (e .byte) limit y)) in simp y (omega arith))
+
+pub body-at : (limit : ℕ) (p : List ℕ) (e : Entry) (r : List ℕ) → WellFormed limit e
     → take (length (e .body)) (drop (length p + headOf limit (e .byte)) (p ++ (entryBytes limit e ++ r))) ≡ e .body
 unfolding entryBytes
 body-at limit p e r f =
@@ -76,7 +85,7 @@ body-at limit p e r f =
     (λ y. let q : e .body ≡ [] = f (ltb-false (e .byte) limit y) in
     (simp y) ∙ ap (λ (l : List ℕ). take (length l) r) q ∙ sym q)
 
-formed-one : (limit : ℕ) (before : List Entry) (e : Entry) (rest : List Entry)
+pub formed-one : (limit : ℕ) (before : List Entry) (e : Entry) (rest : List Entry)
     → AllWellFormed limit (before ++ (e ∷ rest)) → WellFormed limit e
 unfolding AllWellFormed
 formed-one limit [] e rest a = a .0
@@ -128,19 +137,22 @@ found-within limit at s n b start len h = case (parse limit (drop at s) 0) refl 
   where
     case : (p : Parsed) → parse limit (drop at s) 0 ≡ p → nthIn limit at p n ≡ result (found b start len)
         → start + len ≤ length s
-    case unsound e g = let w : _≡_ {A = ℕ} 0 1 = cc in absurd (omega arith)
+    case (unsound k) e g = let w : _≡_ {A = ℕ} 0 1 = cc in absurd (omega arith)
     case (sound es) e g =
         let m = parse-means limit (drop at s) 0 es e in
         let r = nth-within limit at es n b start len (m .2) g in
         omega (arith, ap length (m .1), length-drop at s)
 
+pub within-nth : (limit at : ℕ) (s : List ℕ) (n : ℕ) → InContents s (nthIn limit at (parse limit (drop at s) 0) n)
+within-nth limit at s n = case (nthIn limit at (parse limit (drop at s) 0) n) refl
+  where
+    case : (a : Answer Extent) → nthIn limit at (parse limit (drop at s) 0) n ≡ a → InContents s a
+    case (result (found b start len)) e = found-within limit at s n b start len e
+    case (refused k) e = tt
+
 pub within-command : (s : List ℕ) (n : ℕ) → InContents s (nthCommand s n)
 unfolding nthCommand
-within-command s n = case (nthIn commands 0 (parse commands s 0) n) refl
-  where
-    case : (a : Answer Extent) → nthIn commands 0 (parse commands s 0) n ≡ a → InContents s a
-    case (result (found b start len)) e = found-within commands 0 s n b start len e
-    case (refused k) e = tt
+within-command s n = within-nth commands 0 s n
 
 within-shifted : (s : List ℕ) (start len : ℕ) → start + len ≤ length s → (a : Answer Extent)
     → InContents (take len (drop start s)) a → InContents s (shifted start a)

@@ -11,16 +11,12 @@ use Rattle.answer.specs.Refusals.{numberOf}
 use Rattle.answer.specs.declared.Refusal.{Refusal}
 use Rattle.command.specs.Entries.{found, Extent}
 use Rattle.answer.specs.Answer.{Answer, result, refused}
-use Rattle.command.specs.Answers.{foundMeans, partOf, InContents}
+use Rattle.command.specs.Answers.{foundMeans, InContents}
 use Rattle.command.specs.Commands.{isWrapper, nthCommand, shifted, inside, nthInside}
 use Rattle.command.specs.Private.{IndexFits}
 use Rattle.command.specs.declared.entries.Found.{Found}
 use Rattle.command.specs.declared.entries.Found.the-variants.{At, Refused}
 use Rattle.command.proofs.Extents.{within-command}
-
-pub part-is : (s : List ℕ) (f : Found) (b start len : ℕ) → f ≡ At b start len
-    → take len (drop start s) ≡ partOf s (foundMeans f)
-part-is s f b start len e = ap (λ (x : Found). partOf s (foundMeans x)) (sym e)
 
 pub part-fits : (s : List ℕ) (f : Found) (b start len : ℕ) → f ≡ At b start len → InContents s (foundMeans f)
     → start + len ≤ length s

@@ -1,6 +1,9 @@
 pub mod EntryLaws
 pub mod Sound
 pub mod Extents
+pub mod PartLaws
+pub mod Table
+pub mod StepTable
 pub mod InnerLaws
 pub mod Called
 pub mod CursorMoves
@@ -9,4 +12,6 @@ pub mod Held
 pub mod Thin
 pub mod StopLaws
 pub mod Stops
+pub mod Calls
+pub mod CursorCalls
 pub mod Examples

@@ -4,20 +4,20 @@ use mathlib.Core.Path.{_≡_, refl, sym, ap, _∙_, subst}
 use mathlib.Core.Bool.{true, false, true≢false}
 use mathlib.Core.List.{List, [], _∷_, _++_}
 use native.Mathlib.Omega.{arith}
-use lib.Dec.{ltb}
+use lib.Dec.{leb, ltb}
 use lib.ListN.{length, take, drop, length-append, take-append-drop}
 use lib.Seq.{length-take-le, take-append-seam, drop-append-seam}
-use borrow.Author.Tests.{ltb-false, le-ltb}
+use borrow.Author.Tests.{ltb-false, le-ltb, le-leb}
 use Rattle.lists.proofs.Cases.{by-bool}
 use Rattle.command.specs.Entries.{Entry, entry, entryBytes, listBytes, WellFormed, AllWellFormed, Parsed, unsound}
 use Rattle.command.specs.Entries.{sound, withEntry, parse}
 use Rattle.command.proofs.EntryLaws.{skip-within}
 
-put-inv : (e : Entry) (p : Parsed) (es : List Entry) → withEntry e p ≡ sound es
+put-inv : (limit : ℕ) (e : Entry) (p : Parsed) (es : List Entry) → withEntry limit e p ≡ sound es
     → (fs : List Entry) × (p ≡ sound fs) × (es ≡ e ∷ fs)
 unfolding withEntry
-put-inv e unsound es h = let w : _≡_ {A = ℕ} 0 1 = cc in absurd (omega arith)
-put-inv e (sound fs) es h = let q : es ≡ e ∷ fs = cc in (fs, refl, q)
+put-inv limit e (unsound k) es h = let w : _≡_ {A = ℕ} 0 1 = cc in absurd (omega arith)
+put-inv limit e (sound fs) es h = let q : es ≡ e ∷ fs = cc in (fs, refl, q)
 
 -- the entries' bytes are the bytes after those to be passed
 abbrev Means : (limit : ℕ) → List ℕ → ℕ → List Entry → Type 0
@@ -52,34 +52,43 @@ parse-means limit [] (suc k) es h = let w : _≡_ {A = ℕ} 0 1 = cc in absurd (
 parse-means limit (x ∷ s) (suc k) es h = let m = parse-means limit s k es h in (omega arith, m .1, m .2)
 parse-means limit (b ∷ []) zero es h =
     by-bool (ltb b limit)
-    (λ y. let q : unsound ≡ sound es = simp y at h in let w : _≡_ {A = ℕ} 0 1 = cc in absurd (omega arith))
-    (λ y. let p = put-inv (entry b []) (parse limit [] 0) es (simp y at h) in
+    (λ y. let q : unsound 0 ≡ sound es = simp y at h in let w : _≡_ {A = ℕ} 0 1 = cc in absurd (omega arith))
+    (λ y. let p = put-inv limit (entry b []) (parse limit [] 0) es (simp y at h) in
     let m = short-means limit b [] y (p .0) es (parse-means limit [] zero (p .0) (p .1)) (p .2) in
     (omega arith, m .0, m .1))
 parse-means limit (b ∷ n ∷ s) zero es h =
     by-bool (ltb b limit)
-    (λ y. let p = put-inv (entry b (take n s)) (parse limit s n) es (simp y at h) in
+    (λ y. by-bool (leb n (length s))
+    (λ z. let p = put-inv limit (entry b (take n s)) (parse limit s n) es (simp (y, z) at h) in
     let m = counted-means limit b n s y (p .0) es (parse-means limit s n (p .0) (p .1)) (p .2) in
     (omega arith, m .0, m .1))
-    (λ y. let p = put-inv (entry b []) (parse limit (n ∷ s) 0) es (simp y at h) in
+    (λ z. let q : unsound 0 ≡ sound es = simp (y, z) at h in let w : _≡_ {A = ℕ} 0 1 = cc in absurd (omega arith)))
+    (λ y. let p = put-inv limit (entry b []) (parse limit (n ∷ s) 0) es (simp y at h) in
     let m = short-means limit b (n ∷ s) y (p .0) es (parse-means limit (n ∷ s) zero (p .0) (p .1)) (p .2) in
     (omega arith, m .0, m .1))
 
+-- The bytes of a well-formed entry, and any bytes after them.
+pub parse-entry : (limit : ℕ) (e : Entry) (rest : List ℕ) → WellFormed limit e
+    → parse limit (entryBytes limit e ++ rest) 0 ≡ withEntry limit e (parse limit rest 0)
+unfolding parse entryBytes
+parse-entry limit e rest f =
+    by-bool (ltb (e .byte) limit)
+    (λ y. let n = length (e .body) in
+    let fits : n ≤ length (e .body ++ rest) = omega (arith, length-append (e .body) rest) in
+    (simp (y, le-leb n (length (e .body ++ rest)) fits))
+    ∙ ap (λ (x : List ℕ). withEntry limit (entry (e .byte) x) (parse limit (e .body ++ rest) n))
+    (take-append-seam (e .body) rest)
+    ∙ ap (withEntry limit e) (skip-within limit n (e .body ++ rest) fits
+    ∙ ap (λ (x : List ℕ). parse limit x 0) (drop-append-seam (e .body) rest)))
+    (λ y. let q : e .body ≡ [] = f (ltb-false (e .byte) limit y) in
+    (simp y) ∙ ap (λ (x : List ℕ). withEntry limit (entry (e .byte) x) (parse limit rest 0)) (sym q))
+
 -- The bytes of well-formed entries are parsed as those entries.
 pub parse-wire : (limit : ℕ) (es : List Entry) → AllWellFormed limit es → parse limit (listBytes limit es) 0 ≡ sound es
-unfolding parse listBytes entryBytes AllWellFormed withEntry
+unfolding parse listBytes AllWellFormed withEntry
 parse-wire limit [] f = refl
 parse-wire limit (e ∷ es) f =
-    by-bool (ltb (e .byte) limit)
-    (λ y. let rest = listBytes limit es in
-    let n = length (e .body) in
-    (simp y) ∙ ap (λ (x : List ℕ). withEntry (entry (e .byte) x) (parse limit (e .body ++ rest) n))
-    (take-append-seam (e .body) rest)
-    ∙ ap (withEntry e) (skip-within limit n (e .body ++ rest) (omega (arith, length-append (e .body) rest))
-    ∙ ap (λ (x : List ℕ). parse limit x 0) (drop-append-seam (e .body) rest) ∙ parse-wire limit es (f .1)))
-    (λ y. let q : e .body ≡ [] = f .0 (ltb-false (e .byte) limit y) in
-    (simp y) ∙ ap (λ (x : List ℕ). withEntry (entry (e .byte) x) (parse limit (listBytes limit es) 0)) (sym q)
-    ∙ ap (withEntry e) (parse-wire limit es (f .1)))
+    parse-entry limit e (listBytes limit es) (f .0) ∙ ap (withEntry limit e) (parse-wire limit es (f .1))
 
 -- Bytes are sound, as a list of entries, exactly when they are the bytes of those entries, each well formed, one after
 -- the other.

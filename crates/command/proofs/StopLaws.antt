@@ -14,12 +14,12 @@ use Rattle.command.specs.Stop.{anyOf, anyIn, isOneTwo}
 module _ (p : Entry → Bool) where
   -- An entry that passes was found before, or is one of those that follow, and what follows is sound.
   unfoldable pub foundSoFar : Bool → Parsed → Bool
-  foundSoFar t unsound = false
+  foundSoFar t (unsound at) = false
   foundSoFar t (sound es) = pick t true (anyOf p es)
 
   pub found-start : (q : Parsed) → foundSoFar false q ≡ anyIn p q
   unfolding foundSoFar anyIn
-  found-start unsound = refl
+  found-start (unsound at) = refl
   found-start (sound es) = refl
 
   pub found-end : (t : Bool) (q : Parsed) → q ≡ sound [] → t ≡ foundSoFar t q
@@ -30,23 +30,23 @@ module _ (p : Entry → Bool) where
       alone true = refl
       alone false = refl
 
-  pub found-broken : (t : Bool) (q : Parsed) → q ≡ unsound → false ≡ foundSoFar t q
+  pub found-broken : (t : Bool) (q : Parsed) → q ≡ unsound 0 → false ≡ foundSoFar t q
   unfolding foundSoFar
   found-broken t q e = ap (foundSoFar t) (sym e)
 
   -- an entry more, one that passes or one that does not
-  pub found-here : (t : Bool) (e : Entry) (q r : Parsed) → q ≡ withEntry e r → p e ≡ true
+  pub found-here : (t : Bool) (limit : ℕ) (e : Entry) (q r : Parsed) → q ≡ withEntry limit e r → p e ≡ true
       → foundSoFar true r ≡ foundSoFar t q
   unfolding foundSoFar anyOf withEntry
-  found-here t e q unsound h y = ap (foundSoFar t) (sym h)
-  found-here true e q (sound es) h y = ap (foundSoFar true) (sym h)
-  found-here false e q (sound es) h y = sym (simp y) ∙ ap (foundSoFar false) (sym h)
+  found-here t limit e q (unsound at) h y = ap (foundSoFar t) (sym h)
+  found-here true limit e q (sound es) h y = ap (foundSoFar true) (sym h)
+  found-here false limit e q (sound es) h y = sym (simp y) ∙ ap (foundSoFar false) (sym h)
 
-  pub found-later : (t : Bool) (e : Entry) (q r : Parsed) → q ≡ withEntry e r → p e ≡ false
+  pub found-later : (t : Bool) (limit : ℕ) (e : Entry) (q r : Parsed) → q ≡ withEntry limit e r → p e ≡ false
       → foundSoFar t r ≡ foundSoFar t q
   unfolding foundSoFar anyOf withEntry
-  found-later t e q unsound h n = ap (foundSoFar t) (sym h)
-  found-later t e q (sound es) h n =
+  found-later t limit e q (unsound at) h n = ap (foundSoFar t) (sym h)
+  found-later t limit e q (sound es) h n =
       ap (λ (x : Bool). pick t true (pick x true (anyOf p es))) (sym n) ∙ ap (foundSoFar t) (sym h)
 
 -- ---- data 01 02

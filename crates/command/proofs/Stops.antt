@@ -11,6 +11,7 @@ use Rattle.lists.proofs.Cases.{by-bool, both-true}
 use Rattle.command.specs.Entries.{Entry, commands, Parsed, unsound, sound, parse}
 use Rattle.command.specs.Stop.{anyOf, anyIn, isOneTwo, terminates, stopsWithin, stopsWorkout, Among, first, later}
 use Rattle.command.specs.Stop.{StopsWorkout}
+use Rattle.command.proofs.Table.{sound-list, list-sound}
 
 -- ---- an entry that passes a test
 
@@ -35,7 +36,7 @@ module _ (p : Entry → Bool) where
 
   any-sound : (q : Parsed) → anyIn p q ≡ true → (es : List Entry) × (q ≡ sound es) × (anyOf p es ≡ true)
   unfolding anyIn
-  any-sound unsound h = absurd (false≢true h)
+  any-sound (unsound at) h = absurd (false≢true h)
   any-sound (sound es) h = (es, refl, h)
 
   sound-any : (q : Parsed) (es : List Entry) → q ≡ sound es → anyOf p es ≡ true → anyIn p q ≡ true
@@ -78,12 +79,12 @@ found-stop contents h =
     let d = is-terminate (c .0) (c .2) in
     record {
       top = t .0;
-      is-sound = t .1;
+      is-sound = sound-list commands contents (t .0) (t .1);
       wrapper = w .0;
       at-top = w .1;
       is-76 = eqb-true (w .0 .byte) 0x76 (k .0);
       inner = i .0;
-      inner-sound = i .1;
+      inner-sound = sound-list commands (w .0 .body) (i .0) (i .1);
       command = c .0;
       inside = c .1;
       is-13 = d .0;
@@ -96,9 +97,10 @@ stop-found contents s =
     let c : anyOf terminates (s .inner) ≡ true =
     among-any terminates (s .inside) (terminate-is (s .command) (s .is-13) (s .data-is)) in
     let i : anyIn terminates (parse commands (s .wrapper .body) 0) ≡ true =
-    sound-any terminates (parse commands (s .wrapper .body) 0) (s .inner) (s .inner-sound) c in
+    sound-any terminates (parse commands (s .wrapper .body) 0) (s .inner) (list-sound (s .inner-sound)) c in
     let w : stopsWithin (s .wrapper) ≡ true = simp (eq-eqb (s .wrapper .byte) 0x76 (s .is-76), i) in
-    sound-any stopsWithin (parse commands contents 0) (s .top) (s .is-sound) (among-any stopsWithin (s .at-top) w)
+    sound-any stopsWithin (parse commands contents 0) (s .top) (list-sound (s .is-sound))
+    (among-any stopsWithin (s .at-top) w)
 
 pub stops-exactly : (contents : List ℕ)
     → (stopsWorkout contents ≡ true → StopsWorkout contents) × (StopsWorkout contents → stopsWorkout contents ≡ true)

@@ -25,11 +25,17 @@ abbrev pub InContents : List ℕ → Answer Extent → Type 0
 InContents s (result (found b start len)) = start + len ≤ length s
 InContents s (refused n) = Unit {0}
 
-abbrev pub countedMeans : Counted → Answer ℕ
-countedMeans Unsound = refused (numberOf BadCount)
-countedMeans (Entries n) = result n
+-- What counting entries tells: how many there are, or a refusal's number and the index of the byte of the entry that
+-- fails.
+pub data CountAnswer : Type 0 where
+  entryCount : (n : ℕ) → CountAnswer
+  failsAt : (number at : ℕ) → CountAnswer
 
--- The number of entries: 7 where a count is unsound.
-unfoldable pub counted : Parsed → Answer ℕ
-counted unsound = refused 7
-counted (sound es) = result (length es)
+abbrev pub countedMeans : Counted → CountAnswer
+countedMeans (Unsound at) = failsAt (numberOf BadCount) at
+countedMeans (Entries n) = entryCount n
+
+-- The number of entries, the first of which stands at index `from`: 7 where a count is unsound.
+unfoldable pub counted : (from : ℕ) → Parsed → CountAnswer
+counted from (unsound at) = failsAt 7 (from + at)
+counted from (sound es) = entryCount (length es)

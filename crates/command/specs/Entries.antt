@@ -3,7 +3,7 @@
 use Prim.Native.Nat.{ℕ, zero, suc, _+_, _≤_}
 use mathlib.Core.Path.{_≡_}
 use mathlib.Core.List.{List, [], _∷_, _++_}
-use lib.Dec.{ltb}
+use lib.Dec.{leb, ltb}
 use lib.ListN.{length, take}
 use Rattle.lists.specs.Choice.{pick, Every}
 use Rattle.answer.specs.Answer.{Answer, result, refused}
@@ -39,28 +39,31 @@ WellFormed limit e = limit ≤ e .byte → e .body ≡ []
 unfoldable pub AllWellFormed : ℕ → List Entry → Type 0
 AllWellFormed limit es = Every (WellFormed limit) es
 
--- What bytes are as a list of entries: unsound where a count is missing or goes beyond the end.
+-- What bytes are as a list of entries: unsound where a count is missing or goes beyond the end. The index is that of
+-- the byte of the entry whose count it is.
 pub data Parsed : Type 0 where
-  unsound : Parsed
+  unsound : (at : ℕ) → Parsed
   sound : List Entry → Parsed
 
-unfoldable pub withEntry : Entry → Parsed → Parsed
-withEntry e unsound = unsound
-withEntry e (sound es) = sound (e ∷ es)
+-- An entry, and after it what the bytes that follow are.
+unfoldable pub withEntry : ℕ → Entry → Parsed → Parsed
+withEntry limit e (unsound at) = unsound (length (entryBytes limit e) + at)
+withEntry limit e (sound es) = sound (e ∷ es)
 
 -- The entries of bytes, of which `skip` data bytes of the entry before are still to be passed.
 unfoldable mutual
   pub parse : (limit : ℕ) → List ℕ → (skip : ℕ) → Parsed
   parse limit [] zero = sound []
-  parse limit [] (suc k) = unsound
+  parse limit [] (suc k) = unsound 0
   parse limit (x ∷ xs) (suc k) = parse limit xs k
   parse limit (b ∷ xs) zero =
-      pick (ltb b limit) (parseCounted limit xs b) (withEntry (entry b []) (parse limit xs zero))
+      pick (ltb b limit) (parseCounted limit xs b) (withEntry limit (entry b []) (parse limit xs zero))
 
   -- the same where the byte b comes before, and is followed by a count
   pub parseCounted : (limit : ℕ) → List ℕ → (b : ℕ) → Parsed
-  parseCounted limit [] b = unsound
-  parseCounted limit (n ∷ xs) b = withEntry (entry b (take n xs)) (parse limit xs n)
+  parseCounted limit [] b = unsound 0
+  parseCounted limit (n ∷ xs) b =
+      pick (leb n (length xs)) (withEntry limit (entry b (take n xs)) (parse limit xs n)) (unsound 0)
 
 -- ---- the n-th entry and its index
 
@@ -80,5 +83,5 @@ nthOf limit at (e ∷ es) (suc n) = nthOf limit (at + length (entryBytes limit e
 
 -- All counts first (7), then whether there is an n-th (15).
 unfoldable pub nthIn : (limit at : ℕ) → Parsed → ℕ → Answer Extent
-nthIn limit at unsound n = refused 7
+nthIn limit at (unsound k) n = refused 7
 nthIn limit at (sound es) n = nthOf limit at es n

@@ -9,7 +9,7 @@ use Rattle.command.specs.declared.stop.Sought.the-variants.{Wrapper, Ter
 
 -- An answer, where what follows is sound.
 unfoldable pub ifSound : Parsed → Answer Extent → Answer Extent
-ifSound unsound a = refused 7
+ifSound (unsound at) a = refused 7
 ifSound (sound es) a = a
 
 -- An index further on by a number is still a usize.

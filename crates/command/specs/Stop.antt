@@ -7,6 +7,7 @@ use Prim.Native.Nat.{ℕ}
 use lib.Dec.{eqb}
 use Rattle.lists.specs.Choice.{pick}
 use Rattle.command.specs.Entries.{Entry, commands, Parsed, unsound, sound, parse}
+use Rattle.command.specs.Table.{SoundList}
 
 -- ---- as a test
 
@@ -17,7 +18,7 @@ anyOf p (e ∷ es) = pick (p e) true (anyOf p es)
 
 -- Whether an entry of what bytes are read as passes a test; no entry of an unsound list does.
 unfoldable pub anyIn : (Entry → Bool) → Parsed → Bool
-anyIn p unsound = false
+anyIn p (unsound at) = false
 anyIn p (sound es) = anyOf p es
 
 -- Data that is exactly 01 02.
@@ -39,7 +40,7 @@ stopsWithin e = pick (eqb (e .byte) 0x76) (anyIn terminates (parse commands (e .
 unfoldable pub stopsWorkout : List ℕ → Bool
 stopsWorkout contents = anyIn stopsWithin (parse commands contents 0)
 
--- ---- as document 01 says it
+-- ---- as document 01 says it, with none of the test's definitions
 
 -- An entry stands in a list.
 pub data Among : Entry → List Entry → Type 0 where
@@ -48,12 +49,12 @@ pub data Among : Entry → List Entry → Type 0 where
 
 pub record StopsWorkout (contents : List ℕ) : Type 0 where
   pub top : List Entry
-  pub is-sound : parse commands contents 0 ≡ sound top
+  pub is-sound : SoundList commands contents top
   pub wrapper : Entry
   pub at-top : Among wrapper top
   pub is-76 : wrapper .byte ≡ 0x76
   pub inner : List Entry
-  pub inner-sound : parse commands (wrapper .body) 0 ≡ sound inner
+  pub inner-sound : SoundList commands (wrapper .body) inner
   pub command : Entry
   pub inside : Among command inner
   pub is-13 : command .byte ≡ 0x13

@@ -3,7 +3,8 @@
 use crate::entries::Found;
 use crate::traversal;
 ghost use mathlib.Core.Path.{_≡_};
-ghost use Rattle.command.specs.Answers.{foundMeans, partOf};
+ghost use Rattle.command.specs.Answers.{foundMeans};
+ghost use Rattle.command.specs.Parts.{IsData};
 ghost use Rattle.command.specs.Commands.{nthCommand};
 ghost use Rattle.command.specs.Traversal.{commandAt, indexAfter};
 
@@ -34,11 +35,11 @@ impl<'a> CommandCursor<'a> {
         traversal::command_at(self.contents, self.at)
     }
 
-    // The data of the command at the cursor's index, a part of the contents; empty where `command` refuses.
+    // The data of the command at the cursor's index, the part of the contents where it stands; empty and at the
+    // beginning where `command` refuses.
     pub fn data(self) -> &'a [u8]
         ensures { λ r.
-            ⌜ now r
-            ≡ partOf (now (self .entry .contents)) (commandAt (now (self .entry .contents)) (self .entry .at)) ⌝ }
+            ⌜ IsData (self .entry .contents) r (commandAt (now (self .entry .contents)) (self .entry .at)) ⌝ }
     {
         traversal::data_at(self.contents, self.at)
     }

@@ -5,7 +5,8 @@ ghost use mathlib.Core.Path.{_≡_};
 ghost use lib.ListN.{take, drop};
 ghost use Rattle.command.specs.Entries.{parse, nthIn, found};
 ghost use Rattle.command.specs.Answers.{foundMeans, countedMeans, partOf, counted};
-ghost use Rattle.command.specs.Steps.{stepAt};
+ghost use Rattle.command.specs.Parts.{StandsAt, placeIn, startOf};
+ghost use Rattle.command.specs.Steps.{stepMeans, stepAt};
 ghost use Rattle.command.specs.Private.{ifSound};
 
 // Command bytes below this have a count.
@@ -16,7 +17,8 @@ pub struct Cursor {
     pub at: usize,
 }
 
-// What stands at a cursor: an entry's byte, where its data starts, how long it is, and the cursor after it.
+// What stands at a cursor: an entry's byte, where its data starts, how long it is, and the cursor after it. `Broken` is
+// an entry whose count is missing or goes beyond the end.
 pub enum Step {
     End,
     Broken,
@@ -34,16 +36,17 @@ pub enum Found {
     Refused(Refusal),
 }
 
-// How many entries there are, where all counts are sound.
+// How many entries there are, where all counts are sound; else the index in the contents of the byte of the entry that
+// fails.
 pub enum Counted {
-    Unsound,
+    Unsound { at: usize },
     Entries(usize),
 }
 
 impl Cursor {
     // One step is one entry.
     pub fn step(self, limit: usize, s: &[u8]) -> Step
-        ensures { λ r. ⌜ r ≡ stepAt limit (now (s .entry)) (self .at) ⌝ }
+        ensures { λ r. ⌜ stepMeans r ≡ stepAt limit (now (s .entry)) (self .at) ⌝ }
     {
         let at = self.at;
         if s.len() <= at {
@@ -77,7 +80,7 @@ impl Cursor {
 
 // How many entries there are from a cursor on.
 pub fn count(limit: usize, s: &[u8], from: Cursor) -> Counted
-    ensures { λ r. ⌜ countedMeans r ≡ counted (parse limit (drop (from .at) (now (s .entry))) 0) ⌝ }
+    ensures { λ r. ⌜ countedMeans r ≡ counted (from .at) (parse limit (drop (from .at) (now (s .entry))) 0) ⌝ }
 {
     let mut cursor = from;
     let mut n: usize = 0;
@@ -88,7 +91,7 @@ pub fn count(limit: usize, s: &[u8], from: Cursor) -> Counted
                 return Counted::Entries(n);
             }
             Step::Broken => {
-                return Counted::Unsound;
+                return Counted::Unsound { at: cursor.at };
             }
             Step::Entry {
                 byte: _,
@@ -141,17 +144,19 @@ fn if_sound(limit: usize, s: &[u8], from: Cursor, found: Found) -> Found
 {
     let rest = count(limit, s, from);
     match rest {
-        Counted::Unsound => Found::Refused(Refusal::BadCount),
+        Counted::Unsound { at: _ } => Found::Refused(Refusal::BadCount),
         Counted::Entries(_) => found,
     }
 }
 
-// The part of a slice that starts at an index and is so long, as far as the slice goes.
+// The part of a slice that starts at an index and is so long, as far as the slice goes. An empty part stands at its
+// index too. An index past the end has no place in the slice: the empty part then stands at the beginning.
 pub fn part(s: &[u8], start: usize, len: usize) -> &[u8]
-    ensures { λ r. ⌜ now r ≡ take len (drop start (now (s .entry))) ⌝ }
+    ensures { λ r.
+        ⌜ StandsAt (s .entry) r (placeIn (now (s .entry)) start) (take len (drop start (now (s .entry)))) ⌝ }
 {
     let all = s.len();
-    if all <= start {
+    if all < start {
         return &s[..0];
     }
     if all - start <= len {
@@ -160,9 +165,11 @@ pub fn part(s: &[u8], start: usize, len: usize) -> &[u8]
     &s[start..start + len]
 }
 
-// The part of the contents that an answer names; empty for a refusal.
+// The part of the contents that an answer names; empty and at the beginning for a refusal.
 pub fn found_part(s: &[u8], found: Found) -> &[u8]
-    ensures { λ r. ⌜ now r ≡ partOf (now (s .entry)) (foundMeans found) ⌝ }
+    ensures { λ r.
+        ⌜ StandsAt (s .entry) r (placeIn (now (s .entry)) (startOf (foundMeans found)))
+        (partOf (now (s .entry)) (foundMeans found)) ⌝ }
 {
     match found {
         Found::At {

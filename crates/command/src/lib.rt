@@ -14,7 +14,8 @@ ghost use Prim.Native.Nat.{_+_, _≤_};
 ghost use lib.ListN.{length};
 ghost use Rattle.answer.specs.Answer.{result};
 ghost use Rattle.command.specs.Entries.{found};
-ghost use Rattle.command.specs.Answers.{foundMeans, partOf};
+ghost use Rattle.command.specs.Answers.{foundMeans};
+ghost use Rattle.command.specs.Parts.{IsData};
 ghost use Rattle.command.specs.Commands.{isWrapper, nthCommand, shifted, inside, nthInside};
 ghost use Rattle.command.specs.Private.{IndexFits};
 
@@ -26,9 +27,10 @@ pub fn nth(contents: &[u8], n: usize) -> Found
     entries::nth(entries::COMMANDS, contents, from, n)
 }
 
-// The data of the n-th command; empty where `nth` refuses.
+// The data of the n-th command, the part of the contents where it stands; empty and at the beginning where `nth`
+// refuses.
 pub fn nth_data(contents: &[u8], n: usize) -> &[u8]
-    ensures { λ r. ⌜ now r ≡ partOf (now (contents .entry)) (nthCommand (now (contents .entry)) n) ⌝ }
+    ensures { λ r. ⌜ IsData (contents .entry) r (nthCommand (now (contents .entry)) n) ⌝ }
 {
     let found = nth(contents, n);
     entries::found_part(contents, found)
@@ -45,9 +47,10 @@ pub fn nth_inside(contents: &[u8], w: usize, n: usize) -> Found
     }
 }
 
-// The data of the n-th command inside the w-th; empty where `nth_inside` refuses.
+// The data of the n-th command inside the w-th, the part of the contents where it stands; empty and at the beginning
+// where `nth_inside` refuses.
 pub fn nth_inside_data(contents: &[u8], w: usize, n: usize) -> &[u8]
-    ensures { λ r. ⌜ now r ≡ partOf (now (contents .entry)) (nthInside (now (contents .entry)) w n) ⌝ }
+    ensures { λ r. ⌜ IsData (contents .entry) r (nthInside (now (contents .entry)) w n) ⌝ }
 {
     let found = nth_inside(contents, w, n);
     entries::found_part(contents, found)

@@ -3,7 +3,8 @@ use crate::entries;
 use crate::entries::Cursor;
 use crate::entries::Found;
 ghost use mathlib.Core.Path.{_≡_};
-ghost use Rattle.command.specs.Answers.{foundMeans, partOf};
+ghost use Rattle.command.specs.Answers.{foundMeans};
+ghost use Rattle.command.specs.Parts.{IsData};
 ghost use Rattle.command.specs.Traversal.{commandAt, indexAfter};
 
 // The command at an index. The counts from there on are checked first. Refusals 7 and 15; at the end and past it 15.
@@ -14,9 +15,10 @@ pub fn command_at(contents: &[u8], at: usize) -> Found
     entries::nth(entries::COMMANDS, contents, from, 0)
 }
 
-// The data of the command at an index; empty where `command_at` refuses.
+// The data of the command at an index, the part of the contents where it stands; empty and at the beginning where
+// `command_at` refuses.
 pub fn data_at(contents: &[u8], at: usize) -> &[u8]
-    ensures { λ r. ⌜ now r ≡ partOf (now (contents .entry)) (commandAt (now (contents .entry)) at) ⌝ }
+    ensures { λ r. ⌜ IsData (contents .entry) r (commandAt (now (contents .entry)) at) ⌝ }
 {
     let found = command_at(contents, at);
     entries::found_part(contents, found)

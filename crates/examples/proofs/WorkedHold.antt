@@ -7,13 +7,13 @@ use Rattle.frame.specs.Frame.{contentsOf, addressesOf, payload, wireOf}
 use Rattle.frame.specs.Verdict.{frameIn, judgeBytes, judge, isTerminated, verdict}
 use Rattle.frame.specs.Answers.{frameDraft}
 use Rattle.command.specs.Entries.{withEntry, parse}
-use Rattle.reply.specs.Status.{soundStatus, statusIn}
+use Rattle.reply.specs.Status.{isState, statusOf, statusIn}
 use Rattle.reply.specs.Replies.{headIn, afterStatus, replyIn}
 use Rattle.lease.specs.Lease.{stopFrame, answerOf, heldAfter}
 use Rattle.examples.specs.Worked.{AllHold, markedExamples}
 
 pub examples-hold : AllHold markedExamples
 unfolding noneOf stuffByte stuff prepend unstuff sumFrom contentsOf addressesOf payload wireOf frameIn
-    judgeBytes judge isTerminated verdict frameDraft withEntry parse soundStatus statusIn headIn afterStatus replyIn
-    stopFrame answerOf heldAfter
+    judgeBytes judge isTerminated verdict frameDraft withEntry parse isState statusOf statusIn headIn afterStatus
+    replyIn stopFrame answerOf heldAfter
 examples-hold = (refl, (refl, (refl, (refl, (refl, (refl, (refl, (refl, (refl, (refl, (refl, (refl, tt))))))))))))

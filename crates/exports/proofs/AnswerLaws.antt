@@ -65,7 +65,7 @@ pub read-short : (w : List ℕ) (room : ℕ) → ReadShort (readAnswer (verdict 
 unfolding readAnswer contentsOf
 read-short w room = of-verdict (verdict w) refl
   where
-    of-frame : (f : Frame) → length (contentsOf f) ≤ 118 → ReadShort (readAnswer (result f) room)
+    of-frame : (f : Frame) → length (contentsOf f) ≤ 117 → ReadShort (readAnswer (result f) room)
     of-frame (standard c) h = by-bool (leb (length c) room) (λ y. simp y (omega (arith, h))) (λ y. simp y tt)
     of-frame (extended to from c) h = by-bool (leb (length c) room) (λ y. simp y (omega (arith, h))) (λ y. simp y tt)
 

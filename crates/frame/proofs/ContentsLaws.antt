@@ -3,9 +3,9 @@ use borrow.Author.Tests.{leb-true}
 use lib.ListN.{length-drop, length, getD, take, drop, length-append, take-append-drop}
 use Rattle.frame.specs.Verdict.{judge, judgeBytes, frameIn, addressCount, lastOf, contentsIn, Verdict, bodyOf}
 use Rattle.frame.specs.Verdict.{isTerminated, verdict}
-use Rattle.frame.specs.Flags.{kindOf}
+use Rattle.frame.specs.Flags.{kindOf, flagless, candidateOf}
 use Rattle.answer.specs.Answer.{result, refused}
-use Prim.Native.Nat.{_-_, ℕ, _+_, _≤_}
+use Prim.Native.Nat.{_-_, ℕ, _+_, _≤_, _<_}
 use lib.Dec.{leb, eqb}
 use Rattle.lists.proofs.Cases.{by-bool}
 use Rattle.frame.specs.Stuffing.{Unstuffed, badEscape, bytes, unstuff}
@@ -21,10 +21,10 @@ use Rattle.lists.proofs.Lists.{back-in}
 use Rattle.frame.specs.Checksum.{checksum}
 use Rattle.frame.specs.Frame.{Frame, contentsOf, standard, extended}
 use Rattle.frame.specs.Answers.{leftIn, judgeAnswer, frameRead}
-use Rattle.frame.specs.Private.{frameOf, unstuffedBytes, SoundAt}
+use Rattle.frame.specs.Private.{frameOf, unstuffedBytes, SoundAt, judgeWhole}
 use Rattle.frame.specs.declared.Kind.{Kind}
 use Rattle.frame.specs.declared.Header.{Header}
-use Rattle.frame.proofs.VerdictLaws.{contents-of}
+use Rattle.frame.proofs.VerdictLaws.{contents-of, candidate-verdict}
 
 -- ---- the stuffed contents and checksum of a sound body
 
@@ -102,14 +102,17 @@ left-part (result f) s last n h l e =
 take-shorter : (n : ℕ) (s : List ℕ) → length (take n s) ≤ length s
 take-shorter n s = omega (arith, ap length (take-append-drop n s), length-append (take n s) (drop n s))
 
-frame-shorter : (kind : Kind) (u : List ℕ) → length (contentsOf (frameIn kind u)) ≤ length u
+-- the contents are fewer than the bytes, of which the last is the checksum
+frame-shorter : (kind : Kind) (u : List ℕ) → addressCount kind + 1 ≤ length u
+    → length (contentsOf (frameIn kind u)) < length u
 unfolding contentsOf frameIn
-frame-shorter Standard u = take-shorter (length u - 1) u
-frame-shorter Extended u = omega (arith, take-shorter (length u - 3) (drop 2 u), length-drop 2 u)
+frame-shorter Standard u h = omega (arith, length-take-le (length u - 1) u (omega arith))
+frame-shorter Extended u h =
+    omega (arith, length-drop 2 u, length-take-le (length u - 3) (drop 2 u) (omega (arith, length-drop 2 u)))
 
--- the contents of a body that is accepted are no longer than the body, which is within the limit
+-- the contents of a body that is accepted are shorter than the body, which is within the limit
 judge-shrinks : (kind : Kind) (body : List ℕ) (f : Frame) → judge kind body ≡ result f
-    → (length (contentsOf f) ≤ length body) × (length body ≤ 118)
+    → (length (contentsOf f) < length body) × (length body ≤ 118)
 unfolding judge judgeBytes unstuffedBytes
 judge-shrinks kind body f e =
     by-bool (leb (length body + 2) 120)
@@ -122,38 +125,46 @@ judge-shrinks kind body f e =
     let z : _≡_ {A = ℕ} 0 1 = cc in absurd (omega arith))
   where
     of-bytes : (r : Unstuffed) → judgeBytes kind r ≡ result f → length (unstuffedBytes r) ≤ length body
-        → length (contentsOf f) ≤ length body
+        → length (contentsOf f) < length body
     of-bytes badEscape e h = let z : _≡_ {A = ℕ} 0 1 = cc in absurd (omega arith)
     of-bytes (bytes u) e h =
         by-bool (leb (addressCount kind + 1) (length u))
         (λ y. by-bool (eqb (lastOf u) (checksum (contentsIn (addressCount kind) u)))
         (λ s. let q : result (frameIn kind u) ≡ result f = simp (y, s) at e in
         let g : frameIn kind u ≡ f = cc in
-        omega (arith, frame-shorter kind u, ap (λ (x : Frame). length (contentsOf x)) g))
+        omega (arith, frame-shorter kind u (leb-true _ _ y), ap (λ (x : Frame). length (contentsOf x)) g))
         (λ s. let q : refused 5 ≡ result f = simp (y, s) at e in
         let z : _≡_ {A = ℕ} 0 1 = cc in absurd (omega arith)))
         (λ y. let q : refused 4 ≡ result f = simp y at e in
         let z : _≡_ {A = ℕ} 0 1 = cc in absurd (omega arith))
 
 -- bytes that were judged in place are as many as they were
-pub left-length : (kind : Kind) (n : ℕ) (s : List ℕ) → length (leftIn (judge kind (take n s)) s) ≡ length s
+pub left-length : (kind : Kind) (n : ℕ) (s : List ℕ)
+    → length (leftIn (verdict (candidateOf kind (take n s))) s) ≡ length s
 unfolding leftIn
-left-length kind n s = of-verdict (judge kind (take n s)) refl
+left-length kind n s = of-verdict (verdict (candidateOf kind (take n s))) refl
   where
-    of-verdict : (v : Verdict) → judge kind (take n s) ≡ v → length (leftIn v s) ≡ length s
+    accepted : (f : Frame) → judgeWhole kind (take n s) ≡ result f → judge kind (take n s) ≡ result f
+    accepted f e =
+        by-bool (flagless (take n s)) (λ y. simp y at e)
+        (λ y. let q : refused 6 ≡ result f = simp y at e in
+        let z : _≡_ {A = ℕ} 0 1 = cc in absurd (omega arith))
+
+    of-verdict : (v : Verdict) → verdict (candidateOf kind (take n s)) ≡ v → length (leftIn v s) ≡ length s
     of-verdict (refused m) e = refl
     of-verdict (result f) e =
+        let j = judge-shrinks kind (take n s) f (accepted f (sym (candidate-verdict kind (take n s)) ∙ e)) in
         omega (
           arith,
           length-append (contentsOf f) (drop (length (contentsOf f)) s),
           length-drop
               (length (contentsOf f)) s,
-          judge-shrinks kind (take n s) f e .0,
+          j .0,
           take-shorter n s,
         )
 
--- the contents of a frame that is accepted are at most the bytes that may stand between flags
-pub accepted-short : (w : List ℕ) (f : Frame) → verdict w ≡ result f → length (contentsOf f) ≤ 118
+-- The contents of a frame that is accepted are at most 117 bytes: flags and checksum are three of the 120 on the wire.
+pub accepted-short : (w : List ℕ) (f : Frame) → verdict w ≡ result f → length (contentsOf f) ≤ 117
 unfolding verdict
 accepted-short w f e =
     by-bool (isTerminated w)

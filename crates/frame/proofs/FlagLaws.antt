@@ -6,13 +6,22 @@ use mathlib.Core.List.{List, [], _∷_}
 use native.Mathlib.Omega.{arith}
 use lib.Dec.{eqb}
 use borrow.Author.Tests.{eqb-true, eqb-false}
-use Rattle.lists.specs.Choice.{pick, noneOf}
+use Rattle.lists.specs.Choice.{pick, within, noneOf}
 use Rattle.lists.proofs.Cases.{by-bool}
-use Rattle.lists.proofs.Tests.{within-true, within-yes}
+use Rattle.lists.proofs.Tests.{within-true, within-yes, none-stronger}
 use Rattle.framing.specs.Reference.{Role, starts, stops, plain, FlagFree}
 use Rattle.frame.specs.Flags.{startFlag, stopFlag, roleOf, kindOf, isStart, isFlag, flagless}
 use Rattle.frame.specs.declared.Kind.{Kind}
 use Rattle.frame.specs.declared.Kind.the-variants.{Standard, Extended}
+
+-- ---- ranges
+
+-- where no byte lies in a range, none lies in a narrower one
+pub none-narrower : (low high from to : ℕ) (s : List ℕ) → low ≤ from → to ≤ high → noneOf (within low high) s ≡ true
+    → noneOf (within from to) s ≡ true
+none-narrower low high from to s h k e =
+    none-stronger (within low high) (within from to)
+    (λ x y. let w = within-true from to x y in within-yes low high x (omega (arith, w)) (omega (arith, w))) s e
 
 -- ---- kinds
 

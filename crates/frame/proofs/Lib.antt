@@ -7,4 +7,6 @@ pub mod ScanLaws
 pub mod VerdictLaws
 pub mod ContentsLaws
 pub mod Table
+pub mod JudgeCalls
 pub mod RoundTrip
+pub mod Calls

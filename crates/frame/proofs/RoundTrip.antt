@@ -1,139 +1,147 @@
 -- What is written is read back, and what is accepted is written back: demand 2.
-use lib.ListN.{take, drop, length, getD, length-append}
-use mathlib.Core.Path.{refl, _≡_, sym, ap, _∙_}
-use lib.Dec.{leb}
-use Rattle.lists.proofs.Cases.{by-bool}
-use Rattle.answer.specs.Answer.{result, refused}
-use Rattle.answer.specs.Draft.{draftAnswer, draftOut}
-use Rattle.answer.proofs.Drafts.{written-first}
-use borrow.Author.Tests.{leb-true, le-leb, eq-eqb}
-use Rattle.frame.specs.Verdict.{Verdict, addressCount, contentsIn, lastOf, frameIn, judgeBytes, verdict}
-use Rattle.frame.specs.Answers.{frameDraft, readAnswer, readOut, frameRead}
-use Prim.Native.Nat.{ℕ, _+_, _-_, _≤_}
+use Prim.Native.Nat.{ℕ, _≤_}
+use mathlib.Core.Path.{_≡_, refl, sym, ap, _∙_, subst}
 use mathlib.Core.Bool.{false}
 use mathlib.Core.List.{List, [], _∷_, _++_}
 use native.Mathlib.Omega.{arith}
-use lib.Seq.{take-at, getD-at}
-use Rattle.lists.proofs.Lists.{drop-two}
+use lib.ListN.{take, drop, length}
+use lib.Seq.{take-at}
+use Rattle.answer.specs.Answer.{Answer, result}
+use Rattle.answer.specs.Draft.{Writes}
 use Rattle.frame.specs.Stuffing.{stuff, bytes}
-use Rattle.frame.specs.Checksum.{checksum}
-use Rattle.frame.specs.Frame.{Frame, standard, extended, contentsOf, frameKind, addressesOf, payload, wireOf}
-use Rattle.frame.specs.Flags.{startFlag, stopFlag}
+use Rattle.frame.specs.Flags.{startFlag, stopFlag, candidateOf}
+use Rattle.frame.specs.Frame.{Frame, standard, extended, contentsOf, frameKind, payload, wireOf}
+use Rattle.frame.specs.Verdict.{judgeBytes, verdict}
+use Rattle.frame.specs.Answers.{FrameOutline, outlineOf, frameDraft, frameRead, Reads}
+use Rattle.frame.specs.Conditions.{Sound, SoundFrame, ReadJudged, refusedBy, noRoom, fits}
+use Rattle.frame.specs.Conditions.{WriteJudged, overLimit, noRoomToWrite, written}
 use Rattle.frame.specs.declared.Kind.{Kind}
-use Rattle.frame.specs.declared.Kind.the-variants.{Standard, Extended}
 use Rattle.frame.proofs.StuffingLaws.{unstuff-stuff, flagless-stuff, stuff-unstuff}
-use Rattle.frame.proofs.ChecksumLaws.{contents-last}
-use Rattle.frame.proofs.VerdictLaws.{whole, whole-length, whole-verdict, judge-bytes}
-use Rattle.frame.proofs.Table.{accepted-exactly, unstuffs-bytes, fewest-is}
 use Rattle.frame.proofs.FlagLaws.{free-flagless}
+use Rattle.frame.proofs.VerdictLaws.{whole-length, whole-verdict, judge-bytes, judge-payload}
+use Rattle.frame.proofs.ContentsLaws.{accepted-short}
+use Rattle.frame.proofs.Table.{accepted-exactly, accepted-when, unstuffs-bytes, read-by-table, reads-exactly}
+use Rattle.frame.proofs.Table.{written-by-table, writes-exactly}
 
 -- ---- frames and verdicts
-
-judge-payload : (f : Frame) → judgeBytes (frameKind f) (bytes (payload f)) ≡ result f
-unfolding judgeBytes payload addressesOf contentsOf frameIn
-judge-payload (standard c) =
-    let u = c ++ (checksum c ∷ []) in
-    let n : length u ≡ length c + 1 = length-append c (checksum c ∷ []) in
-    let p : contentsIn 0 u ≡ c = take-at c (checksum c ∷ []) (length u - 1) (omega arith) in
-    let q : lastOf u ≡ checksum c = getD-at c (checksum c) [] 0 (length u - 1) (omega arith) in
-    simp (le-leb 1 (length u) (omega arith), q, p, eq-eqb (checksum c) (checksum c) refl)
-judge-payload (extended to from c) =
-    let u = to ∷ from ∷ c ++ (checksum c ∷ []) in
-    let n : length (c ++ (checksum c ∷ [])) ≡ length c + 1 = length-append c (checksum c ∷ []) in
-    let p : contentsIn 2 u ≡ c = take-at c (checksum c ∷ []) (length u - 3) (omega arith) in
-    let q : lastOf u ≡ checksum c = getD-at (to ∷ from ∷ c) (checksum c) [] 0 (length u - 1) (omega arith) in
-    simp (le-leb 3 (length u) (omega arith), q, p, eq-eqb (checksum c) (checksum c) refl)
 
 -- What is written is read back: a frame of at most 120 bytes on the wire, of either kind, is accepted as itself.
 pub reads-back : (f : Frame) → length (wireOf f) ≤ 120 → verdict (wireOf f) ≡ result f
 unfolding wireOf
 reads-back f l =
     let b = stuff (payload f) in
-    let e : wireOf f ≡ whole (frameKind f) b = refl in
+    let e : wireOf f ≡ candidateOf (frameKind f) b = refl in
     whole-verdict (frameKind f) b (flagless-stuff (payload f))
     ∙ judge-bytes (frameKind f) b (omega (arith, ap length e, whole-length (frameKind f) b))
     ∙ ap (judgeBytes (frameKind f)) (unstuff-stuff (payload f)) ∙ judge-payload f
-
-payload-in : (kind : Kind) (u : List ℕ) → addressCount kind + 1 ≤ length u
-    → lastOf u ≡ checksum (contentsIn (addressCount kind) u)
-    → (payload (frameIn kind u) ≡ u) × (frameKind (frameIn kind u) ≡ kind)
-unfolding payload addressesOf contentsOf frameIn
-payload-in Standard u h r = (ap (λ (b : ℕ). contentsIn 0 u ++ (b ∷ [])) (sym r) ∙ sym (contents-last 0 u h), refl)
-payload-in Extended u h r = (
-  ap (λ (b : ℕ). getD u 0 0 ∷ getD u 1 0 ∷ contentsIn 2 u ++ (b ∷ [])) (sym r)
-      ∙ ap (λ (l : List ℕ). getD u 0 0 ∷ getD u 1 0 ∷ l) (sym (contents-last 2 u h))
-      ∙ sym (drop-two u 0 (omega arith)),
-  refl,
-)
 
 -- What is accepted, written again from what was read, gives the same bytes.
 pub writes-back : (w : List ℕ) (f : Frame) → verdict w ≡ result f → (wireOf f ≡ w) × (length w ≤ 120)
 unfolding wireOf
 writes-back w f e =
     let s = accepted-exactly w f .0 e in
-    let t = s .candidate in
-    let u = s .unstuffed in
-    let p = payload-in (t .kind) u (omega (arith, s .enough, fewest-is (t .kind))) (s .sum) in
-    let b : stuff u ≡ t .body =
-    stuff-unstuff false (t .body) u (unstuffs-bytes (s .unstuffs)) (free-flagless (t .body) (t .inside)) in (
-      ap wireOf (s .frame) ∙ ap (λ (k : Kind). startFlag k ∷ stuff (payload (frameIn (t .kind) u)) ++ (stopFlag ∷ []))
-          (p .1)
-          ∙ ap (λ (l : List ℕ). startFlag (t .kind) ∷ stuff l ++ (0xF2 ∷ [])) (p .0)
-          ∙ ap (λ (l : List ℕ). startFlag (t .kind) ∷ l ++ (0xF2 ∷ [])) b
+    let t = s .slice .candidate in
+    let b : stuff (payload f) ≡ t .body =
+    stuff-unstuff false (t .body) (payload f) (unstuffs-bytes (s .slice .unstuffs) ∙ ap bytes (s .bytes-are))
+    (free-flagless (t .body) (t .inside)) in (
+      ap (λ (k : Kind). startFlag k ∷ stuff (payload f) ++ (stopFlag ∷ [])) (sym (s .kind-is))
+          ∙ ap (λ (l : List ℕ). startFlag (t .kind) ∷ l ++ (stopFlag ∷ [])) b
           ∙ sym (t .shape),
-      s .limit,
+      s .slice .limit,
     )
 
--- ---- the same of the answers and the lent slices
+-- A slice is accepted as a frame exactly when it is that frame as it is written, and at most 120 bytes long.
+pub accepted-as-written : (w : List ℕ) (f : Frame)
+    → (verdict w ≡ result f → (wireOf f ≡ w) × (length w ≤ 120))
+    × ((wireOf f ≡ w) × (length w ≤ 120) → verdict w ≡ result f)
+accepted-as-written w f =
+    (writes-back w f, (λ p. ap verdict (sym (p .0)) ∙ reads-back f (omega (arith, p .1, ap length (p .0)))))
 
--- what reading with room leaves tells the frame, whole
-read-whole : (f : Frame) (out : List ℕ) → length (contentsOf f) ≤ length out
-    → frameRead (readAnswer (result f) (length out)) (readOut (result f) out) ≡ result f
-unfolding readAnswer readOut draftOut frameRead contentsOf
-read-whole (standard c) out h =
-    simp (le-leb (length c) (length out) h)
-    (ap (λ (l : List ℕ). result (standard l)) (take-at c (drop (length c) out) (length c) refl))
-read-whole (extended to from c) out h =
-    simp (le-leb (length c) (length out) h)
-    (ap (λ (l : List ℕ). result (extended to from l)) (take-at c (drop (length c) out) (length c) refl))
+-- ---- the same of calls
 
--- A frame that was written, read from the bytes that were written into any output with room, is told as that frame.
-pub written-reads-back : (f : Frame) (out into : List ℕ) (n : ℕ) → draftAnswer (frameDraft f) (length out) ≡ result n
-    → length (contentsOf f) ≤ length into
-    → frameRead (readAnswer (verdict (take n (draftOut (frameDraft f) out))) (length into))
-    (readOut (verdict (take n (draftOut (frameDraft f) out))) into) ≡ result f
-unfolding frameDraft
-written-reads-back f out into n e room =
-    let k = written-first (frameDraft f) out n e in
-    by-bool (leb (length (wireOf f)) 120)
-    (λ y. let q : result (wireOf f) ≡ result (k .0) = simp y at (k .1) in
-    let w : wireOf f ≡ k .0 = cc in
-    ap (λ (s : List ℕ). frameRead (readAnswer (verdict s) (length into)) (readOut (verdict s) into)) (k .3 ∙ sym w)
-    ∙ ap (λ (v : Verdict). frameRead (readAnswer v (length into)) (readOut v into)) (reads-back f (leb-true _ _ y))
-    ∙ read-whole f into room)
-    (λ y. let q : refused 2 ≡ result (k .0) = simp y at (k .1) in
-    let x : _≡_ {A = ℕ} 0 1 = cc in absurd (omega arith))
+-- what was told of a frame is that frame, whole
+told-whole : (f : Frame) (out : List ℕ)
+    → frameRead (result (outlineOf f)) (contentsOf f ++ drop (length (contentsOf f)) out) ≡ result f
+unfolding frameRead contentsOf
+told-whole (standard c) out =
+    ap (λ (l : List ℕ). result (standard l)) (take-at c (drop (length c) out) (length c) refl)
+told-whole (extended to from c) out =
+    ap (λ (l : List ℕ). result (extended to from l)) (take-at c (drop (length c) out) (length c) refl)
 
-told-accepted : (v : Verdict) (out : List ℕ) (f : Frame)
-    → frameRead (readAnswer v (length out)) (readOut v out) ≡ result f → v ≡ result f
-unfolding readAnswer readOut draftOut frameRead
-told-accepted (refused n) out f e = e
-told-accepted (result g) out f e =
-    by-bool (leb (length (contentsOf g)) (length out))
-    (λ y. sym (read-whole g out (leb-true _ _ y)) ∙ e)
-    (λ n. let q : refused 1 ≡ result f = simp n at e in
-    let x : _≡_ {A = ℕ} 0 1 = cc in absurd (omega arith))
+-- what was told is sound
+told-sound : (w out : List ℕ) (a : Answer FrameOutline) (last : List ℕ) (f : Frame) → ReadJudged w out a last
+    → frameRead a last ≡ result f → SoundFrame w f
+unfolding frameRead
+told-sound w out a last f (refusedBy j) e = let z : _≡_ {A = ℕ} 0 1 = cc in absurd (omega arith)
+told-sound w out a last f (noRoom s h) e = let z : _≡_ {A = ℕ} 0 1 = cc in absurd (omega arith)
+told-sound w out a last f (fits {f = g} s h) e =
+    let q : result g ≡ result f = sym (told-whole g out) ∙ e in
+    let same : g ≡ f = cc in subst (λ (x : Frame). SoundFrame w x) same s
 
--- A slice that was read as a frame, written again from what was told into any output with room, gives the slice's
--- bytes.
-pub read-writes-back : (w out into : List ℕ) (f : Frame)
-    → frameRead (readAnswer (verdict w) (length out)) (readOut (verdict w) out) ≡ result f → length w ≤ length into
-    → (draftAnswer (frameDraft f) (length into) ≡ result (length w))
-    × (draftOut (frameDraft f) into ≡ w ++ drop (length w) into)
-unfolding frameDraft draftAnswer draftOut
-read-writes-back w out into f e room =
-    let b = writes-back w f (told-accepted (verdict w) out f e) in (
-      rw (b .0) (simp (le-leb (length w) 120 (b .1), le-leb (length w) (length into) room)),
-      rw (b .0)
-          (simp (le-leb (length w) 120 (b .1), le-leb (length w) (length into) room)),
+module _ (w out : List ℕ) (a : Answer FrameOutline) (last : List ℕ) (p : Reads w out a last) where
+  -- With room for its contents, a call tells a frame exactly when the slice is that frame and sound.
+  pub told-exactly : (f : Frame) → length (contentsOf f) ≤ length out
+      → (frameRead a last ≡ result f → SoundFrame w f) × (SoundFrame w f → frameRead a last ≡ result f)
+  told-exactly f room = (
+    told-sound w out a last f (read-by-table w out a last .0 p),
+    (λ s. let q = reads-exactly w out a (result (outlineOf f)) last _ p .1 (fits s room) in
+        ap (λ (x : Answer FrameOutline). frameRead x last) (q .0) ∙ ap (frameRead (result (outlineOf f))) (q .1)
+        ∙ told-whole f out),
+  )
+
+  -- The same without the conditions: exactly when the slice is that frame as it is written, and at most 120 bytes long.
+  pub told-as-written : (f : Frame) → length (contentsOf f) ≤ length out
+      → (frameRead a last ≡ result f → (wireOf f ≡ w) × (length w ≤ 120))
+      × ((wireOf f ≡ w) × (length w ≤ 120) → frameRead a last ≡ result f)
+  told-as-written f room = (
+    (λ e. accepted-as-written w f .0 (accepted-exactly w f .1 (told-exactly f room .0 e))),
+    (λ e. told-exactly f room .1 (accepted-exactly w f .0 (accepted-as-written w f .1 e))),
+  )
+
+  -- Demand 2's "accepted exactly when" of a call with room for the contents of any frame: some frame is told exactly
+  -- when limit, escapes, length and checksum are right.
+  pub told-when : 117 ≤ length out
+      → ((f : Frame) × (frameRead a last ≡ result f) → Sound w) × (Sound w → (f : Frame) × (frameRead a last ≡ result f))
+  told-when room = (
+    (λ t. told-sound w out a last (t .0) (read-by-table w out a last .0 p) (t .1) .slice),
+    (λ s. let v = accepted-when w .1 s in (
+      v .0,
+      told-exactly (v .0) (omega (arith, accepted-short w (v .0) (v .1))) .1 (accepted-exactly w (v .0) .0 (v .1)),
+    )),
+  )
+
+-- the bytes of a frame that was written stand first in the output
+written-wire : (f : Frame) (out : List ℕ) (a : Answer ℕ) (last : List ℕ) (n : ℕ) → WriteJudged f out a last
+    → a ≡ result n → (take n last ≡ wireOf f) × (length (wireOf f) ≤ 120)
+written-wire f out a last n (overLimit l) e = let z : _≡_ {A = ℕ} 0 1 = cc in absurd (omega arith)
+written-wire f out a last n (noRoomToWrite l h) e = let z : _≡_ {A = ℕ} 0 1 = cc in absurd (omega arith)
+written-wire f out a last n (written l h) e =
+    let m : length (wireOf f) ≡ n = cc in (take-at (wireOf f) (drop (length (wireOf f)) out) n m, l)
+
+-- A frame that was written is read back: a call that reads the bytes that were written, with room for the contents,
+-- answers its kind, its addresses and their number, and puts the contents first in its output.
+pub written-reads-back : (f : Frame) (out last : List ℕ) (n : ℕ) (into : List ℕ) (a : Answer FrameOutline)
+    (left : List ℕ)
+    → Writes (frameDraft f) out (result n) last → Reads (take n last) into a left → length (contentsOf f) ≤ length into
+    → (a ≡ result (outlineOf f)) × (left ≡ contentsOf f ++ drop (length (contentsOf f)) into)
+written-reads-back f out last n into a left p q room =
+    let w = written-wire f out (result n) last n (written-by-table f out (result n) last .0 p) refl in
+    let v : verdict (take n last) ≡ result f = ap verdict (w .0) ∙ reads-back f (w .1) in
+    reads-exactly (take n last) into a (result (outlineOf f)) left _ q .1
+    (fits (accepted-exactly (take n last) f .0 v) room)
+
+-- A slice that was read as a frame is written back: a call that writes what was told, with room for the slice, answers
+-- the slice's length, and puts the slice's bytes first in its output.
+pub read-writes-back : (w out : List ℕ) (a : Answer FrameOutline) (last : List ℕ) (f : Frame) (into : List ℕ)
+    (b : Answer ℕ) (left : List ℕ)
+    → Reads w out a last → frameRead a last ≡ result f → Writes (frameDraft f) into b left → length w ≤ length into
+    → (b ≡ result (length w)) × (left ≡ w ++ drop (length w) into)
+read-writes-back w out a last f into b left p e q room =
+    let s = told-sound w out a last f (read-by-table w out a last .0 p) e in
+    let k = writes-back w f (accepted-exactly w f .1 s) in
+    let m = ap length (k .0) in
+    let j = writes-exactly f into b (result (length (wireOf f))) left _ q .1
+    (written (omega (arith, m, k .1)) (omega (arith, m, room))) in (
+      j .0 ∙ ap result m,
+      j .1 ∙ ap (λ (l : List ℕ). l ++ drop (length l) into) (k .0),
     )

@@ -1,31 +1,38 @@
 -- Which verdict is given exactly when: document 01's table of refusals, and demand 2's "accepted exactly when".
-use Rattle.frame.specs.Frame.{contentsOf, Frame}
-use Rattle.frame.specs.Answers.{readAnswer, FrameOutline}
+use Rattle.frame.specs.Frame.{Frame, standard, extended, contentsOf, frameKind, addressesOf, payload, wireOf}
+use Rattle.frame.specs.Answers.{frameDraft, readAnswer, readOut, Reads, FrameOutline}
 use Rattle.frame.specs.Conditions.{ReadJudged, refusedBy, noRoom, fits, Terminated, WithinLimit, EscapesSound}
-use Rattle.frame.specs.Conditions.{Unstuffs, none, plain, escape, fewest, SoundFrame, Judged, truncated, long}
-use Rattle.frame.specs.Conditions.{badEscape as badEscapes, short, badSum, sound}
+use Rattle.frame.specs.Conditions.{Unstuffs, none, plain, escape, fewest, ChecksumRight, Sound, SoundFrame, Judged}
+use Rattle.frame.specs.Conditions.{truncated, long, badEscape as badEscapes, short, badSum, sound}
+use Rattle.frame.specs.Conditions.{WriteJudged, overLimit, noRoomToWrite, written}
 use Prim.Native.Nat.{ℕ, zero, suc, _+_, _≤_}
 use mathlib.Core.Path.{_≡_, refl, sym, ap, _∙_, subst}
 use mathlib.Core.Bool.{Bool, true, false, true≢false}
-use mathlib.Core.List.{List, [], _∷_}
+use mathlib.Core.List.{List, [], _∷_, _++_}
+use native.Mathlib.Nat.{zero-add}
 use native.Mathlib.Omega.{arith}
 use lib.Dec.{leb, eqb}
 use lib.ListN.{length, getD}
-use borrow.Author.Tests.{leb-true, leb-false, eqb-true, eqb-false, lt-leb, le-leb, ne-eqb}
+use borrow.Author.Tests.{leb-true, leb-false, eqb-true, eqb-false, le-leb, ne-eqb}
 use Rattle.lists.specs.Choice.{pick}
 use Rattle.lists.proofs.Cases.{by-bool}
+use Rattle.lists.proofs.Lists.{drop-two}
+use Rattle.answer.specs.Draft.{draftAnswer, draftOut, Writes}
+use Rattle.answer.proofs.Drafts.{writes-refusal, writes-no-room, writes-done}
 use Rattle.frame.specs.Flags.{kindOf}
 use Rattle.frame.specs.Stuffing.{Unstuffed, badEscape, bytes, prepend, unstuff}
 use Rattle.frame.specs.Checksum.{checksum}
-use Rattle.frame.specs.Verdict.{Verdict, addressCount, contentsIn, lastOf, frameIn, judge, bodyOf, isTerminated}
-use Rattle.frame.specs.Verdict.{verdict}
+use Rattle.frame.specs.Verdict.{Verdict, addressCount, contentsIn, lastOf, judgeBytes, judge, bodyOf}
+use Rattle.frame.specs.Verdict.{isTerminated, verdict}
 use Rattle.answer.specs.Answer.{result, refused, Answer}
 use Rattle.frame.specs.declared.Kind.{Kind}
 use Rattle.frame.specs.declared.Kind.the-variants.{Standard, Extended}
 use Rattle.frame.proofs.StuffingLaws.{prepend-inv}
 use Rattle.frame.proofs.VerdictLaws.{whole-length, whole-terminated, whole-verdict, terminated-means}
 use Rattle.frame.proofs.VerdictLaws.{terminated-whole, verdict-truncated, judge-long, judge-escape, judge-short}
-use Rattle.frame.proofs.VerdictLaws.{judge-sum, judge-sound}
+use Rattle.frame.proofs.VerdictLaws.{judge-sum, judge-bytes, judge-payload, answer-refused, answer-no-room}
+use Rattle.frame.proofs.VerdictLaws.{answer-done}
+use Rattle.frame.proofs.ChecksumLaws.{contents-last}
 use Rattle.frame.proofs.FlagLaws.{flagless-free, free-flagless}
 
 -- ---- the conditions, and what the definitions compute
@@ -95,6 +102,25 @@ pub fewest-is : (kind : Kind) → fewest kind ≡ addressCount kind + 1
 fewest-is Standard = refl
 fewest-is Extended = refl
 
+-- the last byte compared with the contents before it, where there are enough bytes
+sum-parts : (kind : Kind) (u : List ℕ) → addressCount kind + 1 ≤ length u
+    → lastOf u ≡ checksum (contentsIn (addressCount kind) u) → ChecksumRight kind u
+sum-parts Standard u h r = (contentsIn 0 u, contents-last 0 u h ∙ ap (λ (b : ℕ). contentsIn 0 u ++ (b ∷ [])) r)
+sum-parts Extended u h r = (
+  getD u 0 0,
+  getD u 1 0,
+  contentsIn 2 u,
+  drop-two u 0 (omega arith)
+      ∙ ap (λ (l : List ℕ). getD u 0 0 ∷ getD u 1 0 ∷ l)
+      (contents-last 2 u h ∙ ap (λ (b : ℕ). contentsIn 2 u ++ (b ∷ [])) r),
+)
+
+-- bytes with the right checksum are those of a frame
+parts-frame : (kind : Kind) (u : List ℕ) → ChecksumRight kind u → (f : Frame) × (kind ≡ frameKind f) × (u ≡ payload f)
+unfolding payload addressesOf contentsOf
+parts-frame Standard u (c, e) = (standard c, refl, e)
+parts-frame Extended u (to, from, c, e) = (extended to from c, refl, e)
+
 terminated-of : (w : List ℕ) → isTerminated w ≡ true → Terminated w
 terminated-of w h =
     record {
@@ -138,14 +164,22 @@ table-verdict w v (short t u l e x n) =
     (by-bool (leb (fewest (t .kind)) (length u)) (λ y. absurd (n (leb-true _ _ y)))
     (λ y. omega (arith, leb-false (fewest (t .kind)) (length u) y, fewest-is (t .kind))))
 table-verdict w v (badSum t u l e x k n) =
-    of-body w t ∙ judge-sum (t .kind) (t .body) (omega (arith, long-as w t)) u (unstuffs-bytes x)
-    (omega (arith, k, fewest-is (t .kind))) n
+    let h : addressCount (t .kind) + 1 ≤ length u = omega (arith, k, fewest-is (t .kind)) in
+    of-body w t ∙ judge-sum (t .kind) (t .body) (omega (arith, long-as w t)) u (unstuffs-bytes x) h
+    (λ q. n (sum-parts (t .kind) u h q))
 table-verdict w v (sound f s) =
-    let t = s .candidate in
+    let t = s .slice .candidate in
     of-body w t
-    ∙ judge-sound (t .kind) (t .body) (omega (arith, long-as w t, s .limit)) (s .unstuffed)
-    (unstuffs-bytes (s .unstuffs)) (omega (arith, s .enough, fewest-is (t .kind))) (s .sum)
-    ∙ ap result (sym (s .frame))
+    ∙ judge-bytes (t .kind) (t .body) (omega (arith, long-as w t, s .slice .limit))
+    ∙ ap (judgeBytes (t .kind)) (unstuffs-bytes (s .slice .unstuffs) ∙ ap bytes (s .bytes-are))
+    ∙ ap (λ (k : Kind). judgeBytes k (bytes (payload f))) (s .kind-is)
+    ∙ judge-payload f
+
+-- the frame of a sound slice
+sound-frame : (w : List ℕ) → Sound w → (f : Frame) × SoundFrame w f
+sound-frame w s =
+    let p = parts-frame (s .candidate .kind) (s .unstuffed) (s .sum) in
+    (p .0, record { slice = s; kind-is = p .1; bytes-are = p .2 })
 
 -- every slice has a line of the table
 some-line : (w : List ℕ) → (v : Verdict) × Judged w v
@@ -169,22 +203,28 @@ some-line w =
         let x : Unstuffs (t .body) u = bytes-unstuffs false (t .body) u e in
         let g : EscapesSound (t .body) = unstuffs-sound x in
         by-bool (leb (fewest (t .kind)) (length u))
-        (λ k. by-bool (eqb (lastOf u) (checksum (contentsIn (addressCount (t .kind)) u)))
+        (λ k. let all : (ChecksumRight (t .kind) u → Sound w) =
+        (λ r. record {
+          candidate = t;
+          limit = l;
+          escapes = g;
+          unstuffed = u;
+          unstuffs = x;
+          enough = leb-true _ _ k;
+          sum = r;
+        }) in
+        let h : addressCount (t .kind) + 1 ≤ length u =
+        omega (arith, leb-true (fewest (t .kind)) (length u) k, fewest-is (t .kind)) in
+        by-bool (eqb (lastOf u) (checksum (contentsIn (addressCount (t .kind)) u)))
+        (λ q. let s = sound-frame w (all (sum-parts (t .kind) u h (eqb-true _ _ q))) in (result (s .0), sound (s .0) (s .1)))
         (λ q. (
-          result (frameIn (t .kind) u),
-          sound (frameIn (t .kind) u)
-              (record {
-                candidate = t;
-                limit = l;
-                escapes = g;
-                unstuffed = u;
-                unstuffs = x;
-                enough = leb-true _ _ k;
-                sum = eqb-true _ _ q;
-                frame = refl;
-              }),
-        ))
-        (λ q. (refused 5, badSum t u l g x (leb-true _ _ k) (eqb-false _ _ q))))
+          refused 5,
+          badSum t u l g x (leb-true _ _ k) (λ r. let s = sound-frame w (all r) in
+              let e : refused 5 ≡ result (s .0) =
+              sym (of-body w t ∙ judge-sum (t .kind) (t .body) (omega (arith, long-as w t)) u (unstuffs-bytes x) h (eqb-false _ _ q))
+              ∙ table-verdict w (result (s .0)) (sound (s .0) (s .1)) in
+              let z : _≡_ {A = ℕ} 0 1 = cc in omega arith),
+        )))
         (λ k. (refused 4, short t u l g x (λ m. absurd (omega (arith, m, leb-false (fewest (t .kind)) (length u) k)))))
 
 -- Every verdict is given exactly when the table gives it: a refusal where the rule that it names fails and all before
@@ -209,30 +249,92 @@ accepted-exactly w f =
     found v (badSum t u l g x k n) f e = let z : _≡_ {A = ℕ} 0 1 = cc in absurd (omega arith)
     found v (sound h s) f e = let q : h ≡ f = cc in subst (λ (x : Frame). SoundFrame w x) q s
 
--- ---- with the room of an output
-
-told-by : (w : List ℕ) (room : ℕ) (v : Verdict) → Judged w v → ReadJudged w room (readAnswer v room)
-unfolding readAnswer
-told-by w room (refused n) j = refusedBy j
-told-by w room (result f) j =
-    let s = accepted-exactly w f .0 (table-verdict w (result f) j) in
-    by-bool (leb (length (contentsOf f)) room)
-    (λ y. subst (λ (a : Answer FrameOutline). ReadJudged w room a) (simp y) (fits s (leb-true _ _ y)))
-    (λ n. subst (λ (a : Answer FrameOutline). ReadJudged w room a) (simp n) (noRoom s (leb-false _ _ n)))
-
-by-told : (w : List ℕ) (room : ℕ) (a : Answer FrameOutline) → ReadJudged w room a → readAnswer (verdict w) room ≡ a
-unfolding readAnswer
-by-told w room a (refusedBy {n = n} j) = ap (λ (v : Verdict). readAnswer v room) (table-verdict w (refused n) j)
-by-told w room a (noRoom {f = f} s h) =
-    ap (λ (v : Verdict). readAnswer v room) (accepted-exactly w f .1 s) ∙ simp (lt-leb (length (contentsOf f)) room h)
-by-told w room a (fits {f = f} s h) =
-    ap (λ (v : Verdict). readAnswer v room) (accepted-exactly w f .1 s) ∙ simp (le-leb (length (contentsOf f)) room h)
-
--- Every answer to reading a slice is given exactly when the table gives it, 1 included.
-pub read-by-table : (w : List ℕ) (room : ℕ) (a : Answer FrameOutline)
-    → (readAnswer (verdict w) room ≡ a → ReadJudged w room a) × (ReadJudged w room a → readAnswer (verdict w) room ≡ a)
-read-by-table w room a = (
-  (λ e. subst (λ (x : Answer FrameOutline). ReadJudged w room x) e
-      (told-by w room (verdict w) (verdict-by-table w (verdict w) .0 refl))),
-  by-told w room a,
+-- Demand 2's "accepted exactly when": as some frame exactly when limit, escapes, length and checksum are right.
+pub accepted-when : (w : List ℕ)
+    → ((f : Frame) × (verdict w ≡ result f) → Sound w) × (Sound w → (f : Frame) × (verdict w ≡ result f))
+accepted-when w = (
+  (λ p. accepted-exactly w (p .0) .0 (p .1) .slice),
+  (λ s. let p = sound-frame w s in (p .0, accepted-exactly w (p .0) .1 (p .1))),
 )
+
+-- ---- with an output
+
+module _ (w out : List ℕ) where
+  -- every answer, with the output that is left, has a line
+  read-line : (v : Verdict) → Judged w v → ReadJudged w out (readAnswer v (length out)) (readOut v out)
+  unfolding readAnswer readOut draftOut
+  read-line (refused n) j = refusedBy j
+  read-line (result f) j =
+      let s = accepted-exactly w f .0 (table-verdict w (result f) j) in
+      by-bool (leb (length (contentsOf f)) (length out))
+      (λ y. simp y (fits s (leb-true _ _ y)))
+      (λ n. simp n (noRoom s (leb-false _ _ n)))
+
+  line-read : (a : Answer FrameOutline) (last : List ℕ) → ReadJudged w out a last → Reads w out a last
+  line-read a last (refusedBy {n = n} j) = answer-refused (verdict w) n out (table-verdict w (refused n) j)
+  line-read a last (noRoom {f = f} s h) = answer-no-room (verdict w) f out (accepted-exactly w f .1 s) h
+  line-read a last (fits {f = f} s h) = answer-done (verdict w) f out (accepted-exactly w f .1 s) h
+
+  -- Every answer to reading a slice, with the output that is left, is given exactly when the table gives it, 1 included.
+  pub read-by-table : (a : Answer FrameOutline) (last : List ℕ)
+      → (Reads w out a last → ReadJudged w out a last) × (ReadJudged w out a last → Reads w out a last)
+  read-by-table a last = (
+    (λ p. subst (λ (l : List ℕ). ReadJudged w out a l) (sym (p .1))
+        (subst (λ (x : Answer FrameOutline). ReadJudged w out x (readOut (verdict w) out)) (sym (p .0))
+        (read-line (verdict w) (verdict-by-table w (verdict w) .0 refl)))),
+    line-read a last,
+  )
+
+  -- The same of a call: its answer and its output are others' exactly when the table gives those.
+  pub reads-exactly : (a b : Answer FrameOutline) (last left : List ℕ) → Reads w out a last
+      → ((a ≡ b) × (last ≡ left) → ReadJudged w out b left) × (ReadJudged w out b left → (a ≡ b) × (last ≡ left))
+  reads-exactly a b last left p = (
+    (λ e. read-by-table b left .0 (sym (e .0) ∙ p .0, sym (e .1) ∙ p .1)),
+    (λ j. let q = line-read b left j in (p .0 ∙ sym (q .0), p .1 ∙ sym (q .1))),
+  )
+
+-- ---- writing
+
+module _ (f : Frame) (out : List ℕ) where
+  abbrev answer : Answer ℕ
+  answer = draftAnswer (frameDraft f) (length out)
+
+  write-line : WriteJudged f out answer (draftOut (frameDraft f) out)
+  unfolding frameDraft draftAnswer draftOut
+  write-line =
+      by-bool (leb (length (wireOf f)) 120)
+      (λ y. by-bool (leb (length (wireOf f)) (length out))
+      (λ r. simp (y, r) (written (leb-true _ _ y) (leb-true _ _ r)))
+      (λ r. simp (y, r) (noRoomToWrite (leb-true _ _ y) (leb-false _ _ r))))
+      (λ y. simp y (overLimit (λ l. absurd (omega (arith, l, leb-false (length (wireOf f)) 120 y)))))
+
+  within-draft : WithinLimit (wireOf f) → frameDraft f ≡ result (wireOf f)
+  unfolding frameDraft
+  within-draft l = simp (le-leb (length (wireOf f)) 120 l)
+
+  over-draft : (WithinLimit (wireOf f) → ⊥) → frameDraft f ≡ refused 2
+  unfolding frameDraft
+  over-draft n = by-bool (leb (length (wireOf f)) 120) (λ y. absurd (n (leb-true _ _ y))) (λ y. simp y)
+
+  line-write : (a : Answer ℕ) (last : List ℕ) → WriteJudged f out a last → Writes (frameDraft f) out a last
+  line-write a last (overLimit n) = writes-refusal (frameDraft f) 2 out (over-draft n)
+  line-write a last (noRoomToWrite l h) = writes-no-room (frameDraft f) (wireOf f) out (within-draft l) h
+  line-write a last (written l h) = writes-done (frameDraft f) (wireOf f) out _ (within-draft l) h (sym (simp zero-add))
+
+  -- Every answer to writing a frame, with the output that is left, is given exactly when the table gives it.
+  pub written-by-table : (a : Answer ℕ) (last : List ℕ)
+      → (Writes (frameDraft f) out a last → WriteJudged f out a last)
+      × (WriteJudged f out a last → Writes (frameDraft f) out a last)
+  written-by-table a last = (
+    (λ p. subst (λ (l : List ℕ). WriteJudged f out a l) (sym (p .1))
+        (subst (λ (x : Answer ℕ). WriteJudged f out x (draftOut (frameDraft f) out)) (sym (p .0)) write-line)),
+    line-write a last,
+  )
+
+  -- The same of a call.
+  pub writes-exactly : (a b : Answer ℕ) (last left : List ℕ) → Writes (frameDraft f) out a last
+      → ((a ≡ b) × (last ≡ left) → WriteJudged f out b left) × (WriteJudged f out b left → (a ≡ b) × (last ≡ left))
+  writes-exactly a b last left p = (
+    (λ e. written-by-table b left .0 (sym (e .0) ∙ p .0, sym (e .1) ∙ p .1)),
+    (λ j. let q = line-write b left j in (p .0 ∙ sym (q .0), p .1 ∙ sym (q .1))),
+  )

@@ -12,11 +12,11 @@ use borrow.Author.Tests.{leb-true, eqb-true, lt-leb, le-leb, eq-eqb, ne-eqb}
 use Rattle.lists.specs.Choice.{within, noneOf}
 use Rattle.lists.proofs.Cases.{by-bool, both-true}
 use Rattle.lists.proofs.Lists.{drop-two}
-use Rattle.lists.proofs.Tests.{within-yes, within-true, none-drop, none-stronger}
-use Rattle.frame.specs.Flags.{isFlag, flagless, kindOf, startFlag}
-use Rattle.frame.specs.Stuffing.{isStuffed, Unstuffed, badEscape, bytes, prepend, unstuff}
+use Rattle.lists.proofs.Tests.{within-yes, within-true, none-drop}
+use Rattle.frame.specs.Flags.{flagless, kindOf, startFlag, candidateOf}
+use Rattle.frame.specs.Stuffing.{Unstuffed, badEscape, bytes, prepend, unstuff}
 use Rattle.frame.specs.Checksum.{sumFrom, checksum}
-use Rattle.frame.specs.Frame.{Frame, contentsOf}
+use Rattle.frame.specs.Frame.{Frame, standard, extended, contentsOf, frameKind, addressesOf, payload}
 use Rattle.frame.specs.Verdict.{Verdict, addressCount, contentsIn, lastOf, frameIn, judgeBytes, judge, bodyOf}
 use Rattle.frame.specs.Verdict.{isTerminated, verdict}
 use Rattle.answer.specs.Answer.{result, refused}
@@ -31,43 +31,46 @@ use Rattle.frame.specs.declared.Header.the-variants.{Plain, Addressed}
 use Rattle.frame.specs.declared.candidate.Scan.the-variants.{Fault, Good}
 use Rattle.frame.specs.declared.candidate.Examined.{Examined}
 use Rattle.frame.specs.declared.candidate.Examined.the-variants.{Unsound, Sound}
-use Rattle.frame.proofs.FlagLaws.{kind-start, start-kind, start-between}
+use Rattle.frame.proofs.FlagLaws.{kind-start, start-kind, start-between, none-narrower}
 use Rattle.frame.proofs.ChecksumLaws.{contents-last, sum-right, sum-wrong, sum-after}
 use Rattle.frame.proofs.StuffingLaws.{unstuff-plain}
 use Rattle.frame.proofs.EscapeLaws.{scan-as-is}
 
 -- ---- a start flag, a body and F2
 
-abbrev pub whole : Kind → List ℕ → List ℕ
-whole kind body = startFlag kind ∷ body ++ (0xF2 ∷ [])
-
 module _ (kind : Kind) (body : List ℕ) where
-  pub whole-length : length (whole kind body) ≡ length body + 2
+  pub whole-length : length (candidateOf kind body) ≡ length body + 2
   whole-length = omega (arith, length-append body (0xF2 ∷ []))
 
-  whole-body : bodyOf (whole kind body) ≡ body
-  whole-body = take-at body (0xF2 ∷ []) (length (whole kind body) - 2) (omega (arith, whole-length))
+  whole-body : bodyOf (candidateOf kind body) ≡ body
+  whole-body = take-at body (0xF2 ∷ []) (length (candidateOf kind body) - 2) (omega (arith, whole-length))
 
-  whole-stop : lastOf (whole kind body) ≡ 0xF2
-  whole-stop = getD-at (startFlag kind ∷ body) 0xF2 [] 0 (length (whole kind body) - 1) (omega (arith, whole-length))
+  whole-stop : lastOf (candidateOf kind body) ≡ 0xF2
+  whole-stop = getD-at (startFlag kind ∷ body) 0xF2 [] 0 (length (candidateOf kind body) - 1) (omega (arith, whole-length))
 
-  pub whole-terminated : flagless body ≡ true → isTerminated (whole kind body) ≡ true
+  -- it is terminated where no flag stands in the body
+  whole-test : isTerminated (candidateOf kind body) ≡ flagless body
   unfolding isTerminated
-  whole-terminated f =
+  whole-test =
       let b = start-between kind in
       simp (
-        le-leb 2 (length (whole kind body)) (omega (arith, whole-length)),
+        le-leb 2 (length (candidateOf kind body)) (omega (arith, whole-length)),
         within-yes 0xF0 0xF1 (startFlag kind)
             (b .0) (b .1),
-        eq-eqb (lastOf (whole kind body)) 0xF2 whole-stop,
+        eq-eqb (lastOf (candidateOf kind body)) 0xF2 whole-stop,
         whole-body,
-        f,
       )
 
-  -- the verdict on such a list is the one on its body
-  pub whole-verdict : flagless body ≡ true → verdict (whole kind body) ≡ judge kind body
+  pub whole-terminated : flagless body ≡ true → isTerminated (candidateOf kind body) ≡ true
+  whole-terminated f = whole-test ∙ f
+
+  -- the verdict on such a list is the one on its body, and 6 where a flag stands in it
+  pub candidate-verdict : verdict (candidateOf kind body) ≡ judgeWhole kind body
   unfolding verdict
-  whole-verdict f = simp (whole-terminated f, kind-start kind, whole-body)
+  candidate-verdict = simp (whole-test, kind-start kind, whole-body)
+
+  pub whole-verdict : flagless body ≡ true → verdict (candidateOf kind body) ≡ judge kind body
+  whole-verdict f = candidate-verdict ∙ simp f
 
 pub terminated-means : (w : List ℕ) → isTerminated w ≡ true
     → (2 ≤ length w) × (0xF0 ≤ getD w 0 0) × (getD w 0 0 ≤ 0xF1) × (lastOf w ≡ 0xF2) × (flagless (bodyOf w) ≡ true)
@@ -80,7 +83,7 @@ terminated-means w h =
     (leb-true _ _ (a .0), r .0, r .1, eqb-true _ _ (c .0), c .1)
 
 -- a terminated candidate is such a list
-pub terminated-whole : (w : List ℕ) → isTerminated w ≡ true → w ≡ whole (kindOf (getD w 0 0)) (bodyOf w)
+pub terminated-whole : (w : List ℕ) → isTerminated w ≡ true → w ≡ candidateOf (kindOf (getD w 0 0)) (bodyOf w)
 terminated-whole w h =
     let m = terminated-means w h in
     let n : suc (length w - 2) ≡ length w - 1 = omega arith in
@@ -164,6 +167,23 @@ module _ (kind : Kind) (body : List ℕ) (limit : length body ≤ 118) where
           eq-eqb (lastOf u)
               (checksum (contentsIn (addressCount kind) u)) q,
         )
+
+-- ---- the verdict on a frame's own bytes
+
+pub judge-payload : (f : Frame) → judgeBytes (frameKind f) (bytes (payload f)) ≡ result f
+unfolding judgeBytes payload addressesOf contentsOf frameIn
+judge-payload (standard c) =
+    let u = c ++ (checksum c ∷ []) in
+    let n : length u ≡ length c + 1 = length-append c (checksum c ∷ []) in
+    let p : contentsIn 0 u ≡ c = take-at c (checksum c ∷ []) (length u - 1) (omega arith) in
+    let q : lastOf u ≡ checksum c = getD-at c (checksum c) [] 0 (length u - 1) (omega arith) in
+    simp (le-leb 1 (length u) (omega arith), q, p, eq-eqb (checksum c) (checksum c) refl)
+judge-payload (extended to from c) =
+    let u = to ∷ from ∷ c ++ (checksum c ∷ []) in
+    let n : length (c ++ (checksum c ∷ [])) ≡ length c + 1 = length-append c (checksum c ∷ []) in
+    let p : contentsIn 2 u ≡ c = take-at c (checksum c ∷ []) (length u - 3) (omega arith) in
+    let q : lastOf u ≡ checksum c = getD-at (to ∷ from ∷ c) (checksum c) [] 0 (length u - 1) (omega arith) in
+    simp (le-leb 3 (length u) (omega arith), q, p, eq-eqb (checksum c) (checksum c) refl)
 
 -- ---- the verdict on the bytes after the addresses
 
@@ -276,15 +296,11 @@ whole-examined kind body f (Sound header start len) e = (f, e)
 -- one in which no byte is F0 to F3
 module _ (body : List ℕ) (sum : ℕ) (p : Unescaped body sum) where
   escapeless : noneOf (within 0xF3 0xF3) body ≡ true
-  escapeless =
-      none-stronger isStuffed (within 0xF3 0xF3)
-      (λ x y. let w = within-true 0xF3 0xF3 x y in within-yes 0xF0 0xF3 x (omega arith) (omega arith)) body (p .clear)
+  escapeless = none-narrower 0xF0 0xF3 0xF3 0xF3 body (omega arith) (omega arith) (p .clear)
 
   pub plain-whole : (kind : Kind) → judge kind body ≡ judgeWhole kind body
   plain-whole kind =
-      sym (whole-judged kind body
-      (none-stronger isStuffed isFlag
-      (λ x y. let w = within-true 0xF0 0xF2 x y in within-yes 0xF0 0xF3 x (omega arith) (omega arith)) body (p .clear)))
+      sym (whole-judged kind body (none-narrower 0xF0 0xF3 0xF0 0xF2 body (omega arith) (omega arith) (p .clear)))
 
   pub plain-standard : UnescapedAfter Plain body 0 sum
   plain-standard =

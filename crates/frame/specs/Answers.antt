@@ -1,6 +1,7 @@
 -- What each case of an answer means, in document 01's numbers, and what each public function answers and leaves in the
 -- slice that it is lent.
 use Prim.Native.Nat.{ℕ}
+use mathlib.Core.Path.{_≡_}
 use mathlib.Core.List.{List, _++_}
 use lib.Dec.{leb}
 use lib.ListN.{length, take, drop}
@@ -9,7 +10,7 @@ use Rattle.answer.specs.Answer.{Answer, result, refused, through}
 use Rattle.answer.specs.Draft.{Draft, draftOut}
 use Rattle.answer.specs.Refusals.{numberOf}
 use Rattle.frame.specs.Frame.{Frame, standard, extended, contentsOf, wireOf}
-use Rattle.frame.specs.Verdict.{Verdict}
+use Rattle.frame.specs.Verdict.{Verdict, verdict}
 use Rattle.frame.specs.declared.Read.{Read}
 use Rattle.frame.specs.declared.Read.the-variants.{Standard, Extended, Refused}
 
@@ -47,6 +48,10 @@ readAnswer (result f) room = pick (leb (length (contentsOf f)) room) (result (ou
 -- The output afterwards: the contents are written as every writer writes.
 unfoldable pub readOut : Verdict → List ℕ → List ℕ
 readOut v out = draftOut (through contentsOf v) out
+
+-- What a call that reads a slice answers, and the output that it was lent before and after.
+abbrev pub Reads : (w out : List ℕ) → Answer FrameOutline → (last : List ℕ) → Type 0
+Reads w out a last = (a ≡ readAnswer (verdict w) (length out)) × (last ≡ readOut (verdict w) out)
 
 -- ---- judging in place
 

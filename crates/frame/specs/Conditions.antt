@@ -1,12 +1,12 @@
--- The conditions on a sound frame, each by itself, and document 01's table of refusals over them.
+-- The conditions on a sound frame, each by itself, and document 01's tables of reading and writing over them.
 -- None speaks of the verdict or of the steps by which it is reached.
 use Prim.Native.Nat.{ℕ, _+_, _≤_, _<_}
 use mathlib.Core.Path.{_≡_}
 use mathlib.Core.List.{List, [], _∷_, _++_}
-use lib.ListN.{length, getD}
+use lib.ListN.{length, getD, drop}
 use Rattle.frame.specs.Checksum.{checksum}
-use Rattle.frame.specs.Frame.{Frame, contentsOf}
-use Rattle.frame.specs.Verdict.{Verdict, contentsIn, lastOf, addressCount, frameIn}
+use Rattle.frame.specs.Frame.{Frame, contentsOf, frameKind, payload, wireOf}
+use Rattle.frame.specs.Verdict.{Verdict}
 use Rattle.answer.specs.Answer.{result, refused, Answer}
 use Rattle.frame.specs.Answers.{outlineOf, FrameOutline}
 use Rattle.frame.specs.declared.Kind.{Kind}
@@ -43,12 +43,15 @@ fewest Extended = 3
 abbrev pub LongEnough : Kind → List ℕ → Type 0
 LongEnough kind u = fewest kind ≤ length u
 
--- The last byte is the exclusive or of the contents.
+-- The last byte is the exclusive or of the contents, which are all that stands before it, but for the two addresses of
+-- an extended frame.
 abbrev pub ChecksumRight : Kind → List ℕ → Type 0
-ChecksumRight kind u = lastOf u ≡ checksum (contentsIn (addressCount kind) u)
+ChecksumRight Standard u = (contents : List ℕ) × (u ≡ contents ++ (checksum contents ∷ []))
+ChecksumRight Extended u =
+    (to : ℕ) × (from : ℕ) × (contents : List ℕ) × (u ≡ to ∷ from ∷ contents ++ (checksum contents ∷ []))
 
--- What demand 2 asks of a slice that is accepted as a frame.
-pub record SoundFrame (w : List ℕ) (f : Frame) : Type 0 where
+-- What demand 2 asks of a slice that is accepted: its limit, escapes, length and checksum are right.
+pub record Sound (w : List ℕ) : Type 0 where
   pub candidate : Terminated w
   pub limit : WithinLimit w
   pub escapes : EscapesSound (candidate .body)
@@ -56,7 +59,12 @@ pub record SoundFrame (w : List ℕ) (f : Frame) : Type 0 where
   pub unstuffs : Unstuffs (candidate .body) unstuffed
   pub enough : LongEnough (candidate .kind) unstuffed
   pub sum : ChecksumRight (candidate .kind) unstuffed
-  pub frame : f ≡ frameIn (candidate .kind) unstuffed
+
+-- The frame that such a slice is: it has the slice's kind and its unstuffed bytes.
+pub record SoundFrame (w : List ℕ) (f : Frame) : Type 0 where
+  pub slice : Sound w
+  pub kind-is : slice .candidate .kind ≡ frameKind f
+  pub bytes-are : slice .unstuffed ≡ payload f
 
 -- Document 01's table with its order: each answer with the rule that fails, where every rule before it holds.
 pub data Judged (w : List ℕ) : Verdict → Type 0 where
@@ -70,8 +78,18 @@ pub data Judged (w : List ℕ) : Verdict → Type 0 where
       → (ChecksumRight (t .kind) u → ⊥) → Judged w (refused 5)
   sound : (f : Frame) → SoundFrame w f → Judged w (result f)
 
--- What reading a frame is answered: its judgement's refusal first, and the output's room is asked for last.
-pub data ReadJudged (w : List ℕ) (room : ℕ) : Answer FrameOutline → Type 0 where
-  refusedBy : {n : ℕ} → Judged w (refused n) → ReadJudged w room (refused n)
-  noRoom : {f : Frame} → SoundFrame w f → room < length (contentsOf f) → ReadJudged w room (refused 1)
-  fits : {f : Frame} → SoundFrame w f → length (contentsOf f) ≤ room → ReadJudged w room (result (outlineOf f))
+-- What reading a slice is answered, and the output afterwards. The slice's refusal comes first, and the output's room is
+-- asked for last. A frame's contents stand first in the output, and all after them is as it was.
+pub data ReadJudged (w out : List ℕ) : Answer FrameOutline → List ℕ → Type 0 where
+  refusedBy : {n : ℕ} → Judged w (refused n) → ReadJudged w out (refused n) out
+  noRoom : {f : Frame} → SoundFrame w f → length out < length (contentsOf f) → ReadJudged w out (refused 1) out
+  fits : {f : Frame} → SoundFrame w f → length (contentsOf f) ≤ length out
+      → ReadJudged w out (result (outlineOf f)) (contentsOf f ++ drop (length (contentsOf f)) out)
+
+-- What writing a frame is answered, and the output afterwards: 2 where the frame is over the limit, then 1, then its
+-- length.
+pub data WriteJudged (f : Frame) (out : List ℕ) : Answer ℕ → List ℕ → Type 0 where
+  overLimit : (WithinLimit (wireOf f) → ⊥) → WriteJudged f out (refused 2) out
+  noRoomToWrite : WithinLimit (wireOf f) → length out < length (wireOf f) → WriteJudged f out (refused 1) out
+  written : WithinLimit (wireOf f) → length (wireOf f) ≤ length out
+      → WriteJudged f out (result (length (wireOf f))) (wireOf f ++ drop (length (wireOf f)) out)

@@ -1,7 +1,7 @@
 -- The flags, and what a byte does on the line: document 01, "Frames on the wire".
 use Prim.Native.Nat.{ℕ}
 use mathlib.Core.Bool.{Bool}
-use mathlib.Core.List.{List}
+use mathlib.Core.List.{List, [], _∷_, _++_}
 use lib.Dec.{eqb}
 use Rattle.lists.specs.Choice.{pick, within, noneOf}
 use Rattle.framing.specs.Reference.{Role, starts, stops, plain}
@@ -15,6 +15,10 @@ startFlag Extended = 0xF0
 
 abbrev pub stopFlag : ℕ
 stopFlag = 0xF2
+
+-- Bytes between the two flags of a kind.
+abbrev pub candidateOf : Kind → List ℕ → List ℕ
+candidateOf kind body = startFlag kind ∷ body ++ (stopFlag ∷ [])
 
 -- The role of a byte: a start flag, the stop flag, or any other byte.
 abbrev pub roleOf : ℕ → Role

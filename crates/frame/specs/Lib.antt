@@ -1,4 +1,5 @@
 pub mod Flags
+pub mod Address
 pub mod Stuffing
 pub mod Checksum
 pub mod Frame

@@ -1,5 +1,6 @@
 // CSAFE frames: one frame written, one slice read, and the bytes between two flags judged.
 // Document 01, "Frames on the wire".
+pub mod address;
 mod bytes;
 mod candidate;
 pub mod flags;
@@ -14,6 +15,7 @@ ghost use mathlib.Core.Bool.{false};
 ghost use Prim.Native.Nat.{_+_, _≤_};
 ghost use lib.ListN.{length, take, drop};
 ghost use Rattle.answer.specs.Draft.{draftAnswer, draftOut, writtenMeans};
+ghost use Rattle.frame.specs.Flags.{candidateOf};
 ghost use Rattle.frame.specs.Stuffing.{unstuff};
 ghost use Rattle.frame.specs.Frame.{standard, extended};
 ghost use Rattle.frame.specs.Verdict.{judge, verdict};
@@ -94,23 +96,15 @@ pub fn read_frame(wire: &[u8], out: &mut [u8]) -> Read
     }
 }
 
-// The verdict on the first `len` bytes of a slice, or on all where there are fewer, as what stands between a start flag
-// of this kind and the stop flag: refusals 2, 3, 4 and 5. Whoever calls it has found the flags: a byte that is one is
-// taken as it stands. The contents of an accepted frame are brought to the front; a refusal changes nothing.
-pub fn judge_in_place(kind: Kind, s: &mut [u8], len: usize) -> Read
-    ensures { λ r. ⌜ readMeans r ≡ judgeAnswer (judge kind (take len (now (s .entry)))) ⌝ }
-    ensures { λ r. ⌜ now (s .exit) ≡ leftIn (judge kind (take len (now (s .entry)))) (now (s .entry)) ⌝ }
-{
-    let n = lists::lesser(len, s.len());
-    judge_whole(kind, &mut s[..n])
-}
-
-// Judges the first bytes of an array that can hold all that stands between the flags of a frame.
+// Judges the candidate that a start flag of this kind, the first `len` bytes of an array (all where it has fewer) and
+// the stop flag make: refusals 6, 2, 3, 4 and 5. The contents of an accepted frame are brought to the front; a refusal
+// changes nothing.
 pub fn judge_array(kind: Kind, bytes: &mut [u8; 118], len: usize) -> Read
-    ensures { λ r. ⌜ readMeans r ≡ judgeAnswer (judge kind (take len (now (bytes .entry)))) ⌝ }
-    ensures { λ r. ⌜ now (bytes .exit) ≡ leftIn (judge kind (take len (now (bytes .entry)))) (now (bytes .entry)) ⌝ }
+    ensures { λ r. ⌜ readMeans r ≡ judgeAnswer (verdict (candidateOf kind (take len (now (bytes .entry))))) ⌝ }
+    ensures { λ r. ⌜ now (bytes .exit)
+        ≡ leftIn (verdict (candidateOf kind (take len (now (bytes .entry))))) (now (bytes .entry)) ⌝ }
 {
-    judge_in_place(kind, bytes, len)
+    judge_first(kind, bytes, len)
 }
 
 // The length is found first, so that nothing is written where the frame does not fit.
@@ -220,11 +214,20 @@ fn bring_contents(s: &mut [u8], start: usize, len: usize)
     candidate::unstuff_front(s, start, len)
 }
 
-fn judge_whole(kind: Kind, s: &mut [u8]) -> Read
-    ensures { λ r. ⌜ readMeans r ≡ judgeAnswer (judge kind (now (s .entry))) ⌝ }
-    ensures { λ r. ⌜ now (s .exit) ≡ leftIn (judge kind (now (s .entry))) (now (s .entry)) ⌝ }
+fn judge_first(kind: Kind, s: &mut [u8], len: usize) -> Read
+    ensures { λ r. ⌜ readMeans r ≡ judgeAnswer (verdict (candidateOf kind (take len (now (s .entry))))) ⌝ }
+    ensures { λ r. ⌜ now (s .exit)
+        ≡ leftIn (verdict (candidateOf kind (take len (now (s .entry))))) (now (s .entry)) ⌝ }
 {
-    let found = candidate::examine(kind, s);
+    let n = lists::lesser(len, s.len());
+    judge_whole(kind, &mut s[..n])
+}
+
+fn judge_whole(kind: Kind, s: &mut [u8]) -> Read
+    ensures { λ r. ⌜ readMeans r ≡ judgeAnswer (verdict (candidateOf kind (now (s .entry)))) ⌝ }
+    ensures { λ r. ⌜ now (s .exit) ≡ leftIn (verdict (candidateOf kind (now (s .entry)))) (now (s .entry)) ⌝ }
+{
+    let found = candidate::examine_flagged(kind, s);
     match found {
         Examined::Unsound(why) => Read::Refused(why),
         Examined::Sound { header, start, len } => {

@@ -61,8 +61,7 @@ module _ {K A : Type 0} (P : Protocol A) (B : Bounds K A) (suits : Suits P B) wh
   terminated-at outside bytes len k b e n s = rw s
   terminated-at (inside kind) bytes len k b e n s =
       let h = s .1 in
-      let u : length (take len bytes) ≡ len = length-take-le len bytes (omega (arith, s .0)) in
-      let judged = suits .held (h .flag) (take len bytes) b (h .starting) (h .flag-free) e (omega (arith, s .0)) in
+      let judged = suits .held (h .flag) (take len bytes) b (h .starting) e in
       rw (h .holds) (sym (judged ∙ ap (λ (x : K). B .judge x (take len bytes)) (h .opens)))
   terminated-at overlong bytes len k b e n s =
       let h = s .3 in

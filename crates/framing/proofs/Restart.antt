@@ -1,15 +1,16 @@
 -- The reference decoder starts again at each start flag, and so does every machine that it simulates.
 use mathlib.Core.Path.{_≡_, refl, sym, ap, _∙_}
 use mathlib.Core.Logic.{_⊎_, inl, inr}
-use mathlib.Core.List.{List, [], _∷_, _++_}
+use mathlib.Core.List.{List, [], _∷_, _++_, map}
 use native.Mathlib.Omega.{arith}
 use Prim.Native.Nat.{ℕ}
 use lib.ListN.{drop}
-use Rattle.framing.specs.Reference.{Call, byte, Role, starts, stops, plain, Candidate, none, opened, Protocol}
-use Rattle.framing.specs.Reference.{byteAnswer, byteAfter, answerTo, candidateAfter, Reference, FlagFree}
+use Rattle.framing.specs.Reference.{Call, byte, finish, Role, starts, stops, plain, Candidate, none, opened}
+use Rattle.framing.specs.Reference.{Protocol, byteAnswer, byteAfter, endAnswer, answerTo, candidateAfter, Reference}
+use Rattle.framing.specs.Reference.{FlagFree}
 use Rattle.lists.specs.Machine.{run, leftAfter}
-use Rattle.framing.specs.Demand3.{feed, LeftOpen, Restarts, Follows, Demand3}
-use Rattle.lists.proofs.Machines.{run-append, left-append, runs-anew, simulates}
+use Rattle.framing.specs.Demand3.{feed, toldBy, LeftOpen, Restarts, Follows, Demand3}
+use Rattle.lists.proofs.Machines.{run-append, left-append, runs-anew, run-told, simulates}
 
 pub feed-append : (xs ys : List ℕ) → feed (xs ++ ys) ≡ feed xs ++ feed ys
 feed-append [] ys = refl
@@ -172,3 +173,33 @@ module _ {A : Type 0} (P : Protocol A) where
           nothing = k .nothing;
         };
   }
+
+-- ---- answers told in another way
+
+module _ {A B : Type 0} (tell : A → B) (P : Protocol A) where
+  byte-told : (ρ : Role) (k : Candidate) (b : ℕ)
+      → (byteAnswer (toldBy tell P) ρ k b ≡ tell (byteAnswer P ρ k b))
+      × (byteAfter (toldBy tell P) ρ k b ≡ byteAfter P ρ k b)
+  byte-told starts none b = (refl, refl)
+  byte-told starts (opened s) b = (refl, refl)
+  byte-told stops none b = (refl, refl)
+  byte-told stops (opened s) b = (refl, refl)
+  byte-told plain none b = (refl, refl)
+  byte-told plain (opened s) b = (refl, refl)
+
+  call-told : (k k′ : Candidate) (c : Call) → k ≡ k′
+      → (answerTo (toldBy tell P) k c ≡ tell (answerTo P k′ c))
+      × (candidateAfter (toldBy tell P) k c ≡ candidateAfter P k′ c)
+  call-told k k′ (byte b) e = rw e (byte-told (P .role b) k′ b)
+  call-told k k′ finish e = rw e (end-told k′)
+    where
+      end-told : (k : Candidate) → (endAnswer (toldBy tell P) k ≡ tell (endAnswer P k)) × (none ≡ none)
+      end-told none = (refl, refl)
+      end-told (opened s) = (refl, refl)
+
+  -- The reference decoder's answers are told so.
+  pub reference-told : (calls : List Call) → map tell (Reference P calls) ≡ Reference (toldBy tell P) calls
+  reference-told calls =
+      sym (run-told tell (answerTo P) (candidateAfter P) none calls)
+      ∙ sym (simulates (answerTo (toldBy tell P)) (candidateAfter (toldBy tell P)) (λ k c. tell (answerTo P k c))
+      (candidateAfter P) (λ k k′. k ≡ k′) call-told none none refl calls)

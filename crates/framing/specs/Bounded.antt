@@ -35,11 +35,11 @@ pub record Bounds (K A : Type 0) : Type 0 where
   pub long : A
 
 module _ {K A : Type 0} (P : Protocol A) (B : Bounds K A) where
-  -- The protocol judges every terminated candidate so: by its kind and its bytes where there is room for them, else
-  -- with one answer whatever the bytes are. What is judged leaves as many bytes in the array as there were.
+  -- The protocol judges a terminated candidate by its kind and its bytes, and where there is no room for them with one
+  -- answer, whatever they are. What is judged leaves as many bytes in the array as there were.
   pub record Suits : Type 0 where
-    pub held : (flag : ℕ) (body : List ℕ) (b : ℕ) → P .role flag ≡ starts → FlagFree (P .role) body → P .role b ≡ stops
-        → length body ≤ B .capacity → P .judge (flag ∷ (body ++ b ∷ [])) ≡ B .judge (B .kind flag) body
+    pub held : (flag : ℕ) (body : List ℕ) (b : ℕ) → P .role flag ≡ starts → P .role b ≡ stops
+        → P .judge (flag ∷ (body ++ b ∷ [])) ≡ B .judge (B .kind flag) body
     pub too-long : (flag : ℕ) (body : List ℕ) (b : ℕ) → P .role flag ≡ starts → FlagFree (P .role) body
         → P .role b ≡ stops
         → B .capacity < length body → P .judge (flag ∷ (body ++ b ∷ [])) ≡ B .long

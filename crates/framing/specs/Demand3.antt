@@ -9,6 +9,16 @@ use Rattle.framing.specs.Reference.{Call, byte, starts, FlagFree, Protoc
 abbrev pub feed : List ℕ → List Call
 feed bytes = map byte bytes
 
+-- A protocol with each of its answers told in another way.
+abbrev pub toldBy : {A B : Type 0} → (A → B) → Protocol A → Protocol B
+toldBy tell P =
+    record {
+      role = P .role;
+      nothing = tell (P .nothing);
+      truncated = tell (P .truncated);
+      judge = λ s. tell (P .judge s);
+    }
+
 module _ {A : Type 0} (P : Protocol A) where
   -- The bytes hold a start flag, and no stop flag after their last start flag. It speaks of the bytes alone.
   pub record LeftOpen (bytes : List ℕ) : Type 0 where

@@ -1,10 +1,9 @@
 -- Bounds on what bytes that were fed give: a frame's contents fit between two flags, and the length held stays short.
-use mathlib.Core.Path.{_≡_, refl, sym, ap, _∙_}
+use mathlib.Core.Path.{_≡_, refl}
 use mathlib.Core.Bool.{Bool, true, false}
 use mathlib.Core.List.{List, [], _∷_}
 use native.Mathlib.Omega.{arith}
-use lib.ListN.{length, take, drop, length-append}
-use lib.Seq.{take-all}
+use lib.ListN.{take}
 use lib.Dec.{ltb}
 use Prim.Native.Nat.{ℕ, _≤_, _<_}
 use borrow.Author.Tests.{ltb-true, ltb-false}
@@ -12,14 +11,13 @@ use Rattle.lists.specs.Choice.{pick}
 use Rattle.lists.proofs.Cases.{by-bool}
 use Rattle.framing.specs.Reference.{Role, starts, stops, plain}
 use Rattle.framing.specs.Bounded.{BoundedMode, outside, inside, overlong, truncatedIn, terminatedIn, grownIn}
-use Rattle.frame.specs.Flags.{roleOf}
-use Rattle.frame.specs.Frame.{Frame, standard, extended, contentsOf}
-use Rattle.frame.specs.Verdict.{Verdict, judge}
+use Rattle.frame.specs.Flags.{roleOf, candidateOf}
+use Rattle.frame.specs.Frame.{standard, extended, contentsOf}
+use Rattle.frame.specs.Verdict.{Verdict, verdict}
 use Rattle.answer.specs.Answer.{refused, result}
-use Rattle.frame.specs.Answers.{judgeAnswer, leftIn}
+use Rattle.frame.specs.Answers.{judgeAnswer}
 use Rattle.frame.specs.declared.Kind.{Kind}
-use Rattle.frame.proofs.VerdictLaws.{judge-long}
-use Rattle.frame.proofs.ContentsLaws.{left-length}
+use Rattle.frame.proofs.ContentsLaws.{accepted-short}
 use Rattle.line.specs.Rowing.{rowing, rowingBounds}
 use Rattle.line.specs.Outcome.{summaryOf, tells, ContentsFit}
 use Rattle.line.specs.Reader.{ReaderTurn, modeSeen, roleStep, stepOf, finishOf}
@@ -28,24 +26,15 @@ use Rattle.line.specs.declared.LineReader.{LineReader}
 
 -- ---- contents
 
--- The contents of a body that is accepted are at most the bytes that may stand between flags.
-judged-short : (kind : Kind) (body : List ℕ) (f : Frame) → judge kind body ≡ result f → length (contentsOf f) ≤ 118
-unfolding leftIn
-judged-short kind body f e =
-    by-bool (ltb 118 (length body))
-    (λ y. let q : refused 2 ≡ result f = sym (judge-long kind body (ltb-true 118 (length body) y)) ∙ e in
-    let z : _≡_ {A = ℕ} 0 1 = cc in absurd (omega arith))
-    (λ y. let k : length (leftIn (result f) body) ≡ length body =
-    ap (λ (v : Verdict). length (leftIn v body)) (sym (ap (judge kind) (take-all (length body) body (omega arith)) ∙ e))
-    ∙ left-length kind (length body) body in
-    omega (arith, k, ltb-false 118 (length body) y, length-append (contentsOf f) (drop (length (contentsOf f)) body)))
-
-verdict-within : (v : Verdict) → ((f : Frame) → v ≡ result f → length (contentsOf f) ≤ 118)
-    → ContentsFit 118 (tells (judgeAnswer v))
+-- The contents of a slice that is accepted are at most the bytes that may stand between flags.
+verdict-within : (w : List ℕ) → ContentsFit 118 (tells (judgeAnswer (verdict w)))
 unfolding judgeAnswer contentsOf
-verdict-within (refused n) h = tt
-verdict-within (result (standard c)) h = h (standard c) refl
-verdict-within (result (extended to from c)) h = h (extended to from c) refl
+verdict-within w = fits (verdict w) refl
+  where
+    fits : (v : Verdict) → verdict w ≡ v → ContentsFit 118 (tells (judgeAnswer v))
+    fits (refused n) e = tt
+    fits (result (standard c)) e = omega (arith, accepted-short w (standard c) e)
+    fits (result (extended to from c)) e = omega (arith, accepted-short w (extended to from c) e)
 
 -- Truncation tells of no contents.
 truncated-within : (m : BoundedMode Kind) → ContentsFit 118 (summaryOf (truncatedIn rowing rowingBounds m))
@@ -58,8 +47,7 @@ terminated-within : (m : BoundedMode Kind) (bytes : List ℕ) (len : ℕ)
     → ContentsFit 118 (summaryOf (terminatedIn rowing rowingBounds m bytes len))
 unfolding judgeAnswer
 terminated-within outside bytes len = tt
-terminated-within (inside kind) bytes len =
-    verdict-within (judge kind (take len bytes)) (judged-short kind (take len bytes))
+terminated-within (inside kind) bytes len = verdict-within (candidateOf kind (take len bytes))
 terminated-within overlong bytes len = tt
 
 byte-within : (r : LineReader) (b : ℕ) (ρ : Role) → ContentsFit 118 (summaryOf (roleStep ρ r b .answer))

@@ -1,48 +1,50 @@
 -- Demand 3: the line reader answers every list of calls as the reference decoder does, and starts again at each start
 -- flag.
-use mathlib.Core.Path.{_≡_, refl, sym, ap, _∙_}
+use mathlib.Core.Path.{_≡_, refl, sym, ap, ap₂, _∙_}
 use mathlib.Core.List.{List, [], _∷_, _++_}
 use Prim.Native.Nat.{ℕ}
-use lib.ListN.{length}
 use Rattle.lists.specs.Machine.{run}
-use Rattle.framing.specs.Reference.{starts, stops, FlagFree}
+use Rattle.framing.specs.Reference.{starts, stops}
 use Rattle.framing.specs.Demand3.{Follows}
 use Rattle.framing.specs.Bounded.{Suits}
 use Rattle.framing.proofs.Bounded.{bounded-follows}
-use Rattle.frame.specs.Flags.{startFlag, roleOf, kindOf}
-use Rattle.frame.specs.Verdict.{judge, verdict}
+use Rattle.frame.specs.Flags.{roleOf, kindOf, candidateOf}
+use Rattle.frame.specs.Verdict.{verdict}
 use Rattle.frame.proofs.FlagLaws.{role-start, role-stop, free-flagless}
 use Rattle.frame.proofs.VerdictLaws.{whole-verdict, judge-long}
 use Rattle.frame.proofs.ContentsLaws.{left-length}
-use Rattle.line.specs.Outcome.{judged, zeros}
+use Rattle.line.specs.Outcome.{judged}
 use Rattle.line.specs.Rowing.{rowing, rowingBounds}
-use Rattle.line.specs.Reader.{reader, seen, turnOf, outcomeAt, nextAfter, readerOutcomes}
-use Rattle.line.specs.declared.Mode.the-variants.{Outside}
+use Rattle.line.specs.Reader.{newReader, AsNew, modeSeen, seen, turnOf, outcomeAt, nextAfter, readerOutcomes}
+use Rattle.line.specs.declared.LineReader.{LineReader}
 use Rattle.line.proofs.ReaderLaws.{call-seen}
 
-terminated-verdict : (flag : ℕ) (body : List ℕ) (b : ℕ) → roleOf flag ≡ starts → FlagFree roleOf body → roleOf b ≡ stops
-    → verdict (flag ∷ (body ++ b ∷ [])) ≡ judge (kindOf flag) body
-terminated-verdict flag body b s f e =
-    ap (λ (x : ℕ). verdict (x ∷ (body ++ b ∷ []))) (sym (role-start flag s))
-    ∙ ap (λ (x : ℕ). verdict (startFlag (kindOf flag) ∷ (body ++ x ∷ []))) (role-stop b e)
-    ∙ whole-verdict (kindOf flag) body (free-flagless body f)
+-- a candidate is known by the kind that its start flag opens and the bytes between its flags
+by-kind : (flag : ℕ) (body : List ℕ) (b : ℕ) → roleOf flag ≡ starts → roleOf b ≡ stops
+    → flag ∷ (body ++ b ∷ []) ≡ candidateOf (kindOf flag) body
+by-kind flag body b s e =
+    ap₂ (λ (x y : ℕ). x ∷ (body ++ y ∷ [])) (sym (role-start flag s)) (role-stop b e)
 
--- A candidate with at most 118 bytes between its flags is judged by them, and one with more is refused with 2 whatever
--- they are.
+-- A candidate is judged by its kind and the bytes between its flags, and one with more than 118 of them is refused with
+-- 2 whatever they are.
 pub rowing-suits : Suits rowing rowingBounds
 rowing-suits = record {
-  held = λ flag body b s f e l. ap judged (terminated-verdict flag body b s f e);
-  too-long = λ flag body b s f e l. ap judged (terminated-verdict flag body b s f e ∙ judge-long (kindOf flag) body l);
+  held = λ flag body b s e. ap (λ (w : List ℕ). judged (verdict w)) (by-kind flag body b s e);
+  too-long = λ flag body b s f e l. ap judged
+      (ap verdict (by-kind flag body b s e) ∙ whole-verdict (kindOf flag) body (free-flagless body f)
+      ∙ judge-long (kindOf flag) body l);
   kept = λ kind len bytes e. left-length kind len bytes ∙ e;
 }
 
--- Demand 3 of any reader that is outside of a candidate: what its array and its length are doesn't matter.
-pub outside-follows : (bytes : List ℕ) (len : ℕ) → length bytes ≡ 118
-    → Follows rowing (run outcomeAt nextAfter (reader bytes len Outside))
-outside-follows bytes len h =
-    bounded-follows rowing rowingBounds rowing-suits turnOf seen call-seen (reader bytes len Outside) h refl
+-- Demand 3 of any reader that is as new.
+pub as-new-follows : (r : LineReader) → AsNew r → Follows rowing (run outcomeAt nextAfter r)
+as-new-follows r n =
+    bounded-follows rowing rowingBounds rowing-suits turnOf seen call-seen r (n .array) (ap modeSeen (n .outside-is))
+
+pub new-as-new : AsNew newReader
+new-as-new = record { array = refl; outside-is = refl }
 
 -- Demand 3, whole: every list of calls on a new reader is answered as the reference decoder answers it, and D, W and L
 -- as the minutes say.
 pub reader-follows : Follows rowing readerOutcomes
-reader-follows = outside-follows zeros 0 refl
+reader-follows = as-new-follows newReader new-as-new

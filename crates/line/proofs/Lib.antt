@@ -1,5 +1,6 @@
 pub mod ReaderLaws
 pub mod Follows
+pub mod ValueLaws
 pub mod Calls
 pub mod Consequences
 pub mod FeedLaws

@@ -1,22 +1,30 @@
--- A stream cut into chunks, each starting right after the last byte taken, beside its bytes fed singly.
-use mathlib.Core.List.{List, [], _++_}
-use lib.ListN.{drop}
-use Prim.Native.Nat.{ℕ}
-use Rattle.lists.specs.Machine.{leftAfter}
-use Rattle.frame.specs.Verdict.{Verdict}
-use Rattle.line.specs.Outcome.{withAnswer}
-use Rattle.line.specs.Reader.{stepOf}
-use Rattle.line.specs.Feed.{feedOf}
+-- Bytes given to a line reader in chunks, each starting right after the last byte taken, beside the same bytes fed
+-- singly.
+use mathlib.Core.Path.{_≡_}
+use mathlib.Core.List.{List, [], _∷_}
+use lib.ListN.{length}
+use Prim.Native.Nat.{ℕ, zero, suc, _≤_}
+use Rattle.lists.specs.Machine.{run, leftAfter}
+use Rattle.framing.specs.Reference.{Call}
+use Rattle.line.specs.Outcome.{Outcome, nothing, judged}
+use Rattle.line.specs.Reader.{outcomeAt, nextAfter}
 use Rattle.line.specs.declared.LineReader.{LineReader}
 
--- The reader after bytes fed singly.
-abbrev pub afterBytes : LineReader → List ℕ → LineReader
-afterBytes r bytes = leftAfter (λ s b. stepOf s b .next) r bytes
+-- The outcomes of the bytes of a chunk, by how many it took and what it was answered: nothing for each but the last,
+-- and the chunk's outcome for the last. An answer where no byte was taken stands by itself, so that none is left out.
+abbrev pub byByte : ℕ → Outcome → List Outcome
+byByte zero nothing = []
+byByte zero (judged v) = judged v ∷ []
+byByte (suc zero) o = o ∷ []
+byByte (suc (suc n)) o = nothing ∷ byByte (suc n) o
 
--- Calls on a reader that take a stream to its end, their answers, and the reader that the last one leaves. A call may
--- be given any part of what is left of the stream, so also bytes that it does not take, all, or none.
-pub data Chunks : LineReader → List ℕ → List Verdict → LineReader → Type 0 where
-  ended : {r : LineReader} → Chunks r [] [] r
-  chunk : {r last : LineReader} {rest : List Verdict} (given later : List ℕ)
-      → Chunks (feedOf r given .next) (drop (feedOf r given .taken) (given ++ later)) rest last
-      → Chunks r (given ++ later) (withAnswer (feedOf r given .answer) rest) last
+-- A chunk is taken to its end, or to a byte that is answered.
+pub record TakenToAnswer (given : List ℕ) (taken : ℕ) (o : Outcome) : Type 0 where
+  pub within : taken ≤ length given
+  pub all : o ≡ nothing → taken ≡ length given
+  pub some : (o ≡ nothing → ⊥) → 1 ≤ taken
+
+-- The outcomes and the last reader of calls made singly: each byte by itself, and each finish.
+pub record AsSingly (r : LineReader) (calls : List Call) (outcomes : List Outcome) (last : LineReader) : Type 0 where
+  pub outcomes-are : outcomes ≡ run outcomeAt nextAfter r calls
+  pub reader-is : last ≡ leftAfter nextAfter r calls

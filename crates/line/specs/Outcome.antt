@@ -1,11 +1,12 @@
 -- What a call on a line reader is answered with: document 01, "The line".
 use mathlib.Core.Path.{_≡_}
-use mathlib.Core.List.{List, [], _∷_}
-use Prim.Native.Nat.{ℕ, _≤_}
-use lib.ListN.{replicate}
+use mathlib.Core.List.{List, [], _∷_, _++_}
+use Prim.Native.Nat.{ℕ, _-_, _≤_}
+use lib.ListN.{length, replicate}
 use Rattle.lists.specs.Choice.{Every}
 use Rattle.answer.specs.Answer.{Answer, result, refused}
 use Rattle.answer.specs.Refusals.{numberOf}
+use Rattle.frame.specs.Frame.{contentsOf}
 use Rattle.frame.specs.Verdict.{Verdict}
 use Rattle.frame.specs.Answers.{FrameOutline, standardOutline, extendedOutline, judgeAnswer, frameRead}
 use Rattle.line.specs.declared.Told.{Told}
@@ -60,13 +61,28 @@ capacity = 118
 abbrev pub zeros : List ℕ
 zeros = replicate capacity 0
 
--- The array beside a summary, where `bytes` is the array that the reader is left with: a frame's contents are its first
--- bytes; no contents stand beside anything else.
-abbrev pub contentsBeside : Summary → List ℕ → List ℕ
-contentsBeside silent bytes = zeros
-contentsBeside (tells (result (standardOutline len))) bytes = bytes
-contentsBeside (tells (result (extendedOutline to from len))) bytes = bytes
-contentsBeside (tells (refused n)) bytes = zeros
+-- ---- an answer by value
+
+-- Bytes, and zeros after them to 118 in all.
+abbrev pub padded : List ℕ → List ℕ
+padded s = s ++ replicate (capacity - length s) 0
+
+-- The contents of a frame. Nothing else has any.
+abbrev pub contentsTold : Outcome → List ℕ
+contentsTold nothing = []
+contentsTold (judged (refused n)) = []
+contentsTold (judged (result f)) = contentsOf f
+
+-- What an answer by value is: what its enum means, and every byte of its array.
+pub record ValueAnswer : Type 0 where
+  pub told : Summary
+  pub contents : List ℕ
+
+-- The answer by value that an outcome is: the contents stand first, and all after them is zero.
+abbrev pub answerOf : Outcome → ValueAnswer
+answerOf o = record { told = summaryOf o; contents = padded (contentsTold o) }
+
+-- ---- bounds
 
 -- A frame's contents are at most so many bytes.
 abbrev pub ContentsFit : ℕ → Summary → Type 0

@@ -2,19 +2,21 @@
 use mathlib.Core.Path.{_≡_}
 use mathlib.Core.List.{List}
 use Prim.Native.Nat.{ℕ}
+use lib.ListN.{length}
 use Rattle.lists.specs.Machine.{Turn, turn, run}
 use Rattle.framing.specs.Reference.{Call, byte, finish, Role}
 use Rattle.framing.specs.Bounded.{BoundedMode, outside, inside, overlong, BoundedReader, bounded, byteTurn, boundedTurn}
 use Rattle.frame.specs.Flags.{roleOf}
 use Rattle.frame.specs.declared.Kind.{Kind}
 use Rattle.frame.specs.declared.Kind.the-variants.{Standard, Extended}
-use Rattle.line.specs.Outcome.{Outcome, toldMeans, summaryOf, outcomeOf, contentsBeside, zeros}
+use Rattle.line.specs.Outcome.{Outcome, toldMeans, summaryOf, outcomeOf, capacity, zeros, ValueAnswer, answerOf}
 use Rattle.line.specs.Rowing.{rowing, rowingBounds}
 use Rattle.line.specs.declared.Mode.{Mode}
 use Rattle.line.specs.declared.Mode.the-variants.{Outside, InStandard, InExtended, Overlong}
 use Rattle.line.specs.declared.State.{State}
 use Rattle.line.specs.declared.LineReader.{LineReader}
 use Rattle.line.specs.declared.LentStep.{LentStep}
+use Rattle.line.specs.declared.StepAnswer.{StepAnswer}
 use Rattle.line.specs.declared.Stepped.{Stepped}
 
 -- The reader that a lent array and a state are.
@@ -26,6 +28,11 @@ reader bytes len mode = lentReader bytes (record { len = len; mode = mode })
 
 abbrev pub newReader : LineReader
 newReader = reader zeros 0 Outside
+
+-- A reader that is outside of a candidate is as new: what is in its array, and its length, doesn't matter.
+pub record AsNew (r : LineReader) : Type 0 where
+  pub array : length (r .bytes) ≡ capacity
+  pub outside-is : r .state .mode ≡ Outside
 
 -- ---- the struct as a bounded reader, and back
 
@@ -89,17 +96,16 @@ pub record LentStepIs (bytes : List ℕ) (s : LentStep) (t : ReaderTurn) : Type 
   pub told-is : toldMeans (s .told) ≡ summaryOf (t .answer)
   pub next-is : lentReader bytes (s .state) ≡ t .next
 
--- By value.
+-- What an answer by value means.
+abbrev pub answerMeans : StepAnswer → ValueAnswer
+answerMeans a = record { told = toldMeans (a .told); contents = a .contents }
+
+-- By value: the whole answer is that of the outcome.
 pub record StepIs (s : Stepped) (t : ReaderTurn) : Type 0 where
-  pub told-is : toldMeans (s .answer .told) ≡ summaryOf (t .answer)
-  pub contents-is : s .answer .contents ≡ contentsBeside (summaryOf (t .answer)) (t .next .bytes)
+  pub answer-is : answerMeans (s .answer) ≡ answerOf (t .answer)
   pub next-is : s .next ≡ t .next
 
 -- ---- what a caller has of an answer
-
--- The outcome that an answer by value holds.
-abbrev pub outcomeIn : Stepped → Outcome
-outcomeIn s = outcomeOf (toldMeans (s .answer .told)) (s .answer .contents)
 
 -- The outcome that an answer over a lent array and that array hold.
 abbrev pub lentOutcome : LentStep → List ℕ → Outcome

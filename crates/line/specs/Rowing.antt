@@ -4,8 +4,8 @@ use Prim.Native.Nat.{ℕ}
 use Rattle.answer.specs.Answer.{refused}
 use Rattle.framing.specs.Reference.{Protocol}
 use Rattle.framing.specs.Bounded.{Bounds}
-use Rattle.frame.specs.Flags.{roleOf, kindOf}
-use Rattle.frame.specs.Verdict.{judge, verdict}
+use Rattle.frame.specs.Flags.{roleOf, kindOf, candidateOf}
+use Rattle.frame.specs.Verdict.{verdict}
 use Rattle.frame.specs.Answers.{leftIn}
 use Rattle.frame.specs.declared.Kind.{Kind}
 use Rattle.line.specs.Outcome.{Outcome, nothing, judged, capacity}
@@ -19,14 +19,14 @@ abbrev pub leftBy : Outcome → List ℕ → List ℕ
 leftBy nothing bytes = bytes
 leftBy (judged v) bytes = leftIn v bytes
 
--- A candidate of 118 bytes between its flags is held, and judged in place; one with more is refused with 2 when it is
--- terminated.
+-- A candidate of 118 bytes between its flags is held, and judged in place as the slice that it is; one with more is
+-- refused with 2 when it is terminated.
 abbrev pub rowingBounds : Bounds Kind Outcome
 rowingBounds =
     record {
       capacity = capacity;
       kind = kindOf;
-      judge = λ kind body. judged (judge kind body);
+      judge = λ kind body. judged (verdict (candidateOf kind body));
       left = leftBy;
       long = judged (refused 2);
     }

@@ -9,17 +9,18 @@ use frame::flags;
 ghost use mathlib.Core.Path.{_≡_};
 ghost use mathlib.Core.List.{List};
 ghost use Prim.Native.Nat.{ℕ};
+ghost use lib.ListN.{take};
 ghost use Rattle.lists.specs.Machine.{turn};
 ghost use Rattle.framing.specs.Reference.{stops, plain};
 ghost use Rattle.framing.specs.Bounded.{truncatedIn, terminatedIn, leftByStop};
 ghost use Rattle.frame.specs.Answers.{readMeans};
-ghost use Rattle.line.specs.Outcome.{toldMeans, tells, summaryOf, nothing, contentsBeside};
+ghost use Rattle.line.specs.Outcome.{toldMeans, tells, summaryOf, nothing, padded};
 ghost use Rattle.line.specs.Rowing.{rowing, rowingBounds};
 ghost use Rattle.line.specs.Reader.{lentReader, reader, newReader, modeSeen, roleStep, stepOf, finishOf};
 ghost use Rattle.line.specs.Reader.{LentStepIs, StepIs, ReaderTurn};
 ghost use Rattle.line.specs.declared.Told.the-variants.{Nothing};
 ghost use Rattle.line.specs.Feed.{says, feedOf, ChunkStepIs};
-ghost use Rattle.line.specs.Private.{withByte};
+ghost use Rattle.line.specs.Private.{withByte, Whole, besideTold};
 
 // The most bytes that may stand between the flags of a frame.
 const ROOM: usize = 118;
@@ -56,7 +57,7 @@ pub struct LineReader {
     pub state: State,
 }
 
-// The answer to a call. The array is 118 zeros where no frame is told.
+// The answer to a call. The array holds a frame's contents, and zeros after them; where no frame is told, zeros alone.
 pub struct StepAnswer {
     pub told: Told,
     pub contents: [u8; 118],
@@ -299,7 +300,7 @@ fn with_byte(bytes: &mut [u8; 118], len: usize, mode: Mode, b: u8) -> LentStep
 
 // The answer by value, from the one over a lent array and the array.
 fn by_value(step: LentStep, bytes: [u8; 118]) -> Stepped
-    ensures { λ r. ⌜ ((t : ReaderTurn) → LentStepIs bytes step t → StepIs r t) ⌝ }
+    ensures { λ r. ⌜ ((t : ReaderTurn) → LentStepIs bytes step t → Whole t → StepIs r t) ⌝ }
 {
     let told = step.told;
     let state = step.state;
@@ -310,18 +311,32 @@ fn by_value(step: LentStep, bytes: [u8; 118]) -> Stepped
     }
 }
 
-// The array that stands beside what is told.
+// The array that stands beside what is told: a frame's contents, which are the first bytes of the reader's array, and
+// zeros after them.
 fn beside(told: Told, bytes: [u8; 118]) -> [u8; 118]
-    ensures { λ r. ⌜ r ≡ contentsBeside (toldMeans told) bytes ⌝ }
+    ensures { λ r. ⌜ r ≡ besideTold (toldMeans told) bytes ⌝ }
 {
     match told {
         Told::Nothing => [0u8; 118],
         Told::Refused(_) => [0u8; 118],
-        Told::Standard { len: _ } => bytes,
+        Told::Standard { len } => first_of(bytes, len),
         Told::Extended {
             to: _,
             from: _,
-            len: _,
-        } => bytes,
+            len,
+        } => first_of(bytes, len),
     }
+}
+
+// The first bytes of an array, and zeros after them.
+fn first_of(bytes: [u8; 118], len: usize) -> [u8; 118]
+    ensures { λ r. ⌜ r ≡ padded (take len bytes) ⌝ }
+{
+    let mut contents = bytes;
+    let mut i = len;
+    while i < ROOM {
+        contents[i] = 0;
+        i += 1;
+    }
+    contents
 }

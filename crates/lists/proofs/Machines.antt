@@ -1,8 +1,8 @@
 -- Laws of a machine run on a list of calls.
-use mathlib.Core.Path.{_≡_, refl, ap, ap₂, _∙_}
+use mathlib.Core.Path.{_≡_, refl, sym, ap, ap₂, _∙_}
 use mathlib.Core.Bool.{Bool, true, false}
-use mathlib.Core.List.{List, [], _∷_, _++_}
-use Rattle.lists.specs.Machine.{run, leftAfter, only, answersOnly, Ran, ended, call}
+use mathlib.Core.List.{List, [], _∷_, _++_, map}
+use Rattle.lists.specs.Machine.{run, leftAfter, only, answersOnly, Ran, ended, call, RanBy, ended-by, call-by}
 use Rattle.lists.specs.Choice.{Every}
 use Rattle.lists.proofs.Cases.{by-bool}
 
@@ -25,6 +25,13 @@ pub left-append : {S C : Type 0} (next : S → C → S) (s : S) (calls rest : Li
     → leftAfter next s (calls ++ rest) ≡ leftAfter next (leftAfter next s calls) rest
 left-append next s [] rest = refl
 left-append next s (c ∷ calls) rest = left-append next (next s c) calls rest
+
+-- Answers told in another way.
+pub run-told : {S C A B : Type 0} (tell : A → B) (answer : S → C → A) (next : S → C → S) (s : S) (calls : List C)
+    → run (λ s c. tell (answer s c)) next s calls ≡ map tell (run answer next s calls)
+run-told tell answer next s [] = refl
+run-told tell answer next s (c ∷ calls) =
+    ap (λ l. tell (answer s c) ∷ l) (run-told tell answer next (next s c) calls)
 
 -- ---- two machines
 
@@ -81,6 +88,22 @@ module _ {S T C A : Type 0} (called : S → C → A → S → Type 0) (answer : 
       let r = ran-run rest in (
         ap₂ (λ (x : A) (xs : List A). x ∷ xs) (e .0) (r .0 ∙ ap (λ (v : T). run answer next v calls) (e .1)),
         r .1 ∙ ap (λ (v : T). leftAfter next v calls) (e .1),
+      )
+
+-- The same where one call stands for several.
+module _ {S T C A : Type 0} (made : S → List C → List A → S → Type 0) (answer : T → C → A) (next : T → C → T)
+    (seen : S → T)
+    (each : (s t : S) (cs : List C) (rs : List A) → made s cs rs t
+    → (rs ≡ run answer next (seen s) cs) × (seen t ≡ leftAfter next (seen s) cs)) where
+  pub ran-by-run : {s u : S} {calls : List C} {answers : List A} → RanBy made s calls answers u
+      → (answers ≡ run answer next (seen s) calls) × (seen u ≡ leftAfter next (seen s) calls)
+  ran-by-run ended-by = (refl, refl)
+  ran-by-run (call-by s t cs rs {calls = calls} k rest) =
+      let e = each s t cs rs k in
+      let r = ran-by-run rest in (
+        ap₂ (λ (xs ys : List A). xs ++ ys) (e .0) (r .0 ∙ ap (λ (v : T). run answer next v calls) (e .1))
+            ∙ sym (run-append answer next (seen s) cs calls),
+        r .1 ∙ ap (λ (v : T). leftAfter next v calls) (e .1) ∙ sym (left-append next (seen s) cs calls),
       )
 
 -- What each call shows of itself, every call of a row has.

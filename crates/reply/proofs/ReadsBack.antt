@@ -1,21 +1,22 @@
 -- What is written reads back.
 use Rattle.answer.proofs.Drafts.{written-first}
-use Prim.Native.Nat.{ℕ, _/_, _%_, _<_}
+use Prim.Native.Nat.{ℕ, _<_}
 use mathlib.Core.Path.{_≡_, refl, sym, ap, _∙_}
 use mathlib.Core.Bool.{Bool}
-use mathlib.Core.List.{List, [], _∷_, _++_, append-assoc, append-nil}
+use mathlib.Core.List.{List, [], _∷_, _++_}
 use native.Mathlib.Omega.{arith}
 use lib.Dec.{leb}
 use lib.ListN.{length, take}
-use Rattle.answer.specs.Draft.{Draft, draftAnswer, draftOut}
-use Rattle.answer.specs.Answer.{result, refused, Answer}
+use borrow.Author.Tests.{lt-ltb}
+use Rattle.answer.specs.Draft.{draftAnswer, draftOut}
+use Rattle.answer.specs.Answer.{result, refused, Answer, through}
 use Rattle.lists.proofs.Cases.{by-bool}
 use Rattle.command.specs.Entries.{Entry, entry, items, entryBytes, WellFormed, Parsed, unsound, sound, parse, nthOf}
 use Rattle.command.specs.Answers.{partOf}
 use Rattle.command.proofs.Extents.{parse-last, nth-earlier, data-at}
-use Rattle.reply.specs.Status.{status, soundStatus, statusIn, StatusParts}
+use Rattle.reply.specs.Status.{status, statusIn, StatusParts}
 use Rattle.reply.specs.Replies.{reply, headIn, afterStatus, replyIn, itemOf, nthItem, statusDraft, withItem}
-use Rattle.reply.specs.Replies.{writeAll, ItemBytes, afterReply, itemDraft, Reply}
+use Rattle.reply.specs.Replies.{itemBytes, afterReply, itemDraft, Reply}
 
 -- a reply's bytes are a status byte and sound items
 pub reply-means : (w : List ℕ) (t : Bool) (p s : ℕ) (es : List Entry) → replyIn w ≡ result (reply t p s es)
@@ -28,7 +29,7 @@ reply-means (b ∷ v) t p s es h = case (statusIn b) (parse items v 0) refl refl
         → afterStatus a q ≡ result (reply t p s es)
         → (c : ℕ) × (u : List ℕ) × (b ∷ v ≡ c ∷ u) × (statusIn c ≡ result (status t p s)) × (parse items u 0 ≡ sound es)
     case (refused k) q e f g = let z : _≡_ {A = ℕ} 0 1 = cc in absurd (omega arith)
-    case (result (status t′ p′ s′)) unsound e f g = let z : _≡_ {A = ℕ} 0 1 = cc in absurd (omega arith)
+    case (result (status t′ p′ s′)) (unsound at) e f g = let z : _≡_ {A = ℕ} 0 1 = cc in absurd (omega arith)
     case (result (status t′ p′ s′)) (sound fs) e f g =
         let i : result (status t′ p′ s′) ≡ result (status t p s) = cc in
         let j : sound fs ≡ sound es = cc in (b, v, refl, e ∙ i, f ∙ j)
@@ -42,23 +43,27 @@ reply-of b v t p s es e f =
 -- A status alone reads back as that status and no items.
 pub status-reads-back : (b : ℕ) (w : List ℕ) → statusDraft b ≡ result w
     → (t : Bool) × (p : ℕ) × (s : ℕ) × (statusIn b ≡ result (status t p s)) × (replyIn w ≡ result (reply t p s []))
-unfolding statusDraft statusIn parse
-status-reads-back b w h =
-    by-bool (soundStatus b)
-    (λ y. let q : result (b ∷ []) ≡ result w = simp y at h in
-    let i : b ∷ [] ≡ w = cc in
-    let e : statusIn b ≡ result (status (leb 128 b) (b / 16 % 4) (b % 16)) = simp y in
-    (leb 128 b, b / 16 % 4, b % 16, e, ap replyIn (sym i) ∙ reply-of b [] (leb 128 b) (b / 16 % 4) (b % 16) [] e refl))
-    (λ y. let q : refused 8 ≡ result w = simp y at h in let z : _≡_ {A = ℕ} 0 1 = cc in absurd (omega arith))
+unfolding statusDraft parse
+status-reads-back b w h = case (statusIn b) refl h
+  where
+    case : (a : Answer StatusParts) → statusIn b ≡ a → through (λ t. b ∷ []) a ≡ result w
+        → (t : Bool) × (p : ℕ) × (s : ℕ) × (statusIn b ≡ result (status t p s)) × (replyIn w ≡ result (reply t p s []))
+    case (refused k) e f = let z : _≡_ {A = ℕ} 0 1 = cc in absurd (omega arith)
+    case (result (status t p s)) e f =
+        let i : b ∷ [] ≡ w = cc in (t, p, s, e, ap replyIn (sym i) ∙ reply-of b [] t p s [] e refl)
 
-with-item-means : (s : List ℕ) (b : ℕ) (d w : List ℕ) → withItem s b d ≡ result w
-    → w ≡ s ++ entryBytes items (entry b d)
+-- an item's byte has a count
+item-bytes : (b : ℕ) (d : List ℕ) → b < 256 → entryBytes items (entry b d) ≡ itemBytes b d
+unfolding entryBytes
+item-bytes b d h = simp (lt-ltb b 256 h)
+
+with-item-means : (s : List ℕ) (b : ℕ) (d w : List ℕ) → withItem s b d ≡ result w → w ≡ s ++ itemBytes b d
 unfolding withItem
 with-item-means s b d w h =
     by-bool (leb (length d) 255)
-    (λ x. by-bool (leb (length (s ++ entryBytes items (entry b d))) 117)
-    (λ y. let q : result (s ++ entryBytes items (entry b d)) ≡ result w = simp (x, y) at h in
-    let i : w ≡ s ++ entryBytes items (entry b d) = cc in i)
+    (λ x. by-bool (leb (length (s ++ itemBytes b d)) 117)
+    (λ y. let q : result (s ++ itemBytes b d) ≡ result w = simp (x, y) at h in
+    let i : w ≡ s ++ itemBytes b d = cc in i)
     (λ y. let q : refused 2 ≡ result w = simp (x, y) at h in let z : _≡_ {A = ℕ} 0 1 = cc in absurd (omega arith)))
     (λ x. let q : refused 7 ≡ result w = simp x at h in let z : _≡_ {A = ℕ} 0 1 = cc in absurd (omega arith))
 
@@ -85,7 +90,8 @@ item-reads-back s b d w g h = case (replyIn s) refl h
           es,
           e,
           ap replyIn
-              (with-item-means s b d w f ∙ ap (λ (l : List ℕ). l ++ entryBytes items (entry b d)) (m .2))
+              (with-item-means s b d w f ∙ ap (λ (l : List ℕ). s ++ l) (sym (item-bytes b d g))
+              ∙ ap (λ (l : List ℕ). l ++ entryBytes items (entry b d)) (m .2))
               ∙ reply-of c (v ++ entryBytes items (entry b d)) t p x (es ++ (entry b d ∷ [])) (m .3) last,
         )
 
@@ -108,37 +114,6 @@ item-data-is w t p x before e rest h =
     ap (λ (r : Answer Reply). partOf w (itemOf r (length before))) h
     ∙ ap (λ (l : List ℕ). partOf l (nthOf items 1 (before ++ (e ∷ rest)) (length before))) (m .2)
     ∙ data-at items (m .0 ∷ []) (m .1) before e rest (m .4)
-
--- ---- a list of items, written one by one
-
-refused-stays : (k : ℕ) (es : List Entry) → writeAll (refused k) es ≡ refused k
-unfolding writeAll
-refused-stays k [] = refl
-refused-stays k (e ∷ es) = refused-stays k es
-
--- Items written one by one read back as the items so far and then those, in order.
-pub all-read-back : (u w : List ℕ) (t : Bool) (p x : ℕ) (fs es : List Entry) → ItemBytes es
-    → replyIn u ≡ result (reply t p x fs) → writeAll (result u) es ≡ result w
-    → replyIn w ≡ result (reply t p x (fs ++ es))
-unfolding writeAll ItemBytes
-all-read-back u w t p x fs [] g h k =
-    let i : u ≡ w = cc in ap replyIn (sym i) ∙ h
-    ∙ ap (λ (gs : List Entry). result (reply t p x gs)) (sym (append-nil fs))
-all-read-back u w t p x fs (e ∷ es) g h k =
-    case (itemDraft u (e .byte) (e .body)) refl k (λ v q r. all-read-back v w t p x (fs ++ (e ∷ [])) es (g .1) q r)
-  where
-    case : (d : Draft) → itemDraft u (e .byte) (e .body) ≡ d → writeAll d es ≡ result w
-        → ((v : List ℕ) → replyIn v ≡ result (reply t p x (fs ++ (e ∷ []))) → writeAll (result v) es ≡ result w
-        → replyIn w ≡ result (reply t p x ((fs ++ (e ∷ [])) ++ es)))
-        → replyIn w ≡ result (reply t p x (fs ++ (e ∷ es)))
-    case (refused m) q r f =
-        let i : refused m ≡ result w = sym (refused-stays m es) ∙ r in let z : _≡_ {A = ℕ} 0 1 = cc in
-        absurd (omega arith)
-    case (result v) q r f =
-        let b = item-reads-back u (e .byte) (e .body) v (g .0) q in
-        let i : result (reply t p x fs) ≡ result (reply (b .0) (b .1) (b .2) (b .3)) = sym h ∙ b .4 in
-        let j : result (reply (b .0) (b .1) (b .2) (b .3 ++ (e ∷ []))) ≡ result (reply t p x (fs ++ (e ∷ []))) = cc in
-        f v (b .5 ∙ j) r ∙ ap (λ (gs : List Entry). result (reply t p x gs)) (append-assoc fs (e ∷ []) es)
 
 -- ---- the same of the answers and the lent output
 

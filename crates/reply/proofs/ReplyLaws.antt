@@ -1,21 +1,22 @@
 -- Laws of replies that the functions' proofs cite.
-use Prim.Native.Nat.{ℕ, _+_, _/_, _%_, _≤_, _<_}
+use Prim.Native.Nat.{ℕ, _+_, _≤_, _<_}
 use mathlib.Core.Path.{_≡_, refl, sym, ap, _∙_}
 use mathlib.Core.Bool.{Bool}
 use mathlib.Core.List.{List, [], _∷_, _++_, append-assoc}
 use native.Mathlib.Omega.{arith}
-use lib.Dec.{leb}
 use lib.ListN.{length, getD, drop, set, length-append, length-set}
-use borrow.Author.Tests.{le-leb, lt-leb, lt-ltb}
-use Rattle.answer.specs.Answer.{result, refused, Answer}
+use borrow.Author.Tests.{le-leb, lt-leb}
+use Rattle.answer.specs.Answer.{result, refused, Answer, through}
+use Rattle.answer.specs.Draft.{Writes}
+use Rattle.answer.proofs.Drafts.{writes-no-room}
 use Rattle.lists.specs.Splice.{splice}
-use Rattle.lists.proofs.Cases.{by-bool}
 use Rattle.lists.proofs.Splices.{length-splice, splice-next, set-splice}
-use Rattle.command.specs.Entries.{entry, items, entryBytes, Parsed, unsound, sound, parse, nthIn, Extent}
-use Rattle.command.specs.Answers.{counted}
-use Rattle.reply.specs.Status.{status, soundStatus, statusIn, statusMeans, StatusParts}
+use Rattle.command.specs.Entries.{items, Parsed, unsound, sound, parse, nthIn, Extent}
+use Rattle.command.specs.Answers.{entryCount, failsAt, counted, InContents}
+use Rattle.command.proofs.Extents.{within-nth}
+use Rattle.reply.specs.Status.{status, statusIn, statusMeans, StatusParts}
 use Rattle.reply.specs.Replies.{reply, headIn, afterStatus, replyIn, replyOutline, replyAnswer, itemOf, nthItem}
-use Rattle.reply.specs.Replies.{statusDraft, withItem, afterReply, itemDraft, Reply}
+use Rattle.reply.specs.Replies.{statusDraft, itemBytes, withItem, afterReply, itemDraft, Reply}
 use Rattle.reply.specs.declared.status.StatusRead.{StatusRead}
 
 -- ---- the status at the head
@@ -44,17 +45,17 @@ pub read-refused : (s : List ℕ) (k : ℕ) → replyIn s ≡ afterStatus (refus
 unfolding afterStatus replyAnswer
 read-refused s k h = sym (ap replyAnswer h)
 
-pub items-unsound : (t : Bool) (p s : ℕ) (q : Parsed) → counted q ≡ refused 7
+pub items-unsound : (t : Bool) (p s from : ℕ) (q : Parsed) (at : ℕ) → counted from q ≡ failsAt 7 at
     → refused 7 ≡ replyAnswer (afterStatus (result (status t p s)) q)
 unfolding afterStatus replyAnswer counted
-items-unsound t p s unsound e = refl
-items-unsound t p s (sound es) e = let z : _≡_ {A = ℕ} 0 1 = cc in absurd (omega arith)
+items-unsound t p s from (unsound k) at e = refl
+items-unsound t p s from (sound es) at e = let z : _≡_ {A = ℕ} 0 1 = cc in absurd (omega arith)
 
-pub items-counted : (t : Bool) (p s : ℕ) (q : Parsed) (n : ℕ) → counted q ≡ result n
+pub items-counted : (t : Bool) (p s from : ℕ) (q : Parsed) (n : ℕ) → counted from q ≡ entryCount n
     → result (replyOutline t p s n) ≡ replyAnswer (afterStatus (result (status t p s)) q)
 unfolding afterStatus replyAnswer counted
-items-counted t p s unsound n e = let z : _≡_ {A = ℕ} 0 1 = cc in absurd (omega arith)
-items-counted t p s (sound es) n e = let m : n ≡ length es = cc in ap (λ (k : ℕ). result (replyOutline t p s k)) m
+items-counted t p s from (unsound k) n e = let z : _≡_ {A = ℕ} 0 1 = cc in absurd (omega arith)
+items-counted t p s from (sound es) n e = let m : n ≡ length es = cc in ap (λ (k : ℕ). result (replyOutline t p s k)) m
 
 pub item-refused : (s : List ℕ) (n k : ℕ) → replyIn s ≡ afterStatus (refused k) (parse items (drop 1 s) 0)
     → refused k ≡ nthItem s n
@@ -68,43 +69,35 @@ unfolding afterStatus itemOf nthIn
 item-is s n t p x h e = e ∙ of-parsed (parse items (drop 1 s) 0) ∙ sym (ap (λ (r : Answer Reply). itemOf r n) h)
   where
     of-parsed : (q : Parsed) → nthIn items 1 q n ≡ itemOf (afterStatus (result (status t p x)) q) n
-    of-parsed unsound = refl
+    of-parsed (unsound at) = refl
     of-parsed (sound es) = refl
+
+-- An item stands within the contents.
+pub item-within : (s : List ℕ) (n : ℕ) → InContents s (nthItem s n)
+unfolding replyIn afterStatus itemOf nthIn
+item-within s n = case (headIn s) (parse items (drop 1 s) 0) (within-nth items 1 s n)
+  where
+    case : (h : Answer StatusParts) (q : Parsed) → InContents s (nthIn items 1 q n)
+        → InContents s (itemOf (afterStatus h q) n)
+    case (refused k) q w = tt
+    case (result (status t p x)) (unsound at) w = tt
+    case (result (status t p x)) (sound es) w = w
 
 -- ---- the draft of a status byte
 
 pub status-refused : (b k : ℕ) → refused k ≡ statusIn b → statusDraft b ≡ refused k
-unfolding statusIn statusDraft
-status-refused b k e =
-    by-bool (soundStatus b)
-    (λ y. let q : refused k ≡ result (status (leb 128 b) (b / 16 % 4) (b % 16)) = simp y at e in
-    let z : _≡_ {A = ℕ} 0 1 = cc in absurd (omega arith))
-    (λ y. let q : refused k ≡ refused 8 = simp y at e in
-    let m : k ≡ 8 = cc in (simp y) ∙ ap refused (sym m))
+unfolding statusDraft
+status-refused b k e = sym (ap (through (λ t. b ∷ [])) e)
 
 pub status-sound : (b : ℕ) (t : Bool) (p s : ℕ) → result (status t p s) ≡ statusIn b → statusDraft b ≡ result (b ∷ [])
-unfolding statusIn statusDraft
-status-sound b t p s e =
-    by-bool (soundStatus b)
-    (λ y. simp y)
-    (λ y. let q : result (status t p s) ≡ refused 8 = simp y at e in
-    let z : _≡_ {A = ℕ} 0 1 = cc in absurd (omega arith))
+unfolding statusDraft
+status-sound b t p s e = sym (ap (through (λ t. b ∷ [])) e)
 
 -- ---- the draft of an item
 
-pub item-bytes : (b : ℕ) (d : List ℕ) → b < 256 → entryBytes items (entry b d) ≡ b ∷ length d ∷ d
-unfolding entryBytes
-item-bytes b d h = simp (lt-ltb b 256 h)
-
-module _ (s : List ℕ) (b : ℕ) (d : List ℕ) (byte : b < 256) where
-  abbrev whole : List ℕ
-  whole = s ++ (b ∷ length d ∷ d)
-
-  pub whole-length : length whole ≡ length s + 2 + length d
-  whole-length = length-append s (b ∷ length d ∷ d) ∙ omega arith
-
-  is-whole : s ++ entryBytes items (entry b d) ≡ whole
-  is-whole = ap (λ (l : List ℕ). s ++ l) (item-bytes b d byte)
+module _ (s : List ℕ) (b : ℕ) (d : List ℕ) where
+  pub whole-length : length (s ++ itemBytes b d) ≡ length s + 2 + length d
+  whole-length = length-append s (itemBytes b d) ∙ omega arith
 
   pub item-count : 255 < length d → withItem s b d ≡ refused 7
   unfolding withItem
@@ -112,11 +105,19 @@ module _ (s : List ℕ) (b : ℕ) (d : List ℕ) (byte : b < 256) where
 
   pub item-long : length d ≤ 255 → 117 < length s + 2 + length d → withItem s b d ≡ refused 2
   unfolding withItem
-  item-long h k = simp (le-leb (length d) 255 h, is-whole, lt-leb (length whole) 117 (omega (arith, whole-length)))
+  item-long h k =
+      simp (le-leb (length d) 255 h, lt-leb (length (s ++ itemBytes b d)) 117 (omega (arith, whole-length)))
 
-  pub item-fits : length d ≤ 255 → length s + 2 + length d ≤ 117 → withItem s b d ≡ result whole
+  pub item-fits : length d ≤ 255 → length s + 2 + length d ≤ 117 → withItem s b d ≡ result (s ++ itemBytes b d)
   unfolding withItem
-  item-fits h k = simp (le-leb (length d) 255 h, is-whole, le-leb (length whole) 117 (omega (arith, whole-length)))
+  item-fits h k =
+      simp (le-leb (length d) 255 h, le-leb (length (s ++ itemBytes b d)) 117 (omega (arith, whole-length)))
+
+  -- an output that is too short
+  pub item-no-room : (out : List ℕ) → length d ≤ 255 → length s + 2 + length d ≤ 117
+      → length out < length s + 2 + length d → Writes (withItem s b d) out (refused 1) out
+  item-no-room out h k l =
+      writes-no-room (withItem s b d) (s ++ itemBytes b d) out (item-fits h k) (omega (arith, whole-length))
 
 -- ---- writing an item after the contents so far
 

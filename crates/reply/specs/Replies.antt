@@ -1,16 +1,15 @@
 -- Replies: what contents are as a reply, and what is written (document 01, "Commands and replies").
-use Prim.Native.Nat.{ℕ, _<_}
+use Prim.Native.Nat.{ℕ}
 use mathlib.Core.Bool.{Bool}
 use mathlib.Core.List.{List, [], _∷_, _++_}
 use lib.Dec.{leb}
 use lib.ListN.{length, drop}
-use Rattle.lists.specs.Choice.{pick, Every}
-use Rattle.lists.specs.Machine.{leftAfter}
+use Rattle.lists.specs.Choice.{pick}
 use Rattle.answer.specs.Answer.{Answer, result, refused, through, andThen}
 use Rattle.answer.specs.Draft.{Draft}
 use Rattle.answer.specs.Refusals.{numberOf}
-use Rattle.command.specs.Entries.{Entry, entry, items, entryBytes, Parsed, unsound, sound, parse, nthOf, Extent}
-use Rattle.reply.specs.Status.{status, soundStatus, statusIn, StatusParts}
+use Rattle.command.specs.Entries.{Entry, items, Parsed, unsound, sound, parse, nthOf, Extent}
+use Rattle.reply.specs.Status.{status, statusIn, StatusParts}
 use Rattle.reply.specs.declared.ReplyRead.{ReplyRead}
 use Rattle.reply.specs.declared.ReplyRead.the-variants.{Reply as ReadReply, Refused}
 
@@ -30,7 +29,7 @@ headIn (b ∷ s) = statusIn b
 
 -- A status and the items after it: 7 where a count is unsound.
 abbrev pub withItems : Parsed → StatusParts → Answer Reply
-withItems unsound (status t p s) = refused 7
+withItems (unsound at) (status t p s) = refused 7
 withItems (sound es) (status t p s) = result (reply t p s es)
 
 unfoldable pub afterStatus : Answer StatusParts → Parsed → Answer Reply
@@ -65,14 +64,18 @@ nthItem s n = itemOf (replyIn s) n
 
 -- A status byte alone: 8.
 unfoldable pub statusDraft : ℕ → Draft
-statusDraft b = pick (soundStatus b) (result (b ∷ [])) (refused 8)
+statusDraft b = through (λ t. b ∷ []) (statusIn b)
+
+-- The bytes of an item: its byte, its count, its data.
+abbrev pub itemBytes : ℕ → List ℕ → List ℕ
+itemBytes b d = b ∷ length d ∷ d
 
 -- Contents and an item after them: data over 255 is 7, contents over 117 are 2.
 unfoldable pub withItem : List ℕ → ℕ → List ℕ → Draft
 withItem s b d =
     pick (leb (length d) 255)
-    (pick (leb (length (s ++ entryBytes items (entry b d))) 117) (result (s ++ entryBytes items (entry b d)))
-    (refused 2)) (refused 7)
+    (pick (leb (length (s ++ itemBytes b d)) 117) (result (s ++ itemBytes b d)) (refused 2))
+    (refused 7)
 
 -- The refusal of the contents so far comes first.
 unfoldable pub afterReply : Answer Reply → Draft → Draft
@@ -81,17 +84,3 @@ afterReply a d = andThen (λ r. d) a
 -- The contents so far with one item more, put last: 4, 8, 7, 2.
 unfoldable pub itemDraft : List ℕ → ℕ → List ℕ → Draft
 itemDraft s b d = afterReply (replyIn s) (withItem s b d)
-
--- ---- a list of items, written one by one
-
--- One item more after a reply that was written; a refusal stays.
-abbrev pub withNext : Draft → Entry → Draft
-withNext d e = andThen (λ w. itemDraft w (e .byte) (e .body)) d
-
--- Items written one after the other, each from what the last writing gave.
-unfoldable pub writeAll : Draft → List Entry → Draft
-writeAll d es = leftAfter withNext d es
-
--- Every item's byte is a byte.
-unfoldable pub ItemBytes : List Entry → Type 0
-ItemBytes es = Every (λ e. e .byte < 256) es

@@ -11,10 +11,12 @@ use command::entries::Found;
 use status::Status;
 use status::StatusRead;
 ghost use mathlib.Core.Path.{_≡_};
+ghost use Prim.Native.Nat.{_<_};
 ghost use lib.ListN.{length, drop};
 ghost use Rattle.answer.specs.Answer.{result};
 ghost use Rattle.answer.specs.Draft.{draftAnswer, draftOut, writtenMeans};
-ghost use Rattle.command.specs.Answers.{foundMeans, partOf};
+ghost use Rattle.command.specs.Answers.{foundMeans};
+ghost use Rattle.command.specs.Parts.{IsData};
 ghost use Rattle.reply.specs.Status.{statusMeans, partsOf};
 ghost use Rattle.reply.specs.Replies.{headIn, replyIn, replyMeans, replyAnswer, nthItem, statusDraft, withItem};
 ghost use Rattle.reply.specs.Replies.{itemDraft, afterStatus};
@@ -60,9 +62,10 @@ pub fn nth_item(contents: &[u8], n: usize) -> Found
     }
 }
 
-// The data of the n-th item; empty where `nth_item` refuses.
+// The data of the n-th item, the part of the contents where it stands; empty and at the beginning where `nth_item`
+// refuses.
 pub fn nth_item_data(contents: &[u8], n: usize) -> &[u8]
-    ensures { λ r. ⌜ now r ≡ partOf (now (contents .entry)) (nthItem (now (contents .entry)) n) ⌝ }
+    ensures { λ r. ⌜ IsData (contents .entry) r (nthItem (now (contents .entry)) n) ⌝ }
 {
     let found = nth_item(contents, n);
     entries::found_part(contents, found)
@@ -87,11 +90,13 @@ pub fn write_status(byte: u8, out: &mut [u8]) -> Written
 }
 
 // Writes a reply from the contents of a reply so far and an item, which it puts last. Refusals 4, 8, 7, 2 and 1.
+// The contract names the byte's range too: by it, what a run of calls wrote is shown to read back.
 pub fn write_item(prior: &[u8], byte: u8, body: &[u8], out: &mut [u8]) -> Written
     ensures { λ r. ⌜ writtenMeans r ≡ draftAnswer (itemDraft (now (prior .entry)) byte (now (body .entry)))
         (length (now (out .entry))) ⌝ }
     ensures { λ r. ⌜ now (out .exit) ≡ draftOut (itemDraft (now (prior .entry)) byte (now (body .entry)))
         (now (out .entry)) ⌝ }
+    ensures { λ r. ⌜ byte < 256 ⌝ }
 {
     let read = read_reply(prior);
     match read {
@@ -121,7 +126,7 @@ fn read_items(contents: &[u8], status: Status) -> ReplyRead
 {
     let all = entries::count(COUNTED, contents, Cursor { at: ITEMS });
     match all {
-        Counted::Unsound => ReplyRead::Refused(Refusal::BadCount),
+        Counted::Unsound { at: _ } => ReplyRead::Refused(Refusal::BadCount),
         Counted::Entries(n) => ReplyRead::Reply { status, items: n },
     }
 }

@@ -1,17 +1,17 @@
 // The status byte that every reply begins with.
 use answer::Refusal;
 ghost use mathlib.Core.Path.{_≡_};
-ghost use Rattle.reply.specs.Status.{statusMeans, statusIn, statusByte};
+ghost use Rattle.reply.specs.Status.{stateNumbers, previousNumbers, statusMeans, isState, statusOf, statusIn};
+ghost use Rattle.reply.specs.Status.{statusByte};
 
-// A machine's state, what it made of the previous frame, and the toggle. Only `from_byte` makes one, so that none is
-// unsound.
+// A machine's state, what it made of the previous frame, and the toggle. Only `of` makes one, so that none is unsound.
 pub struct Status {
     toggle: bool,
     previous: u8,
     state: u8,
 }
 
-// A status byte, read.
+// A status, or why there is none.
 pub enum StatusRead {
     Status(Status),
     Refused(Refusal),
@@ -49,25 +49,55 @@ impl Status {
     // The number between the states that is none.
     const NO_STATE: u8 = 4;
 
+    // Every state, for callers that go over them.
+    pub fn states() -> [u8; 9]
+        ensures { λ r. ⌜ r ≡ stateNumbers ⌝ }
+    {
+        [
+            Self::ERROR,
+            Self::READY,
+            Self::IDLE,
+            Self::HAVE_ID,
+            Self::IN_USE,
+            Self::PAUSE,
+            Self::FINISH,
+            Self::MANUAL,
+            Self::OFFLINE,
+        ]
+    }
+
+    // Every result of the previous frame.
+    pub fn results() -> [u8; 4]
+        ensures { λ r. ⌜ r ≡ previousNumbers ⌝ }
+    {
+        [Self::OK, Self::REJECT, Self::BAD, Self::NOT_READY]
+    }
+
+    // A status of its parts. Refusal 8 where `previous` or `state` is none of the names.
+    pub fn of(toggle: bool, previous: u8, state: u8) -> StatusRead
+        ensures { λ r. ⌜ statusMeans r ≡ statusOf toggle previous state ⌝ }
+    {
+        if Self::NOT_READY < previous {
+            return StatusRead::Refused(Refusal::BadStatus);
+        }
+        if Self::is_state(state) {
+            return StatusRead::Status(Status {
+                toggle,
+                previous,
+                state,
+            });
+        }
+        StatusRead::Refused(Refusal::BadStatus)
+    }
+
     // Refusal 8 for a byte with bit 6 set, or with a state that is none.
     pub fn from_byte(b: u8) -> StatusRead
         ensures { λ r. ⌜ statusMeans r ≡ statusIn b ⌝ }
     {
-        let state = b % 16;
-        if b / 64 % 2 == 1 {
-            return StatusRead::Refused(Refusal::BadStatus);
+        if b / 64 % 2 == 0 {
+            return Self::of(128 <= b, b / 16 % 4, b % 16);
         }
-        if state == Self::NO_STATE {
-            return StatusRead::Refused(Refusal::BadStatus);
-        }
-        if Self::OFFLINE < state {
-            return StatusRead::Refused(Refusal::BadStatus);
-        }
-        StatusRead::Status(Status {
-            toggle: 128 <= b,
-            previous: b / 16 % 4,
-            state,
-        })
+        StatusRead::Refused(Refusal::BadStatus)
     }
 
     pub fn to_byte(self) -> u8
@@ -95,5 +125,15 @@ impl Status {
         ensures { λ r. ⌜ r ≡ self .state ⌝ }
     {
         self.state
+    }
+
+    // Whether a number is a state's.
+    fn is_state(n: u8) -> bool
+        ensures { λ r. ⌜ r ≡ isState n ⌝ }
+    {
+        if n == Self::NO_STATE {
+            return false;
+        }
+        n <= Self::OFFLINE
     }
 }

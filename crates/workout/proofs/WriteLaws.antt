@@ -7,11 +7,12 @@ use native.Mathlib.Omega.{arith}
 use lib.Dec.{eqb}
 use lib.ListN.{length, take, drop}
 use Rattle.answer.specs.Answer.{result, refused}
+use Rattle.answer.specs.Draft.{Writes}
 use Rattle.numbers.specs.Number.{bytesOf}
 use Rattle.lists.specs.Splice.{splice}
 use Rattle.lists.proofs.Cases.{by-bool}
 use Rattle.lists.proofs.Splices.{copied-first}
-use Rattle.answer.proofs.Drafts.{Writes, writes-done}
+use Rattle.answer.proofs.Drafts.{writes-done}
 use Rattle.workout.specs.Limits.{Limits}
 use Rattle.workout.specs.Workout.{Programmed, distance, time, goalMeans, programmed, withinLimits, layout}
 use Rattle.workout.specs.Workout.{distanceBytes, timeBytes, workoutBytes}

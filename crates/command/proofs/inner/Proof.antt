@@ -17,14 +17,14 @@ reindex-requires : tie.Need-reindex-requires
 reindex-requires c κs =
     let s = c .before .before .before .before .before in
     inner-fits (s .args .contents .now) (s .args .start) (s .args .len) (s .args .n) (s .pre) (omega arith) _
-    (c .before .part .ensures) _ (c .nth .ensures)
+    (c .before .part .ensures .holds) _ (c .nth .ensures)
 
 returns : tie.Need-returns
 returns c =
     let a = c .before .before .before .before .before .before .args in
     inner-is (a .contents .now) (a .byte) (a .start) (a .len) (a .n)
     (c .before .before .before .before .is-wrapper .ensures) (c .before .before .before .if1 .taken)
-    (c .before .before .part .ensures) _ (c .before .nth .ensures) (c .reindex .ensures)
+    (c .before .before .part .ensures .holds) _ (c .before .nth .ensures) (c .reindex .ensures)
 
 returns-2 : tie.Need-returns-2
 returns-2 c =

@@ -1,26 +1,27 @@
 use mathlib.Core.Path.{_≡_, _∙_, subst}
-use Rattle.frame.specs.Private.{Examines, SoundAt}
+use Rattle.frame.specs.Private.{ExaminesWhole, SoundAt}
 use Rattle.frame.specs.declared.candidate.Examined.{Examined}
-use Rattle.frame.proofs.VerdictLaws.{judge-refused, judge-accepted, header-as}
+use Rattle.frame.proofs.VerdictLaws.{judge-refused, judge-accepted, header-as, candidate-verdict}
+use Rattle.frame.proofs.VerdictLaws.{whole-verdict}
 use Rattle.frame.proofs.ContentsLaws.{rest-length, rest-first, left-refused, left-accepted}
 use borrow.Author.Needs.{needs}
 use Rattle.frame.proofs.judge_whole.Statement.{statement}
 use Rattle.frame.proofs.judge_whole.Tie as tie
 
-abbrev St : tie.After-examine → tie.Start
+abbrev St : tie.After-examine-flagged → tie.Start
 St e = e .before .before .before
 
-found : (e : tie.After-examine) (x : Examined) → e .examine .result ≡ x
-    → Examines (St e .args .kind) (St e .args .s .now) x
-found e x q = subst (λ (y : Examined). Examines (St e .args .kind) (St e .args .s .now) y) q (e .examine .ensures)
+found : (e : tie.After-examine-flagged) (x : Examined) → e .examine-flagged .result ≡ x
+    → ExaminesWhole (St e .args .kind) (St e .args .s .now) x
+found e x q = subst (λ (y : Examined). ExaminesWhole (St e .args .kind) (St e .args .s .now) y) q (e .examine-flagged .ensures)
 
 sound : (k : tie.After-known-told2)
     → SoundAt (St (k .before .before .before) .args .kind) (St (k .before .before .before) .args .s .now)
     (k .before .found2 .given .0 .0) (k .before .found2 .given .0 .1 .0) (k .before .found2 .given .0 .1 .1 .0)
-sound k = found (k .before .before .before) _ (k .before .found2 .given .1)
+sound k = found (k .before .before .before) _ (k .before .found2 .given .1) .1
 
-examine-requires : tie.Need-examine-requires
-examine-requires c κs = search needs
+examine-flagged-requires : tie.Need-examine-flagged-requires
+examine-flagged-requires c κs = search needs
 
 enum-known-found : tie.Need-enum-known-found
 enum-known-found c = search needs
@@ -40,7 +41,7 @@ same-length c = search needs
 returns : tie.Need-returns
 returns c =
     let e = c .before .before .before in
-    let q = found e _ (c .before .found .given .1) in
+    let q = candidate-verdict _ _ ∙ found e _ (c .before .found .given .1) in
     (judge-refused _ _ q, left-refused _ _ _ q)
 
 same-length-2 : tie.Need-same-length-2
@@ -49,17 +50,18 @@ same-length-2 c = search needs
 returns-2 : tie.Need-returns-2
 returns-2 c =
     let k = c .before .before .before .before .before in
-    let s = sound k in (
+    let s = sound k in
+    let v = whole-verdict _ _ (found (k .before .before .before) _ (k .before .found2 .given .1) .0) ∙ s .judged in (
       c .read-as .ensures ∙ header-as (k .before .found2 .given .0 .0) (s .contents) _ (s .counted)
-          ∙ judge-accepted _ _ (s .judged),
-      left-accepted _ _ _ _ (s .judged) (rest-first s _ _ (c .before .before .before .bring-contents .ensures)),
+          ∙ judge-accepted _ _ v,
+      left-accepted _ _ _ _ v (rest-first s _ _ (c .before .before .before .bring-contents .ensures)),
     )
 
 pub judge-whole-spec : {M : Type 1} → statement M
 judge-whole-spec =
     tie.close
     (tie.spec
-    examine-requires
+    examine-flagged-requires
     enum-known-found
     enum-known-found-2
     bring-contents-requires

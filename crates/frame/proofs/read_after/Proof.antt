@@ -37,9 +37,9 @@ sub-len-2 c = search needs
 
 returns-3 : tie.Need-returns-3
 returns-3 c =
-    let d = sound (c .before) in
-    answer-no-room _ _ (St (c .before) .args .out .now) (d .judged)
-    (omega (arith, c .if3 .taken, d .counted, ap length (contents-of (St (c .before) .args .header) (d .contents))))
+    let e : tie.Else2 = search needs in
+    let d = sound e in
+    answer-no-room _ _ _ (d .judged) (omega (arith, d .counted, ap length (contents-of (St e .args .header) (d .contents))))
 
 sub-copy : tie.Need-sub-copy
 sub-copy c = search needs

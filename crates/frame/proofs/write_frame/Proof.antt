@@ -114,7 +114,7 @@ returns-2 c = writes-refusal _ 2 _ (draft-long (F (c .before)) (omega (arith, co
 
 returns-3 : tie.Need-returns-3
 returns-3 c =
-    let w = c .before .before in
+    let w : tie.After-width = search needs in
     writes-no-room _ (W w) _ (draft-fits (F w) (omega (arith, counted w))) (omega (arith, counted w))
 
 put-header-requires : tie.Need-put-header-requires

@@ -37,7 +37,7 @@ below c =
     (bytes c) (omega (arith, c .before .loop-test .taken, at-most-eight (a .width))) (l .loop .inv .1)
 
 byte : (c : tie.After-byte-at Inv-loop μ-loop) → c .byte-at .result < 256
-byte c = let a = St c .args in omega (arith, c .byte-at .ensures, bytes c (a .at + (c .before .before .loop .left - 1)))
+byte c = rw (c .byte-at .ensures) (bytes c _)
 
 lesser-requires : tie.Need-lesser-requires Inv-loop μ-loop
 lesser-requires c κs = search needs

@@ -1,10 +1,11 @@
 use Rattle.reply.proofs.ReplyLaws.{head-short, head-is}
+use native.Mathlib.Omega.{arith}
 use borrow.Author.Needs.{needs}
 use Rattle.reply.proofs.head.Statement.{statement}
 use Rattle.reply.proofs.head.Tie as tie
 
 returns : tie.Need-returns
-returns c = head-short _ (c .if1 .taken)
+returns c = head-short _ (omega arith)
 
 shared-slice-read-b : tie.Need-shared-slice-read-b
 shared-slice-read-b c = search needs

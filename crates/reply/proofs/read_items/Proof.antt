@@ -15,11 +15,12 @@ enum-known-all : tie.Need-enum-known-all
 enum-known-all c = search needs
 
 returns : tie.Need-returns
-returns c = items-unsound _ _ _ _ (sym (c .before .before .count .ensures) ∙ ap countedMeans (c .enum-told .given .1))
+returns c =
+    items-unsound _ _ _ _ _ _ (sym (c .before .before .count .ensures) ∙ ap countedMeans (c .enum-told .given .1))
 
 returns-2 : tie.Need-returns-2
 returns-2 c =
-    items-counted _ _ _ _ _ (sym (c .before .before .before .count .ensures)
+    items-counted _ _ _ _ _ _ (sym (c .before .before .before .count .ensures)
     ∙ ap countedMeans (c .before .all .given .1))
 
 pub read-items-spec : {M : Type 1} → statement M

@@ -69,7 +69,7 @@ unfolding frameRead
 returns-3 c =
     let h = c .before .before .before .before .before .before .before .put-head2 .ensures in
     let b = c .before .before .put-standard .ensures in
-    let held = ap standardBody (c .before .before .before .before .part .ensures) in
+    let held = ap standardBody (c .before .before .before .before .part .ensures .holds) in
     rw (c .before .before .before .before .before .before .before .before .before .before .told2 .given .1)
     (next (h .0) (wrote-as held (b .0)) (omega arith), omega arith)
 
@@ -81,7 +81,7 @@ unfolding frameRead
 returns-4 c =
     let h = c .before .before .before .before .before .before .before .put-head3 .ensures in
     let b = c .before .before .put-extended .ensures in
-    let held = ap (extendedBody _ _) (c .before .before .before .before .part2 .ensures) in
+    let held = ap (extendedBody _ _) (c .before .before .before .before .part2 .ensures .holds) in
     rw (c .before .before .before .before .before .before .before .before .before .before .told3 .given .1)
     (next (h .0) (wrote-as held (b .0)) (omega arith), omega arith)
 

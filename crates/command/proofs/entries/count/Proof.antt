@@ -14,8 +14,8 @@ use Rattle.command.proofs.entries.count.Tie as tie
 
 abbrev Inv-loop : tie.InvT-loop
 Inv-loop limit s cursor₀ n₀ cursor n =
-    (n ≤ cursor .at) × (countedPlus n (counted (parse limit (drop (cursor .at) s) 0))
-    ≡ counted (parse limit (drop (cursor₀ .at) s) 0))
+    (n ≤ cursor .at) × (countedPlus n (counted (cursor .at) (parse limit (drop (cursor .at) s) 0))
+    ≡ counted (cursor₀ .at) (parse limit (drop (cursor₀ .at) s) 0))
 
 abbrev μ-loop : tie.MeasureT-loop
 μ-loop limit s cursor₀ n₀ cursor n = length s - cursor .at
@@ -45,7 +45,7 @@ enum-told c = search needs
 returns : tie.Need-returns Inv-loop μ-loop
 returns c =
     let l = c .before .before .before in
-    count-end (l .loop .n) _
+    count-end (l .loop .n) _ _
     (told _ _ (l .loop .cursor .at) (c .before .before .step .ensures) End (c .enum-told .given .1)) ∙ l .loop .inv .1
 
 enum-told-2 : tie.Need-enum-told-2 Inv-loop μ-loop
@@ -54,7 +54,7 @@ enum-told-2 c = search needs
 returns-2 : tie.Need-returns-2 Inv-loop μ-loop
 returns-2 c =
     let l = c .before .before .before in
-    count-broken (l .loop .n) _
+    count-broken (l .loop .n) _ _
     (told _ _ (l .loop .cursor .at) (c .before .before .step .ensures) Broken (c .enum-told2 .given .1))
     ∙ l .loop .inv .1
 
@@ -70,7 +70,7 @@ loop-less c = omega (arith, there c)
 loop-again : tie.Need-loop-again Inv-loop μ-loop
 loop-again c = (
   omega (arith, there c),
-  count-more (L c .loop .n) _ _ _
+  count-more (there c) (L c .loop .n) _ _
       (told _ _ (L c .loop .cursor .at) (c .before .before .before .step .ensures) _ (c .before .step2 .given .1))
       ∙ L c .loop .inv .1,
 )

@@ -1,5 +1,6 @@
-use mathlib.Core.Path.{_∙_}
-use Rattle.command.proofs.InnerLaws.{part-is}
+use mathlib.Core.Path.{refl}
+use native.Mathlib.Omega.{arith}
+use Rattle.command.proofs.PartLaws.{named, unnamed}
 use borrow.Author.Needs.{needs}
 use Rattle.command.proofs.entries.found_part.Statement.{statement}
 use Rattle.command.proofs.entries.found_part.Tie as tie
@@ -17,12 +18,10 @@ slice-aggregate-result : tie.Need-slice-aggregate-result
 slice-aggregate-result c = search needs
 
 returns : tie.Need-returns
-returns c =
-    c .part .ensures ∙ part-is (c .before .before .before .before .before .args .s .now) _ _ _ _
-    (c .before .before .found .given .1)
+returns c = named _ _ _ (c .before .before .found .given .1) (c .part .ensures)
 
 returns-2 : tie.Need-returns-2
-returns-2 c = search needs
+returns-2 c = unnamed _ (c .before .enum-told .given .1) (record { holds = refl; block = refl; place = omega arith })
 
 pub found-part-spec : {M : Type 1} → statement M
 found-part-spec =

@@ -5,9 +5,9 @@ use mathlib.Core.List.{List}
 use lib.ListN.{length, drop}
 use Rattle.command.specs.Entries.{parse, nthIn}
 use Rattle.command.specs.declared.entries.Step.the-variants.{End, Broken, Entry}
-use Rattle.command.specs.Steps.{parseAfter}
+use Rattle.command.specs.Steps.{stepMeans}
 use Rattle.command.proofs.EntryLaws.{EntryStands, told, told-stands, nth-end, nth-broken, nth-found}
-use Rattle.command.proofs.EntryLaws.{nth-more}
+use Rattle.command.proofs.EntryLaws.{nth-more, parseAfter}
 use borrow.Author.Needs.{needs}
 use Rattle.command.proofs.entries.nth.Statement.{statement}
 use Rattle.command.proofs.entries.nth.Tie as tie
@@ -37,8 +37,8 @@ there c = told-stands _ _ _ (c .before .before .before .step .ensures) _ _ _ _ (
 split : (c : tie.After-known-told Inv-loop μ-loop)
     → parse (L c .before .before .args .limit) (drop (L c .loop .cursor .at) (S c)) 0
     ≡ parseAfter (L c .before .before .args .limit) (S c)
-    (Entry (c .before .step2 .given .0 .0) (c .before .step2 .given .0 .1 .0) (c .before .step2 .given .0 .1 .1 .0)
-    (c .before .step2 .given .0 .1 .1 .1 .0))
+    (stepMeans (Entry (c .before .step2 .given .0 .0) (c .before .step2 .given .0 .1 .0)
+    (c .before .step2 .given .0 .1 .1 .0) (c .before .step2 .given .0 .1 .1 .1 .0)))
 split c = told _ _ (L c .loop .cursor .at) (c .before .before .before .step .ensures) _ (c .before .step2 .given .1)
 
 loop-holds : tie.Need-loop-holds Inv-loop μ-loop

@@ -1,4 +1,7 @@
-use Rattle.command.proofs.EntryLaws.{part-past, part-rest, part-whole}
+use mathlib.Core.Path.{refl}
+use native.Mathlib.Omega.{arith}
+use denote.Ref.{ptr}
+use Rattle.command.proofs.PartLaws.{part-past, part-rest, part-whole, placed, past-placed}
 use borrow.Author.Needs.{needs}
 use Rattle.command.proofs.entries.part.Statement.{statement}
 use Rattle.command.proofs.entries.part.Tie as tie
@@ -7,10 +10,13 @@ slice-aggregate-result : tie.Need-slice-aggregate-result
 slice-aggregate-result c = search needs
 
 returns : tie.Need-returns
-returns c = let a = c .before .before .args in part-past (a .s .now) (a .start) (a .len) (c .before .if1 .taken)
-
-sub-if2 : tie.Need-sub-if2
-sub-if2 c = search needs
+returns c =
+    let a = c .before .before .args in
+    record {
+      holds = part-past (a .s .now) (a .start) (a .len) (omega (arith, c .before .if1 .taken));
+      block = refl;
+      place = past-placed (a .s .now) (a .start) (a .s .ptr .1) (c .before .if1 .taken);
+    }
 
 sub-result : tie.Need-sub-result
 sub-result c = search needs
@@ -23,7 +29,12 @@ part-result-end c = search needs
 
 returns-2 : tie.Need-returns-2
 returns-2 c =
-    let a = c .before .before .before .args in part-rest (a .s .now) (a .start) (a .len) (c .before .if2 .taken)
+    let a = c .before .before .before .args in
+    record {
+      holds = part-rest (a .s .now) (a .start) (a .len) (c .before .if2 .taken);
+      block = refl;
+      place = placed (a .s .now) (a .start) (a .s .ptr .1) (c .before .before .if1 .left);
+    }
 
 add-result : tie.Need-add-result
 add-result c = search needs
@@ -38,7 +49,13 @@ part-result-end-2 : tie.Need-part-result-end-2
 part-result-end-2 c = search needs
 
 returns-3 : tie.Need-returns-3
-returns-3 c = let a = c .before .before .before .args in part-whole (a .s .now) (a .start) (a .len)
+returns-3 c =
+    let a = c .before .before .before .args in
+    record {
+      holds = part-whole (a .s .now) (a .start) (a .len);
+      block = refl;
+      place = placed (a .s .now) (a .start) (a .s .ptr .1) (c .before .before .if1 .left);
+    }
 
 pub part-spec : {M : Type 1} → statement M
 part-spec =
@@ -46,7 +63,6 @@ part-spec =
     (tie.spec
     slice-aggregate-result
     returns
-    sub-if2
     sub-result
     part-result-start
     part-result-end

@@ -105,7 +105,7 @@ module _ (t : ℕ) where
   loop-again c =
       let k = c .before .before .before in
       let l = k .before .before .before .loop in
-      found-here (passes (k .before .before .before .before .before .args .sought)) (l .is-found) _ _ _
+      found-here (passes (k .before .before .before .before .before .args .sought)) (l .is-found) commands _ _ _
       (told _ _ (l .cursor .at) (k .before .before .step .ensures) _ (k .step2 .given .1))
       (sym (c .before .is-sought .ensures) ∙ c .if1 .taken)
       ∙ l .inv
@@ -119,7 +119,7 @@ module _ (t : ℕ) where
   loop-again-2 c =
       let k = c .before .before .before in
       let l = k .before .before .before .loop in
-      found-later (passes (k .before .before .before .before .before .args .sought)) (l .is-found) _ _ _
+      found-later (passes (k .before .before .before .before .before .args .sought)) (l .is-found) commands _ _ _
       (told _ _ (l .cursor .at) (k .before .before .step .ensures) _ (k .step2 .given .1))
       (sym (c .before .is-sought .ensures) ∙ c .if1 .left)
       ∙ l .inv
@@ -129,6 +129,13 @@ module _ (t : ℕ) where
   no-wrapper : is-sought-lts.Need-returns (in-is-sought t) (is-sought-at t) is-sought.Post
   unfolding stopsWithin
   no-wrapper c = rw (c .before .enum-told .given .1) (simp (ne-eqb _ _ (c .if1 .taken)))
+
+  in-wrapper : is-sought-lts.Need-returns-3 (in-is-sought t) (is-sought-at t) is-sought.Post
+  unfolding stopsWithin
+  in-wrapper c =
+      rw (c .before .before .before .enum-told .given .1) (simp (eq-eqb _ _ (c .before .before .if1 .left))
+      (c .holds .ensures
+      ∙ ap (λ (d : List ℕ). anyIn terminates (parse commands d 0)) (c .before .part .ensures .holds)))
 
   holds-requires : is-sought-lts.Need-holds-requires (in-is-sought t) (is-sought-at t) is-sought.Post
   holds-requires c κs =
@@ -140,17 +147,11 @@ module _ (t : ℕ) where
   unfolding terminates
   no-terminate c = rw (c .before .enum-told2 .given .1) (simp (ne-eqb _ _ (c .if2 .taken)))
 
-  in-wrapper : is-sought-lts.Need-returns-3 (in-is-sought t) (is-sought-at t) is-sought.Post
-  unfolding stopsWithin
-  in-wrapper c =
-      rw (c .before .before .before .enum-told .given .1) (simp (eq-eqb _ _ (c .before .before .if1 .left))
-      (c .holds .ensures ∙ ap (λ (d : List ℕ). anyIn terminates (parse commands d 0)) (c .before .part .ensures)))
-
   terminate : is-sought-lts.Need-returns-4 (in-is-sought t) (is-sought-at t) is-sought.Post
   unfolding terminates
   terminate c =
       rw (c .before .before .before .enum-told2 .given .1) (simp (eq-eqb _ _ (c .before .before .if2 .left))
-      (c .is-one-two .ensures ∙ ap isOneTwo (c .before .part2 .ensures)))
+      (c .is-one-two .ensures ∙ ap isOneTwo (c .before .part2 .ensures .holds)))
 
 pub +holds+is-sought-spec : {M : Type 1} → statement M
 +holds+is-sought-spec =

@@ -1,5 +1,7 @@
-use mathlib.Core.Path.{ap, _∙_}
-use Rattle.command.specs.Answers.{partOf}
+use Rattle.command.specs.Entries.{commands}
+use Rattle.command.specs.Traversal.{commandAt}
+use Rattle.command.proofs.Extents.{within-nth}
+use Rattle.command.proofs.PartLaws.{is-data}
 use borrow.Author.Needs.{needs}
 use Rattle.command.proofs.traversal.data_at.Statement.{statement}
 use Rattle.command.proofs.traversal.data_at.Tie as tie
@@ -11,9 +13,8 @@ found-part-requires : tie.Need-found-part-requires
 found-part-requires c κs = search needs
 
 returns : tie.Need-returns
-returns c =
-    c .found-part .ensures ∙ ap (partOf (c .before .before .before .args .contents .now))
-    (c .before .command-at .ensures)
+unfolding commandAt
+returns c = is-data (c .found-part .ensures) (c .before .command-at .ensures) (within-nth commands _ _ 0)
 
 pub data-at-spec : {M : Type 1} → statement M
 data-at-spec = tie.close (tie.spec command-at-requires found-part-requires returns)

@@ -26,7 +26,8 @@ at : (k : tie.After-known-told)
 at k = found (F k) _ (k .before .found .given .1)
 
 returns : tie.Need-returns
-returns c = judge-long _ _ (c .if1 .taken)
+returns c =
+    let a = c .before .before .args in judge-long (a .kind) (a .body .now) (omega (arith, c .if1 .taken))
 
 addresses-in-requires : tie.Need-addresses-in-requires
 addresses-in-requires c κs = search needs

@@ -1,4 +1,6 @@
 use mathlib.Core.Path.{sym, _∙_}
+use native.Mathlib.Omega.{arith}
+use Rattle.frame.proofs.FlagLaws.{none-narrower}
 use Rattle.frame.proofs.VerdictLaws.{whole-examined}
 use borrow.Author.Needs.{needs}
 use Rattle.frame.proofs.candidate.examine_flagged.Statement.{statement}
@@ -13,7 +15,9 @@ examine-requires c κs = search needs
 returns : tie.Need-returns
 returns c =
     let a = c .before .before .before .before .args in
-    whole-examined (a .kind) (a .body .now) (sym (c .before .before .none-within .ensures) ∙ c .before .if1 .taken)
+    whole-examined (a .kind) (a .body .now)
+    (none-narrower _ _ 0xF0 0xF2 (a .body .now) (omega arith) (omega arith)
+    (sym (c .before .before .none-within .ensures) ∙ c .before .if1 .taken))
     (c .examine .result) (c .examine .ensures)
 
 returns-2 : tie.Need-returns-2

@@ -1,3 +1,6 @@
+use Prim.Native.Nat.{_+_}
+use native.Mathlib.Omega.{arith}
+use lib.ListN.{getD}
 use borrow.Author.Tests.{le-leb, lt-leb, lt-ltb, le-ltb, eq-eqb, ne-eqb}
 use Rattle.frame.specs.Private.{nextAt}
 use borrow.Author.Needs.{needs}
@@ -40,12 +43,13 @@ shared-slice-read-e c = search needs
 returns-4 : tie.Need-returns-4
 unfolding nextAt
 returns-4 c =
+    let a = c .before .before .before .before .before .before .args in
     simp (
       lt-ltb _ _ (c .before .before .before .before .before .if1 .left),
       eq-eqb _ _
           (c .before .before .before .if2 .left),
       lt-ltb _ _ (c .before .before .if3 .left),
-      lt-leb _ _ (c .if4 .taken),
+      lt-leb (getD (a .s .now) (a .at + 1) 0) 3 (omega (arith, c .if4 .taken)),
     )
 
 add-t8 : tie.Need-add-t8

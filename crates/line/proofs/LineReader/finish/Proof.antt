@@ -1,3 +1,5 @@
+use Rattle.framing.specs.Reference.{finish}
+use Rattle.line.proofs.ValueLaws.{call-whole}
 use borrow.Author.Needs.{needs}
 use Rattle.line.proofs.LineReader.finish.Statement.{statement}
 use Rattle.line.proofs.LineReader.finish.Tie as tie
@@ -9,7 +11,9 @@ by-value-requires : tie.Need-by-value-requires
 by-value-requires c κs = search needs
 
 returns : tie.Need-returns
-returns c = c .by-value .ensures _ (c .before .finish-in .ensures _)
+returns c =
+    let r = c .before .before .before .before .args .self in
+    c .by-value .ensures _ (c .before .finish-in .ensures _) (call-whole r finish)
 
 pub finish-spec : {M : Type 1} → statement M
 finish-spec = tie.close (tie.spec finish-in-requires by-value-requires returns)

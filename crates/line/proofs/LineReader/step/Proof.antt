@@ -1,3 +1,5 @@
+use Rattle.framing.specs.Reference.{byte}
+use Rattle.line.proofs.ValueLaws.{call-whole}
 use borrow.Author.Needs.{needs}
 use Rattle.line.proofs.LineReader.step.Statement.{statement}
 use Rattle.line.proofs.LineReader.step.Tie as tie
@@ -9,7 +11,9 @@ by-value-requires : tie.Need-by-value-requires
 by-value-requires c κs = search needs
 
 returns : tie.Need-returns
-returns c = c .by-value .ensures _ (c .before .step-in .ensures)
+returns c =
+    let a = c .before .before .before .before .before .args in
+    c .by-value .ensures _ (c .before .step-in .ensures) (call-whole (a .self) (byte (a .b)))
 
 pub step-spec : {M : Type 1} → statement M
 step-spec = tie.close (tie.spec step-in-requires by-value-requires returns)

@@ -1,5 +1,4 @@
 -- `CommandCursor::data` by hand: the proof of `Thin`, over `data_at` and its answer, a part of the contents.
-use mathlib.Core.Path.{_≡_}
 use Prim.Native.Nat.{ℕ}
 use mathlib.Core.List.{List, [], _∷_}
 use mir.Syntax.{named, imm, w8, tyInt, tyRef}
@@ -11,7 +10,7 @@ use denote.Signature.{Slot, plain, shrSliceOf}
 use denote.Slice.{sliceTy, shr-slice-lawful}
 use denote.Triple.Spec.{tripleOf}
 use denote.Triple.Table.{entered, cited}
-use Rattle.command.specs.Answers.{partOf}
+use Rattle.command.specs.Parts.{IsData}
 use Rattle.command.specs.Traversal.{commandAt}
 use Rattle.command.proofs.Called.{OnIndex}
 use Rattle.command.proofs.Thin.{thin-meets}
@@ -27,7 +26,7 @@ abbrev answer : Slot 1
 answer = shrSliceOf (0 ∷ []) tt (plain (λ _. u8))
 
 abbrev Says : Lfts 1 → RefT (List ℕ) → ℕ → RefT (List ℕ) → Type 0
-Says κs s n r = now r ≡ partOf (now s) (commandAt (now s) n)
+Says κs s n r = IsData s r (commandAt (now s) n)
 
 pub data-spec : {M : Type 1} → stated.statement M
 unfolding code.routine tablesOf

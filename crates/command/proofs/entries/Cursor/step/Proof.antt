@@ -1,7 +1,8 @@
 use borrow.Author.Tests.{lt-ltb, le-ltb, le-leb, lt-leb}
 use Rattle.command.specs.Steps.{stepAt}
 use native.Mathlib.Omega.{arith}
-use Prim.Native.Nat.{_+_}
+use Prim.Native.Nat.{_+_, _-_, _<_}
+use lib.ListN.{length, getD}
 use borrow.Author.Needs.{needs}
 use Rattle.command.proofs.entries.Cursor.step.Statement.{statement}
 use Rattle.command.proofs.entries.Cursor.step.Tie as tie
@@ -58,12 +59,15 @@ sub-if4 c = search needs
 returns-4 : tie.Need-returns-4
 unfolding stepAt
 returns-4 c =
+    let a = c .before .before .before .before .before .before .args in
+    let over : length (a .s .now) - (a .self .at + 2) < getD (a .s .now) (a .self .at + 1) 0 =
+    omega (arith, c .if4 .taken) in
     simp (
       lt-ltb _ _ (c .before .before .before .before .before .if1 .left),
       lt-ltb _ _
           (c .before .before .before .if2 .left),
       lt-ltb _ _ (c .before .before .if3 .left),
-      lt-leb _ _ (c .if4 .taken),
+      lt-leb _ _ over,
     )
 
 add-t15 : tie.Need-add-t15

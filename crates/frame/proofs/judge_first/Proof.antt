@@ -4,12 +4,13 @@ use mathlib.Core.List.{List}
 use lib.ListN.{length, take}
 use lib.Seq.{length-take-le}
 use Rattle.lists.proofs.Lists.{take-lesser}
-use Rattle.frame.specs.Verdict.{judge}
+use Rattle.frame.specs.Flags.{candidateOf}
+use Rattle.frame.specs.Verdict.{verdict}
 use Rattle.frame.specs.Answers.{judgeAnswer, leftIn}
 use Rattle.frame.proofs.ContentsLaws.{left-part}
 use borrow.Author.Needs.{needs}
-use Rattle.frame.proofs.judge_in_place.Statement.{statement}
-use Rattle.frame.proofs.judge_in_place.Tie as tie
+use Rattle.frame.proofs.judge_first.Statement.{statement}
+use Rattle.frame.proofs.judge_first.Tie as tie
 
 -- the part is the first bytes
 part : (t : tie.After-lesser)
@@ -39,14 +40,14 @@ returns c =
     let t = j .before .before in
     let a = t .before .before .args in
     let n = t .lesser .result in (
-      j .judge-whole .ensures .0 ∙ ap (λ (l : List ℕ). judgeAnswer (judge (a .kind) l)) (part t .0),
+      j .judge-whole .ensures .0 ∙ ap (λ (l : List ℕ). judgeAnswer (verdict (candidateOf (a .kind) l))) (part t .0),
       left-part _ (a .s .now) _ n (part t .1) (j .judge-whole .kept .1 .0 ∙ length-take-le n (a .s .now) (part t .1))
           (j .judge-whole .ensures .1)
-          ∙ ap (λ (l : List ℕ). leftIn (judge (a .kind) l) (a .s .now)) (part t .0),
+          ∙ ap (λ (l : List ℕ). leftIn (verdict (candidateOf (a .kind) l)) (a .s .now)) (part t .0),
     )
 
-pub judge-in-place-spec : {M : Type 1} → statement M
-judge-in-place-spec =
+pub judge-first-spec : {M : Type 1} → statement M
+judge-first-spec =
     tie.close
     (tie.spec
     lesser-requires

@@ -1,0 +1,45 @@
+-- What `judge_array` answers, known by nothing but what its contract tells a caller: document 01's table, of the
+-- candidate that the bytes and the two flags make.
+use mathlib.Core.Path.{_≡_, refl, sym, ap₂, _∙_}
+use mathlib.Core.List.{List}
+use native.Mathlib.Omega.{arith}
+use Prim.Native.Nat.{ℕ}
+use lib.ListN.{take}
+use contract.Lifetimes.{Lfts}
+use denote.Ref.{RefT}
+use Rattle.answer.specs.Answer.{Answer, result, refused}
+use Rattle.frame.specs.Flags.{candidateOf}
+use Rattle.frame.specs.Verdict.{Verdict, verdict}
+use Rattle.frame.specs.Answers.{FrameOutline, readMeans, judgeAnswer, leftIn, frameRead}
+use Rattle.frame.specs.Conditions.{Judged}
+use Rattle.frame.specs.declared.Kind.{Kind}
+use Rattle.frame.specs.declared.Read.{Read}
+use Rattle.frame.proofs.Table.{verdict-by-table}
+use Rattle.frame.proofs.ContentsLaws.{left-whole}
+use Rattle.frame.proofs.judge_array.Reads as judge-array-reads
+
+left-as : (v : Verdict) (s : List ℕ) (n : ℕ) → judgeAnswer v ≡ refused n → leftIn v s ≡ s
+unfolding judgeAnswer leftIn
+left-as (refused m) s n e = refl
+left-as (result f) s n e = let z : _≡_ {A = ℕ} 0 1 = cc in absurd (omega arith)
+
+module _ (κs : Lfts 1) (kind : Kind) (ρ ρ′ : RefT (List ℕ)) (len : ℕ) (r : Read)
+    (k : judge-array-reads.Learnt κs (kind, (ρ, (len, tt))) r (kind, (ρ′, (len, tt)))) where
+  judged-is : frameRead (readMeans r) (ρ′ .now) ≡ verdict (candidateOf kind (take len (ρ .now)))
+  judged-is =
+      ap₂ (λ (a : Answer FrameOutline) (s : List ℕ). frameRead a s) (k .0) (k .1)
+      ∙ left-whole (verdict (candidateOf kind (take len (ρ .now)))) (ρ .now)
+
+  -- What the answer and the bytes that are left tell is the table's, and everything that the table gives is told so. A
+  -- flag among the bytes is refused with 6.
+  pub judged-by-table : (v : Verdict)
+      → (frameRead (readMeans r) (ρ′ .now) ≡ v → Judged (candidateOf kind (take len (ρ .now))) v)
+      × (Judged (candidateOf kind (take len (ρ .now))) v → frameRead (readMeans r) (ρ′ .now) ≡ v)
+  judged-by-table v =
+      let t = verdict-by-table (candidateOf kind (take len (ρ .now))) v in
+      ((λ e. t .0 (sym judged-is ∙ e)), (λ j. judged-is ∙ t .1 j))
+
+  -- A refusal changes no byte.
+  pub judged-untouched : (n : ℕ) → readMeans r ≡ refused n → ρ′ .now ≡ ρ .now
+  judged-untouched n e =
+      k .1 ∙ left-as (verdict (candidateOf kind (take len (ρ .now)))) (ρ .now) n (sym (k .0) ∙ e)
