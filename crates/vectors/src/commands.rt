@@ -3,6 +3,8 @@ use crate::print;
 use answer::Refusal;
 use command::cursor;
 use command::entries;
+use command::entries::Counted;
+use command::entries::Cursor;
 use command::entries::Found;
 use command::stop;
 use command::traversal;
@@ -10,27 +12,31 @@ use command::traversal;
 // The words of an answer, by index.
 const COMMANDS: usize = 0;
 
-const STEPS: usize = 1;
+const COUNT: usize = 1;
 
-const BY_STEPS: usize = 2;
+const UNSOUND: usize = 2;
 
-const STOP: usize = 3;
+const STEPS: usize = 3;
 
-const YES: usize = 4;
+const BY_STEPS: usize = 4;
 
-const NO: usize = 5;
+const STOP: usize = 5;
 
-pub(crate) const NTH: usize = 6;
+const YES: usize = 6;
 
-const NTH_BY_STEPS: usize = 7;
+const NO: usize = 7;
 
-const FOUND: usize = 8;
+pub(crate) const NTH: usize = 8;
 
-const NEXT: usize = 9;
+const NTH_BY_STEPS: usize = 9;
+
+const FOUND: usize = 10;
+
+const NEXT: usize = 11;
 
 pub(crate) fn word(index: usize) {
     print::nth_word(
-        b" commands=[|] steps=[|] by-steps=[|] stop=|yes|no| nth=| by-steps=| found=| next=",
+        b" commands=[|] count=|unsound@| steps=[|] by-steps=[|] stop=|yes|no| nth=| by-steps=| found=| next=",
         index,
     );
 }
@@ -38,6 +44,8 @@ pub(crate) fn word(index: usize) {
 pub(crate) fn print_commands(contents: &[u8]) {
     word(COMMANDS);
     print_list(contents);
+    word(COUNT);
+    print_count(contents);
     word(STEPS);
     print_steps(contents);
     word(BY_STEPS);
@@ -106,6 +114,18 @@ fn print_reason(n: usize, why: Refusal) {
     match why {
         Refusal::Absent => {}
         _ => print::refusal(why),
+    }
+}
+
+// How many commands there are, or the index of the one whose count is missing or goes beyond the end.
+fn print_count(contents: &[u8]) {
+    let all = entries::count(entries::COMMANDS, contents, Cursor { at: 0 });
+    match all {
+        Counted::Entries(n) => print::number(n as u64),
+        Counted::Unsound { at } => {
+            word(UNSOUND);
+            print::number(at as u64);
+        }
     }
 }
 

@@ -18,8 +18,10 @@ const FEED_IN: usize = 1;
 
 const AT: usize = 2;
 
+const NONZERO: usize = 3;
+
 fn word(index: usize) {
-    print::nth_word(b" step:| feed_in:| at=", index);
+    print::nth_word(b" step:| feed_in:| at=| nonzero=", index);
 }
 
 // Both readers get each group of bytes, and a finish after it.
@@ -57,10 +59,18 @@ fn step_all(reader: LineReader, bytes: &[u8]) -> LineReader {
     last.next
 }
 
+// What is told, and how many bytes of the array beside it are not 0.
 fn print_answer(index: usize, answer: StepAnswer) {
     let told = answer.told;
     let contents = answer.contents;
-    print_told(index, told, &contents);
+    match told {
+        Told::Nothing => {}
+        _ => {
+            print_told(index, told, &contents);
+            word(NONZERO);
+            print::number(words::nonzero(&contents) as u64);
+        }
+    }
 }
 
 // ---- over a lent array

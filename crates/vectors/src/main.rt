@@ -29,13 +29,15 @@ const STEP: usize = 7;
 
 const ITEM: usize = 8;
 
-const TIME: usize = 10;
+const STATUS: usize = 9;
 
-const LEASE: usize = 11;
+const TIME: usize = 11;
 
-const LINE: usize = 12;
+const LEASE: usize = 12;
 
-const NAMES: usize = 13;
+const LINE: usize = 13;
+
+const NAMES: usize = 14;
 
 fn main() {
     let mut text = io::large_buffer();
@@ -75,14 +77,14 @@ fn is_example(line: &[u8]) -> bool {
 
 fn operation(name: &[u8]) -> usize {
     words::index_among(
-        b"frame contents standard extended number command inside step item distance time lease line names",
-        14,
+        b"frame contents standard extended number command inside step item status distance time lease line names",
+        15,
         name,
     )
 }
 
 fn run(operation: usize, arguments: &[u8]) {
-    if operation <= ITEM {
+    if operation <= STATUS {
         return run_on_bytes(operation, arguments);
     }
     if operation <= TIME {
@@ -150,6 +152,9 @@ fn run_at(operation: usize, n: u8, bytes: &[u8]) {
 fn run_between(operation: usize, first: u8, second: u8, bytes: &[u8]) {
     if operation == EXTENDED {
         return wire::print_extended(first, second, bytes);
+    }
+    if operation == STATUS {
+        return replies::print_status_of(first, second, words::byte_at(bytes, 0));
     }
     commands::print_inside(bytes, first as usize, second as usize)
 }

@@ -7,6 +7,7 @@ use command::entries;
 use command::entries::Found;
 use reply::ReplyRead;
 use reply::status::Status;
+use reply::status::StatusRead;
 
 // The words of an answer, by index.
 const REPLY: usize = 0;
@@ -25,9 +26,11 @@ const RESULTS: usize = 6;
 
 const STATES: usize = 7;
 
+const BYTE: usize = 8;
+
 fn word(index: usize) {
     print::nth_word(
-        b" reply=|toggle:|,previous:|,state:|,items:[|],written:| results=| states=",
+        b" reply=|toggle:|,previous:|,state:|,items:[|],written:| results=| states=| byte=",
         index,
     );
 }
@@ -102,6 +105,16 @@ fn print_written_item(prior: &[u8], byte: u8, body: &[u8]) {
     let mut room = io::buffer();
     let written = reply::write_item(prior, byte, body, &mut room);
     wire::print_written(written, &room);
+}
+
+// The byte of a status that is made of its parts.
+pub(crate) fn print_status_of(toggle: u8, previous: u8, state: u8) {
+    word(BYTE);
+    let made = Status::of(toggle != 0, previous, state);
+    match made {
+        StatusRead::Status(status) => print::hex_byte(status.to_byte()),
+        StatusRead::Refused(why) => print::refusal(why),
+    }
 }
 
 // The names in the order of document 01.

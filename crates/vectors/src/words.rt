@@ -33,23 +33,32 @@ pub(crate) fn nth(s: &[u8], k: usize) -> &[u8] {
 
 // How many groups a stroke parts.
 pub(crate) fn groups(s: &[u8]) -> usize {
+    let mut n = 1;
+    let mut i = 0;
+    while i < s.len() {
+        n = counted(n, s[i] == b'/');
+        i += 1;
+    }
+    n
+}
+
+// How many bytes are not 0.
+pub(crate) fn nonzero(s: &[u8]) -> usize {
     let mut n = 0;
     let mut i = 0;
     while i < s.len() {
-        n += stroke(s[i]);
+        n = counted(n, s[i] != 0);
         i += 1;
     }
-    n + 1
+    n
 }
 
-// 1 for a stroke, 0 for any other character.
-fn stroke(c: u8) -> usize
-    ensures { λ r. ⌜ r ≤ 1 ⌝ }
-{
-    if c == b'/' {
-        return 1;
+// A number and one more, where something is to be counted.
+fn counted(n: usize, is_one: bool) -> usize {
+    if is_one {
+        return std::num::wrapping_add_usize(n, 1);
     }
-    0
+    n
 }
 
 // One of them, without the space after the stroke.

@@ -44,6 +44,17 @@ pub fn nth(contents: &[u8], n: usize) -> Result<Found, u8> {
     nth
 }
 
+/// How many commands there are at the top, or the index of the byte of the one
+/// whose count is missing or runs beyond the end.
+pub fn count(contents: &[u8]) -> Result<usize, usize> {
+    let (mut at, mut count) = (0, 0);
+    while at < contents.len() {
+        at = command_at(contents, at).map_err(|_| at)?.end();
+        count += 1;
+    }
+    Ok(count)
+}
+
 /// The n-th command in the wrapper that is the w-th command at the top; `start`
 /// is counted in `contents`.
 ///

@@ -53,6 +53,7 @@ fn run(line: &str) -> Option<String> {
         "inside" => inside_answer(&bytes(arguments)?)?,
         "item" => item_answer(&bytes(arguments)?)?,
         "step" => step_answer(&bytes(arguments)?)?,
+        "status" => status_answer(&bytes(arguments)?)?,
         "names" => names_answer(),
         "number" => format!(" number={}", number(&bytes(arguments)?)),
         _ => return None,
@@ -124,6 +125,7 @@ fn told_frame(read: Read, contents: &[u8]) -> String {
 
 fn contents_answer(contents: &[u8]) -> String {
     let commands = top_commands(contents);
+    let count = count(contents);
     let steps = steps_over(contents);
     let by_steps = by_steps(contents);
     let stop = if command::terminates(contents) {
@@ -134,7 +136,7 @@ fn contents_answer(contents: &[u8]) -> String {
     let reply = reply_in(contents).unwrap_or_else(refused);
     let workout = workout_in(contents).unwrap_or_else(refused);
     format!(
-        " commands={commands} steps=[{steps}] by-steps=[{by_steps}] stop={stop} \
+        " commands={commands} count={count} steps=[{steps}] by-steps=[{by_steps}] stop={stop} \
          reply={reply} workout={workout}"
     )
 }
@@ -186,6 +188,14 @@ fn top_command(contents: &[u8], index: usize, entry: Found) -> String {
         joined(&list, |_, entry| with_data(contents, entry))
     });
     format!("{}{{{inside}}}", place(entry))
+}
+
+/// How many commands there are, or the index of the one that fails.
+fn count(contents: &[u8]) -> String {
+    match command::count(contents) {
+        Ok(count) => count.to_string(),
+        Err(index) => format!("unsound@{index}"),
+    }
 }
 
 /// What a cursor finds step by step, and where it then stands, up to its first
@@ -254,6 +264,15 @@ fn step_answer(arguments: &[u8]) -> Option<String> {
     let mut cursor = Cursor::at(contents, at.into());
     let found = found_text(contents, cursor.step());
     Some(format!(" found={found} next={}", cursor.index()))
+}
+
+fn status_answer(arguments: &[u8]) -> Option<String> {
+    let &[toggle, previous, state] = arguments else {
+        return None;
+    };
+    let status = Status::of(toggle != 0, previous, state);
+    let byte = status.map_or_else(refused, |status| hex(&[status.byte()]));
+    Some(format!(" byte={byte}"))
 }
 
 fn names_answer() -> String {
@@ -370,36 +389,43 @@ fn line_answer(arguments: &str) -> Option<String> {
     let (mut single, mut chunked) = (Line::new(), Line::new());
     let group = |group| {
         let bytes = bytes(group)?;
-        let step = feed_singly(&mut single, &bytes) + &finish(&mut single, bytes.len());
-        let feed_in = feed_at_once(&mut chunked, &bytes) + &finish(&mut chunked, bytes.len());
+        let step = step_all(&mut single, &bytes);
+        let feed_in = feed_all(&mut chunked, &bytes);
         Some(format!(" step:{step} feed_in:{feed_in}"))
     };
     arguments.split(" / ").map(group).collect()
 }
 
-fn feed_singly(line: &mut Line, bytes: &[u8]) -> String {
-    let calls = bytes.iter().enumerate();
-    let answers = calls.map(|(at, &byte)| {
+/// The answers of the reader by value, whose array has zeros behind the contents.
+fn step_all(line: &mut Line, bytes: &[u8]) -> String {
+    let mut answers = String::new();
+    for (at, &byte) in bytes.iter().enumerate() {
         let answer = line.feed(byte);
-        told_at(at, answer, line.contents())
-    });
-    answers.collect()
+        answers += &stepped_at(at, answer, line.contents());
+    }
+    let last = line.finish();
+    answers + &stepped_at(bytes.len(), last, line.contents())
 }
 
-fn feed_at_once(line: &mut Line, bytes: &[u8]) -> String {
-    let mut text = String::new();
+fn stepped_at(at: usize, answer: Answer, contents: &[u8]) -> String {
+    let nonzero = match answer {
+        Answer::Nothing => return String::new(),
+        Answer::Frame(_) => contents.iter().filter(|&&byte| byte != 0).count(),
+        Answer::Refused(_) => 0,
+    };
+    format!("{} nonzero={nonzero}", told_at(at, answer, contents))
+}
+
+fn feed_all(line: &mut Line, bytes: &[u8]) -> String {
+    let mut answers = String::new();
     let mut fed = 0;
     while fed < bytes.len() {
         let (taken, answer) = line.feed_chunk(&bytes[fed..]);
         fed += taken;
-        text += &told_at(fed - 1, answer, line.contents());
+        answers += &told_at(fed - 1, answer, line.contents());
     }
-    text
-}
-
-fn finish(line: &mut Line, at: usize) -> String {
     let last = line.finish();
-    told_at(at, last, line.contents())
+    answers + &told_at(bytes.len(), last, line.contents())
 }
 
 fn told_at(at: usize, answer: Answer, contents: &[u8]) -> String {
