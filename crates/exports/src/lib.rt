@@ -10,7 +10,7 @@ use workout::Seconds;
 use workout::Workout;
 ghost use mathlib.Core.Path.{_≡_};
 ghost use mathlib.Core.List.{List};
-ghost use Prim.Native.Nat.{ℕ};
+ghost use Prim.Native.Nat.{ℕ, _<_, _^_};
 ghost use lib.ListN.{length};
 ghost use Rattle.answer.specs.Draft.{draftAnswer, draftOut};
 ghost use Rattle.frame.specs.Frame.{standard, extended};
@@ -106,6 +106,7 @@ pub extern "C" fn csafe_write_distance_workout(
         (length (now (out .entry))))) ⌝ }
     ensures { λ r. ⌜ now (out .exit) ≡ draftOut (workoutDraft pm3Limits (distance metres split watts))
         (now (out .entry)) ⌝ }
+    ensures { λ r. ⌜ watts < 2 ^ 16 ⌝ }
 {
     let goal = Goal::Distance {
         goal: Metres(metres),
@@ -127,6 +128,7 @@ pub extern "C" fn csafe_write_time_workout(
         (writeFields (draftAnswer (workoutDraft pm3Limits (time seconds split watts)) (length (now (out .entry))))) ⌝ }
     ensures { λ r. ⌜ now (out .exit) ≡ draftOut (workoutDraft pm3Limits (time seconds split watts))
         (now (out .entry)) ⌝ }
+    ensures { λ r. ⌜ watts < 2 ^ 16 ⌝ }
 {
     let goal = Goal::Time {
         goal: Seconds(seconds),

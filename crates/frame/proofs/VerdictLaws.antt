@@ -298,9 +298,11 @@ module _ (body : List ℕ) (sum : ℕ) (p : Unescaped body sum) where
   escapeless : noneOf (within 0xF3 0xF3) body ≡ true
   escapeless = none-narrower 0xF0 0xF3 0xF3 0xF3 body (omega arith) (omega arith) (p .clear)
 
+  pub plain-flagless : flagless body ≡ true
+  plain-flagless = none-narrower 0xF0 0xF3 0xF0 0xF2 body (omega arith) (omega arith) (p .clear)
+
   pub plain-whole : (kind : Kind) → judge kind body ≡ judgeWhole kind body
-  plain-whole kind =
-      sym (whole-judged kind body (none-narrower 0xF0 0xF3 0xF0 0xF2 body (omega arith) (omega arith) (p .clear)))
+  plain-whole kind = sym (whole-judged kind body plain-flagless)
 
   pub plain-standard : UnescapedAfter Plain body 0 sum
   plain-standard =

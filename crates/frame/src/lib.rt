@@ -227,9 +227,9 @@ fn judge_whole(kind: Kind, s: &mut [u8]) -> Read
     ensures { λ r. ⌜ readMeans r ≡ judgeAnswer (verdict (candidateOf kind (now (s .entry)))) ⌝ }
     ensures { λ r. ⌜ now (s .exit) ≡ leftIn (verdict (candidateOf kind (now (s .entry)))) (now (s .entry)) ⌝ }
 {
-    let found = candidate::examine_flagged(kind, s);
+    let found = candidate::examine_whole(kind, s);
     match found {
-        Examined::Unsound(why) => Read::Refused(why),
+        Examined::Unsound(refusal) => Read::Refused(refusal),
         Examined::Sound { header, start, len } => {
             bring_contents(s, start, len);
             read_as(header, len)

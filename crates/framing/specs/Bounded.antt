@@ -1,7 +1,7 @@
 -- A line reader that holds the bytes of an open candidate up to a capacity, over a protocol's parameters.
 use mathlib.Core.Path.{_≡_}
 use mathlib.Core.List.{List, [], _∷_, _++_}
-use Prim.Native.Nat.{ℕ, _+_, _≤_, _<_}
+use Prim.Native.Nat.{ℕ, _+_, _<_}
 use lib.Dec.{ltb}
 use lib.ListN.{length, take, set}
 use Rattle.lists.specs.Choice.{pick}

@@ -1,13 +1,13 @@
 -- Demand 3 of the functions themselves: any calls, known by nothing but what the contracts tell a caller, are answered
 -- as the reference decoder answers.
-use mathlib.Core.Path.{_≡_, refl, ap, _∙_}
+use mathlib.Core.Path.{_≡_, ap, _∙_}
 use mathlib.Core.List.{List, map}
 use Prim.Native.Nat.{ℕ}
 use contract.Lifetimes.{Lfts}
 use denote.Ref.{RefT}
-use Rattle.lists.specs.Machine.{run, Ran, Answered}
+use Rattle.lists.specs.Machine.{run, Answered}
 use Rattle.lists.proofs.Machines.{run-told, ran-run}
-use Rattle.framing.specs.Reference.{Call, byte, finish, Reference}
+use Rattle.framing.specs.Reference.{Call, byte, finish}
 use Rattle.framing.specs.Demand3.{toldBy, Demand3}
 use Rattle.framing.proofs.Restart.{demand3-of, reference-told}
 use Rattle.line.specs.Outcome.{Outcome, Summary, summaryOf, outcomeOf, ValueAnswer, answerOf}

@@ -34,7 +34,7 @@ use Rattle.line.proofs.feed_in.Reads as feed-in-reads
 abbrev WholeFed : ChunkTurn → Type 0
 WholeFed f = outcomeOf (summaryOf (f .answer)) (f .next .bytes) ≡ f .answer
 
-feed-whole : (r : LineReader) (s : List ℕ) → WholeFed (feedOf r s)
+pub feed-whole : (r : LineReader) (s : List ℕ) → WholeFed (feedOf r s)
 unfolding feedOf
 feed-whole r [] = refl
 feed-whole r (b ∷ s) =

@@ -334,7 +334,7 @@ fn first_of(bytes: [u8; 118], len: usize) -> [u8; 118]
 {
     let mut contents = bytes;
     let mut i = len;
-    while i < ROOM {
+    while i < contents.len() {
         contents[i] = 0;
         i += 1;
     }

@@ -4,4 +4,6 @@ pub mod ReadLaws
 pub mod WriteLaws
 pub mod Table
 pub mod RoundTrip
+pub mod CallLaws
+pub mod Calls
 pub mod Examples

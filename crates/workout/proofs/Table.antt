@@ -216,3 +216,11 @@ module _ (limits : Limits) (w : Programmed) (room : ℕ) where
         (sym (table-written (some-write .0) (some-write .1)) ∙ e) (some-write .1)),
     table-written a,
   )
+
+-- What is written is within the limits.
+pub written-within : (limits : Limits) (w : Programmed) (room n : ℕ)
+    → draftAnswer (workoutDraft limits w) room ≡ result n → withinLimits limits w ≡ true
+written-within limits w room n e =
+    by-bool (withinLimits limits w) (λ y. y)
+    (λ y. let q : refused 12 ≡ result n = sym (past limits w room y) ∙ e in
+    let z : _≡_ {A = ℕ} 0 1 = cc in absurd (omega arith))

@@ -1,5 +1,5 @@
 -- Laws of a workout's value and of writing it.
-use Prim.Native.Nat.{ℕ, _%_, _≤_}
+use Prim.Native.Nat.{ℕ, _%_, _≤_, _<_}
 use mathlib.Core.Path.{_≡_, refl, sym, ap, _∙_, subst}
 use mathlib.Core.Bool.{true, false}
 use mathlib.Core.List.{List, _++_}
@@ -14,16 +14,25 @@ use Rattle.lists.proofs.Cases.{by-bool}
 use Rattle.lists.proofs.Splices.{copied-first}
 use Rattle.answer.proofs.Drafts.{writes-done}
 use Rattle.workout.specs.Limits.{Limits}
-use Rattle.workout.specs.Workout.{Programmed, distance, time, goalMeans, programmed, withinLimits, layout}
-use Rattle.workout.specs.Workout.{distanceBytes, timeBytes, workoutBytes}
+use Rattle.workout.specs.Workout.{Programmed, distance, time, goalMeans, programmed, wattsOf, withinLimits}
+use Rattle.workout.specs.Workout.{layout, distanceBytes, timeBytes, workoutBytes}
 use Rattle.workout.specs.Answers.{workoutDraft}
 use Rattle.workout.specs.declared.Workout.{Workout}
 use Rattle.workout.specs.declared.Goal.{Goal}
+use Rattle.workout.specs.declared.Goal.the-variants.{Distance, Time}
 
 -- what is known of a workout's goal, of what the workout means
 pub by-goal : {A : Type 0} (f : Programmed → A) (w : Workout) {g : Goal} → w .goal ≡ g
     → f (goalMeans g (w .watts)) ≡ f (programmed w)
 by-goal f w e = ap (λ (g : Goal). f (goalMeans g (w .watts))) (sym e)
+
+-- the watts of what a workout means are its own
+pub watts-below : (n : ℕ) (w : Workout) → w .watts < n → wattsOf (programmed w) < n
+watts-below n w h = of-goal (w .goal)
+  where
+    of-goal : (g : Goal) → wattsOf (goalMeans g (w .watts)) < n
+    of-goal (Distance goal split) = h
+    of-goal (Time goal split) = h
 
 pub contents-length : (w : Programmed) → length (workoutBytes w) ≡ 23
 unfolding workoutBytes layout distanceBytes timeBytes bytesOf

@@ -1,10 +1,9 @@
 -- A programmed workout and its bytes: document 01, "Workout card".
-use Prim.Native.Nat.{ℕ, _/_, _%_, _<_}
+use Prim.Native.Nat.{ℕ, _/_, _%_, _≤_}
 use mathlib.Core.Path.{_≡_}
-use mathlib.Core.Logic.{_⊎_}
-use mathlib.Core.Bool.{Bool}
+use mathlib.Core.Bool.{Bool, true}
 use mathlib.Core.List.{List, [], _∷_, _++_}
-use lib.Dec.{eqb}
+use lib.Dec.{leb, eqb}
 use Rattle.lists.specs.Choice.{pick}
 use Rattle.numbers.specs.Number.{bytesOf}
 use Rattle.workout.specs.Limits.{Limits, withinGoal}
@@ -72,8 +71,14 @@ unfoldable pub workoutBytes : Programmed → List ℕ
 workoutBytes (distance goal split watts) = layout OfDistance (distanceBytes goal) (bytesOf 4 split) (bytesOf 2 watts)
 workoutBytes (time goal split watts) = layout OfTime (timeBytes goal) (bytesOf 4 split) (bytesOf 2 watts)
 
--- What the bytes can hold: a distance of 16 bits in metres or in whole km, hours of 8 bits, a power of 16 bits.
--- Document 01's limits let no other goal through.
+-- ---- what the bytes can hold
+
+-- Whether a distance can be sent: 16 bits hold it in its unit, km where it is a whole number of km, else metres.
+unfoldable pub distanceSendable : ℕ → Bool
+distanceSendable metres = pick (eqb (metres % 1000) 0) (leb (metres / 1000) 65535) (leb metres 65535)
+
+-- Whether the bytes can hold a goal: a distance that can be sent, or hours of 8 bits. Document 01's limits let no other
+-- goal through. The watts have no part in it.
 abbrev pub Sendable : Programmed → Type 0
-Sendable (distance goal split watts) = ((goal < 65536) ⊎ ((goal % 1000 ≡ 0) × (goal < 65536000))) × (watts < 65536)
-Sendable (time goal split watts) = (goal < 921600) × (watts < 65536)
+Sendable (distance goal split watts) = distanceSendable goal ≡ true
+Sendable (time goal split watts) = goal / 3600 ≤ 255

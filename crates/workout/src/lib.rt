@@ -15,6 +15,7 @@ ghost use Rattle.answer.specs.Draft.{draftAnswer, draftOut, writtenMeans};
 ghost use Rattle.workout.specs.Limits.{pm3Limits};
 ghost use Rattle.workout.specs.Workout.{Programmed, programmed, workoutBytes};
 ghost use Rattle.workout.specs.Answers.{workoutMeans, workoutAnswer, workoutDraft};
+ghost use Rattle.workout.specs.Contracts.{ReadsWorkout, WritesWorkout};
 ghost use Rattle.workout.specs.Private.{limitsOf, distanceRead, timeRead, limitedRead, Divisible};
 
 // The most minutes and the most seconds that a time goal has beside its hours.
@@ -47,16 +48,15 @@ pub enum WorkoutRead {
 
 // Reads the contents of a frame that are to be a workout. Refusals 13 and 12.
 pub fn read_workout(contents: &[u8]) -> WorkoutRead
-    ensures { λ r. ⌜ workoutMeans r ≡ workoutAnswer pm3Limits (now (contents .entry)) ⌝ }
+    ensures { λ r. ⌜ ReadsWorkout pm3Limits (now (contents .entry)) (workoutMeans r) ⌝ }
 {
     read_within(limits::PM3, contents)
 }
 
 // Writes the contents of a workout first in the output. Refusals 12 and 1.
 pub fn write_workout(workout: Workout, out: &mut [u8]) -> Written
-    ensures { λ r. ⌜ writtenMeans r ≡ draftAnswer (workoutDraft pm3Limits (programmed workout))
-        (length (now (out .entry))) ⌝ }
-    ensures { λ r. ⌜ now (out .exit) ≡ draftOut (workoutDraft pm3Limits (programmed workout)) (now (out .entry)) ⌝ }
+    ensures { λ r. ⌜ WritesWorkout pm3Limits (programmed workout) (now (out .entry)) (writtenMeans r)
+        (now (out .exit)) ⌝ }
 {
     write_within(limits::PM3, workout, out)
 }

@@ -8,20 +8,20 @@ use borrow.Author.Needs.{needs}
 use Rattle.frame.proofs.judge_whole.Statement.{statement}
 use Rattle.frame.proofs.judge_whole.Tie as tie
 
-abbrev St : tie.After-examine-flagged → tie.Start
+abbrev St : tie.After-examine-whole → tie.Start
 St e = e .before .before .before
 
-found : (e : tie.After-examine-flagged) (x : Examined) → e .examine-flagged .result ≡ x
+found : (e : tie.After-examine-whole) (x : Examined) → e .examine-whole .result ≡ x
     → ExaminesWhole (St e .args .kind) (St e .args .s .now) x
-found e x q = subst (λ (y : Examined). ExaminesWhole (St e .args .kind) (St e .args .s .now) y) q (e .examine-flagged .ensures)
+found e x q = subst (λ (y : Examined). ExaminesWhole (St e .args .kind) (St e .args .s .now) y) q (e .examine-whole .ensures)
 
 sound : (k : tie.After-known-told2)
     → SoundAt (St (k .before .before .before) .args .kind) (St (k .before .before .before) .args .s .now)
     (k .before .found2 .given .0 .0) (k .before .found2 .given .0 .1 .0) (k .before .found2 .given .0 .1 .1 .0)
 sound k = found (k .before .before .before) _ (k .before .found2 .given .1) .1
 
-examine-flagged-requires : tie.Need-examine-flagged-requires
-examine-flagged-requires c κs = search needs
+examine-whole-requires : tie.Need-examine-whole-requires
+examine-whole-requires c κs = search needs
 
 enum-known-found : tie.Need-enum-known-found
 enum-known-found c = search needs
@@ -40,8 +40,8 @@ same-length c = search needs
 
 returns : tie.Need-returns
 returns c =
-    let e = c .before .before .before in
-    let q = candidate-verdict _ _ ∙ found e _ (c .before .found .given .1) in
+    let f : tie.After-found = search needs in
+    let q = candidate-verdict _ _ ∙ found (f .before .before) _ (f .found .given .1) in
     (judge-refused _ _ q, left-refused _ _ _ q)
 
 same-length-2 : tie.Need-same-length-2
@@ -61,7 +61,7 @@ pub judge-whole-spec : {M : Type 1} → statement M
 judge-whole-spec =
     tie.close
     (tie.spec
-    examine-flagged-requires
+    examine-whole-requires
     enum-known-found
     enum-known-found-2
     bring-contents-requires

@@ -1,8 +1,7 @@
 use Rattle.line.proofs.first_of.Statement.{statement}
 use Rattle.line.proofs.first_of.Tie as tie
-use mathlib.Core.Path.{_≡_, refl, _∙_}
+use mathlib.Core.Path.{_≡_, _∙_}
 use mathlib.Core.List.{_++_}
-use native.Mathlib.Omega.{arith}
 use Prim.Native.Nat.{_-_}
 use lib.ListN.{length, take, replicate, length-set}
 use borrow.Author.Needs.{needs}

@@ -12,9 +12,10 @@ terminated-requires c κs = search needs
 
 returns : tie.Need-returns
 returns c =
+    let t : tie.After-terminated = search needs in
     λ b. record {
-      told-is = c .terminated .ensures .0;
-      next-is = ap (λ (l : List ℕ). reader l 0 Outside) (c .terminated .ensures .1);
+      told-is = t .terminated .ensures .0;
+      next-is = ap (λ (l : List ℕ). reader l 0 Outside) (t .terminated .ensures .1);
     }
 
 pub stop-spec : {M : Type 1} → statement M

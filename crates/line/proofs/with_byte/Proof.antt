@@ -1,3 +1,5 @@
+use native.Mathlib.Omega.{arith}
+use Rattle.line.specs.Outcome.{capacity}
 use borrow.Author.Tests.{lt-ltb, le-ltb}
 use borrow.Author.Needs.{needs}
 use Rattle.line.proofs.with_byte.Statement.{statement}
@@ -13,7 +15,7 @@ unmoved-requires : tie.Need-unmoved-requires
 unmoved-requires c κs = search needs
 
 returns : tie.Need-returns
-returns c = simp (lt-ltb _ _ (c .before .if1 .taken)) (c .unmoved .ensures _)
+returns c = simp (lt-ltb (c .before .before .args .len) capacity (omega (arith, c .before .if1 .taken))) (c .unmoved .ensures _)
 
 unmoved-requires-2 : tie.Need-unmoved-requires-2
 unmoved-requires-2 c κs = search needs

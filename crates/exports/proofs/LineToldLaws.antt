@@ -1,0 +1,86 @@
+-- A number tells a caller exactly what a line reader told.
+use Prim.Native.Nat.{ℕ}
+use mathlib.Core.Path.{_≡_, ap, _∙_}
+use mathlib.Core.Bool.{Bool, true, false}
+use mathlib.Core.List.{List, [], _∷_}
+use native.Mathlib.Omega.{arith}
+use lib.Dec.{eqb}
+use lib.ListN.{take}
+use Rattle.lists.specs.Choice.{pick}
+use Rattle.answer.specs.Answer.{result, refused}
+use Rattle.framing.specs.Reference.{Role, starts, stops, plain}
+use Rattle.framing.specs.Bounded.{BoundedMode, outside, inside, overlong, truncatedIn, terminatedIn}
+use Rattle.frame.specs.Flags.{roleOf, candidateOf}
+use Rattle.frame.specs.Verdict.{verdict}
+use Rattle.frame.specs.Answers.{standardOutline, extendedOutline, outlineOf, judgeAnswer}
+use Rattle.frame.specs.declared.Kind.{Kind}
+use Rattle.line.specs.Outcome.{Summary, silent, tells, summaryOf}
+use Rattle.line.specs.Rowing.{rowing, rowingBounds}
+use Rattle.line.specs.Reader.{ReaderTurn, modeSeen, roleStep, stepOf, finishOf}
+use Rattle.line.specs.Feed.{isAnswer, ChunkTurn, chunkTurn, laterBy, feedOf}
+use Rattle.line.specs.declared.LineReader.{LineReader}
+use Rattle.exports.specs.Packed.{Fields, Tells}
+use Rattle.exports.specs.LineAnswers.{lineFields}
+use Rattle.exports.specs.Told.{toldRead, toldLine, NumberedLine}
+use Rattle.exports.proofs.ToldLaws.{read-told, through-numbered, verdict-numbered}
+
+pub line-told : (n : ℕ) (s : Summary) → NumberedLine s → Tells n (lineFields s) → toldLine n ≡ s
+unfolding toldLine
+line-told n silent h t = ap (λ (f : Fields). pick (eqb (f .kind) 2) silent (tells (toldRead n))) (t .unpacks)
+line-told n (tells (result (standardOutline len))) h t =
+    ap (λ (f : Fields). pick (eqb (f .kind) 2) silent (tells (toldRead n))) (t .unpacks)
+    ∙ ap tells (read-told n (result (standardOutline len)) h t)
+line-told n (tells (result (extendedOutline to from len))) h t =
+    ap (λ (f : Fields). pick (eqb (f .kind) 2) silent (tells (toldRead n))) (t .unpacks)
+    ∙ ap tells (read-told n (result (extendedOutline to from len)) h t)
+line-told n (tells (refused m)) h t =
+    ap (λ (f : Fields). pick (eqb (f .kind) 2) silent (tells (toldRead n))) (t .unpacks)
+    ∙ ap tells (read-told n (refused m) h t)
+
+-- ---- the refusals of a line reader are numbered
+
+truncated-numbered : (m : BoundedMode Kind) → NumberedLine (summaryOf (truncatedIn rowing rowingBounds m))
+unfolding judgeAnswer
+truncated-numbered outside = tt
+truncated-numbered (inside kind) = λ e. omega arith
+truncated-numbered overlong = λ e. omega arith
+
+terminated-numbered : (m : BoundedMode Kind) (held : List ℕ) (len : ℕ)
+    → NumberedLine (summaryOf (terminatedIn rowing rowingBounds m held len))
+unfolding judgeAnswer
+terminated-numbered outside held len = tt
+terminated-numbered (inside kind) held len =
+    through-numbered outlineOf (verdict (candidateOf kind (take len held)))
+    (verdict-numbered (candidateOf kind (take len held)))
+terminated-numbered overlong held len = λ e. omega arith
+
+byte-numbered : (r : LineReader) (b : ℕ) (ρ : Role) → NumberedLine (summaryOf (roleStep ρ r b .answer))
+byte-numbered r b starts = truncated-numbered (modeSeen (r .state .mode))
+byte-numbered r b stops = terminated-numbered (modeSeen (r .state .mode)) (r .bytes) (r .state .len)
+byte-numbered r b plain = tt
+
+pub finish-numbered : (r : LineReader) → NumberedLine (summaryOf (finishOf r .answer))
+finish-numbered r = truncated-numbered (modeSeen (r .state .mode))
+
+pub feed-numbered : (r : LineReader) (s : List ℕ) → NumberedLine (summaryOf (feedOf r s .answer))
+unfolding feedOf
+feed-numbered r [] = tt
+feed-numbered r (b ∷ s) =
+    by-answer (isAnswer (stepOf r b .answer)) (stepOf r b) (byte-numbered r b (roleOf b)) (feedOf (stepOf r b .next) s)
+    (feed-numbered (stepOf r b .next) s)
+  where
+    by-answer : (q : Bool) (t : ReaderTurn) → NumberedLine (summaryOf (t .answer)) → (f : ChunkTurn)
+        → NumberedLine (summaryOf (f .answer))
+        → NumberedLine (summaryOf (pick q (chunkTurn (t .answer) (t .next) 1) (laterBy 1 f) .answer))
+    by-answer true t h f k = h
+    by-answer false t h f k = k
+
+-- ---- what the exported functions' answers tell
+
+pub fed-told : (n : ℕ) (r : LineReader) (s : List ℕ) → Tells n (lineFields (summaryOf (feedOf r s .answer)))
+    → toldLine n ≡ summaryOf (feedOf r s .answer)
+fed-told n r s = line-told n (summaryOf (feedOf r s .answer)) (feed-numbered r s)
+
+pub finish-told : (n : ℕ) (r : LineReader) → Tells n (lineFields (summaryOf (finishOf r .answer)))
+    → toldLine n ≡ summaryOf (finishOf r .answer)
+finish-told n r = line-told n (summaryOf (finishOf r .answer)) (finish-numbered r)

@@ -1,0 +1,161 @@
+-- A number tells a caller exactly the answer that was packed into it, so every theorem over what the library's
+-- functions answer carries over to the exported ones.
+use Prim.Native.Nat.{ℕ}
+use mathlib.Core.Path.{_≡_, refl, ap, _∙_}
+use mathlib.Core.List.{List, []}
+use native.Mathlib.Omega.{arith}
+use lib.Dec.{leb, eqb}
+use lib.ListN.{length, getD}
+use borrow.Author.Tests.{ne-eqb}
+use Rattle.lists.proofs.Cases.{by-bool}
+use Rattle.answer.specs.Answer.{Answer, result, refused, through}
+use Rattle.answer.specs.Draft.{Draft, draftAnswer}
+use Rattle.frame.specs.Frame.{Frame, contentsOf, wireOf}
+use Rattle.frame.specs.Verdict.{Verdict, verdict}
+use Rattle.frame.specs.Answers.{frameDraft, FrameOutline, standardOutline, extendedOutline, readAnswer}
+use Rattle.frame.specs.Conditions.{Judged, truncated, long, badEscape, short, badSum, sound}
+use Rattle.frame.proofs.Table.{verdict-by-table}
+use Rattle.workout.specs.Limits.{Limits}
+use Rattle.workout.specs.Workout.{Programmed, withinLimits}
+use Rattle.workout.specs.Answers.{workoutDraft}
+use Rattle.lease.specs.Lease.{LeaseCall, hold, release, stop, inRange, owns, stopFrame, answerOf, addressOf, tableOf}
+use Rattle.lease.specs.Lease.{lentAnswer}
+use Rattle.lease.specs.Answers.{writtenLength}
+use Rattle.exports.specs.Packed.{Fields, Tells}
+use Rattle.exports.specs.Answers.{writeFields, readFields, leaseFields}
+use Rattle.exports.specs.Told.{toldAs, toldWritten, toldLease, outlineIn, toldRead, Numbered}
+
+-- ---- what was packed is what is told
+
+pub written-told : (n : ℕ) (a : Answer ℕ) → Numbered a → Tells n (writeFields a) → toldWritten n ≡ a
+unfolding toldWritten
+written-told n (result len) h t = ap (λ (f : Fields). toldAs (f .number) (f .len)) (t .unpacks)
+written-told n (refused m) h t =
+    ap (λ (f : Fields). toldAs (f .number) (f .len)) (t .unpacks) ∙ simp (ne-eqb m 0 h)
+
+pub read-told : (n : ℕ) (a : Answer FrameOutline) → Numbered a → Tells n (readFields a) → toldRead n ≡ a
+unfolding toldRead
+read-told n (result (standardOutline len)) h t = ap (λ (f : Fields). toldAs (f .number) (outlineIn f)) (t .unpacks)
+read-told n (result (extendedOutline to from len)) h t =
+    ap (λ (f : Fields). toldAs (f .number) (outlineIn f)) (t .unpacks)
+read-told n (refused m) h t =
+    ap (λ (f : Fields). toldAs (f .number) (outlineIn f)) (t .unpacks) ∙ simp (ne-eqb m 0 h)
+
+-- ---- the refusals of what was packed are numbered
+
+pub through-numbered : {A B : Type 0} (f : A → B) (a : Answer A) → Numbered a → Numbered (through f a)
+through-numbered f (result x) h = tt
+through-numbered f (refused n) h = h
+
+pub draft-numbered : (d : Draft) (room : ℕ) → Numbered d → Numbered (draftAnswer d room)
+unfolding draftAnswer
+draft-numbered (refused n) room h = h
+draft-numbered (result w) room h =
+    by-bool (leb (length w) room) (λ y. simp y tt) (λ y. simp y (λ e. omega arith))
+
+pub frame-numbered : (f : Frame) → Numbered (frameDraft f)
+unfolding frameDraft
+frame-numbered f = by-bool (leb (length (wireOf f)) 120) (λ y. simp y tt) (λ y. simp y (λ e. omega arith))
+
+pub workout-numbered : (limits : Limits) (w : Programmed) → Numbered (workoutDraft limits w)
+unfolding workoutDraft
+workout-numbered limits w = by-bool (withinLimits limits w) (λ y. simp y tt) (λ y. simp y (λ e. omega arith))
+
+lease-numbered : (held : ℕ) (c : LeaseCall) → Numbered (answerOf held c)
+unfolding answerOf
+lease-numbered held (hold a t) =
+    by-bool (inRange a)
+    (λ r. by-bool (eqb t 0) (λ z. simp (r, z) (λ e. omega arith))
+    (λ z. by-bool (eqb held 0) (λ f. simp (r, z, f) tt) (λ f. simp (r, z, f) (λ e. omega arith))))
+    (λ r. simp r (λ e. omega arith))
+lease-numbered held (release a t) =
+    by-bool (inRange a)
+    (λ r. by-bool (owns t held) (λ o. simp (r, o) tt) (λ o. simp (r, o) (λ e. omega arith)))
+    (λ r. simp r (λ e. omega arith))
+lease-numbered held (stop a t room) =
+    by-bool (inRange a)
+    (λ r. by-bool (owns t held)
+    (λ o. by-bool (leb (length (stopFrame a)) room) (λ l. simp (r, o, l) tt) (λ l. simp (r, o, l) (λ e. omega arith)))
+    (λ o. simp (r, o) (λ e. omega arith)))
+    (λ r. simp r (λ e. omega arith))
+
+pub lent-numbered : (s : List ℕ) (c : LeaseCall) → Numbered (lentAnswer s c)
+unfolding lentAnswer
+lent-numbered s c =
+    by-bool (eqb (length s) 2048) (λ y. simp y (lease-numbered (getD (tableOf s) (addressOf c) 0) c))
+    (λ y. simp y (λ e. omega arith))
+
+judged-numbered : (w : List ℕ) (v : Verdict) → Judged w v → Numbered v
+judged-numbered w v (truncated n) = λ e. omega arith
+judged-numbered w v (long t n) = λ e. omega arith
+judged-numbered w v (badEscape t l n) = λ e. omega arith
+judged-numbered w v (short t u l g x n) = λ e. omega arith
+judged-numbered w v (badSum t u l g x k n) = λ e. omega arith
+judged-numbered w v (sound f s) = tt
+
+pub verdict-numbered : (w : List ℕ) → Numbered (verdict w)
+verdict-numbered w = judged-numbered w (verdict w) (verdict-by-table w (verdict w) .0 refl)
+
+pub read-numbered : (w : List ℕ) (room : ℕ) → Numbered (readAnswer (verdict w) room)
+unfolding readAnswer
+read-numbered w room = of-verdict (verdict w) (verdict-numbered w)
+  where
+    of-verdict : (v : Verdict) → Numbered v → Numbered (readAnswer v room)
+    of-verdict (refused n) h = h
+    of-verdict (result f) h =
+        by-bool (leb (length (contentsOf f)) room) (λ y. simp y tt) (λ y. simp y (λ e. omega arith))
+
+-- ---- what the exported functions' answers tell
+
+pub frame-told : (n : ℕ) (f : Frame) (room : ℕ) → Tells n (writeFields (draftAnswer (frameDraft f) room))
+    → toldWritten n ≡ draftAnswer (frameDraft f) room
+frame-told n f room = written-told n (draftAnswer (frameDraft f) room) (draft-numbered (frameDraft f) room (frame-numbered f))
+
+pub slice-told : (n : ℕ) (w : List ℕ) (room : ℕ) → Tells n (readFields (readAnswer (verdict w) room))
+    → toldRead n ≡ readAnswer (verdict w) room
+slice-told n w room = read-told n (readAnswer (verdict w) room) (read-numbered w room)
+
+pub workout-told : (n : ℕ) (limits : Limits) (w : Programmed) (room : ℕ)
+    → Tells n (writeFields (draftAnswer (workoutDraft limits w) room))
+    → toldWritten n ≡ draftAnswer (workoutDraft limits w) room
+workout-told n limits w room =
+    written-told n (draftAnswer (workoutDraft limits w) room)
+    (draft-numbered (workoutDraft limits w) room (workout-numbered limits w))
+
+-- hold and release write nothing
+lease-told : (n : ℕ) (a : Answer (List ℕ)) → Numbered a → through (λ (w : List ℕ). []) a ≡ a → Tells n (leaseFields a)
+    → toldLease n ≡ a
+unfolding toldLease
+lease-told n (result w) h e t =
+    ap (through (λ (len : ℕ). [])) (written-told n (result (length w)) tt t) ∙ e
+lease-told n (refused m) h e t = ap (through (λ (len : ℕ). [])) (written-told n (refused m) h t)
+
+pub hold-told : (n : ℕ) (s : List ℕ) (a t : ℕ) → Tells n (leaseFields (lentAnswer s (hold a t)))
+    → toldLease n ≡ lentAnswer s (hold a t)
+unfolding lentAnswer answerOf
+hold-told n s a t =
+    lease-told n (lentAnswer s (hold a t)) (lent-numbered s (hold a t))
+    (by-bool (eqb (length s) 2048)
+    (λ y. by-bool (inRange a)
+    (λ r. by-bool (eqb t 0) (λ z. simp (y, r, z))
+    (λ z. by-bool (eqb (getD (tableOf s) a 0) 0) (λ f. simp (y, r, z, f)) (λ f. simp (y, r, z, f))))
+    (λ r. simp (y, r)))
+    (λ y. simp y))
+
+pub release-told : (n : ℕ) (s : List ℕ) (a t : ℕ) → Tells n (leaseFields (lentAnswer s (release a t)))
+    → toldLease n ≡ lentAnswer s (release a t)
+unfolding lentAnswer answerOf
+release-told n s a t =
+    lease-told n (lentAnswer s (release a t)) (lent-numbered s (release a t))
+    (by-bool (eqb (length s) 2048)
+    (λ y. by-bool (inRange a)
+    (λ r. by-bool (owns t (getD (tableOf s) a 0)) (λ o. simp (y, r, o)) (λ o. simp (y, r, o)))
+    (λ r. simp (y, r)))
+    (λ y. simp y))
+
+pub stop-told : (n : ℕ) (s : List ℕ) (a t room : ℕ)
+    → Tells n (writeFields (writtenLength (lentAnswer s (stop a t room))))
+    → toldWritten n ≡ writtenLength (lentAnswer s (stop a t room))
+stop-told n s a t room =
+    written-told n (writtenLength (lentAnswer s (stop a t room)))
+    (through-numbered length (lentAnswer s (stop a t room)) (lent-numbered s (stop a t room)))
