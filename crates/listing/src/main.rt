@@ -1,90 +1,189 @@
 // Lists a trace: standard input, at most 4,294,967,295 bytes, as a line for each answer and the totals (document 01,
 // "Listing"). Input is read and output is written in pieces of up to 65,536 bytes. What is written is what `trace`
-// proves of any cutting.
-ghost use Prim.Native.Nat.{_≤_};
+// proves of any cutting. No contract can say what the system read or wrote: those of this program say of the bytes that
+// it was given how many they were, which state they lead to and how many bytes were handed over for writing.
+use answer::Written;
+use trace::Listing;
+ghost use mathlib.Core.Path.{_≡_};
+ghost use Prim.Native.Nat.{_≤_, _<_};
 ghost use lib.ListN.{length};
 ghost use Rattle.text.specs.Writing.{lineRoom};
-use trace::Listing;
+ghost use Rattle.trace.specs.Machine.{lastRoom};
+ghost use Rattle.listing.specs.Runs.{Pumps, Finishes, Runs};
+ghost use Rattle.listing.specs.Private.{Fetches, Closes};
 
 // The most bytes that are read.
 const LIMIT: u64 = 4294967295;
 
-// Whether all that a chunk gave was written, and the state after it.
+// What a read gave: so many bytes, none at the end of the input, or a failure.
+enum Fetched {
+    Bytes(usize),
+    Failed,
+}
+
+// Why the program stops: what the last read gave, the limit, or whether the last write took all. Each reason holds the
+// answer that it goes by.
+enum Stop {
+    LastRead(Fetched),
+    AtLimit,
+    LastWrite(bool),
+}
+
+// How long a text is, and whether all of it was written.
+struct Sent {
+    len: u64,
+    whole: bool,
+}
+
+// How many bytes of a chunk were taken and the state after them, how long their lines are, and whether all of them were
+// written.
 struct Pumped {
-    is_written: bool,
+    taken: usize,
+    wrote: u64,
+    whole: bool,
     next: Listing,
+}
+
+// Why the program stopped, and how many bytes were read and written. The number of bytes written wraps at 2^64.
+struct Ran {
+    stop: Stop,
+    read: u64,
+    wrote: u64,
 }
 
 fn main() {
     let mut input = io::large_buffer();
     let mut out = io::large_buffer();
-    run(&mut input, &mut out);
+    let ran = run(&mut input, &mut out);
+    let stop = ran.stop;
+    match stop {
+        Stop::LastRead(fetched) => match fetched {
+            Fetched::Bytes(_) => {}
+            Fetched::Failed => os::fail(b"standard input"),
+        },
+        Stop::AtLimit => {}
+        Stop::LastWrite(_) => os::fail(b"standard output"),
+    }
 }
 
-// Where a read or a write fails, no totals are written.
-fn run(input: &mut [u8], out: &mut [u8])
-    requires { ⌜ lineRoom ≤ length (now out) ⌝ }
+// Reads and lists until the input ends, or the limit is reached, and writes the totals. Where a read or a write fails,
+// no totals are written.
+fn run(input: &mut [u8], out: &mut [u8]) -> Ran
+    requires { ⌜ 0 < length (now input) ⌝ }
+    requires { ⌜ lastRoom ≤ length (now out) ⌝ }
+    ensures { λ r. ⌜ Runs (now (out .exit)) r ⌝ }
 {
     let mut state = trace::new();
-    let mut left = LIMIT;
-    while 0 < left {
-        let got = fetch(input, left);
-        if got < 0 {
-            read_failed();
-            return;
-        }
-        let n = least(io::count(got, input), left);
+    let mut read: u64 = 0;
+    let mut wrote: u64 = 0;
+    while read < LIMIT {
+        let fetched = fetch(input, LIMIT - read);
+        let Fetched::Bytes(n) = fetched else {
+            let stop = Stop::LastRead(Fetched::Failed);
+            return Ran { stop, read, wrote };
+        };
         if n == 0 {
-            finish(state, out);
-            return;
+            return close(state, Stop::LastRead(Fetched::Bytes(n)), read, wrote, out);
         }
         let pumped = pump(state, &input[..n], out);
-        if !pumped.is_written {
-            write_failed();
-            return;
-        }
         state = pumped.next;
-        left = left - n as u64;
+        read = read + n as u64;
+        wrote = std::num::wrapping_add_u64(wrote, pumped.wrote);
+        if !pumped.whole {
+            let stop = Stop::LastWrite(pumped.whole);
+            return Ran { stop, read, wrote };
+        }
     }
-    finish(state, out);
+    close(state, Stop::AtLimit, read, wrote, out)
 }
 
-// Reads once, at most `left` bytes, and answers as `libc::read` does.
-fn fetch(input: &mut [u8], left: u64) -> isize {
-    let n = least(input.len(), left);
-    libc::read(libc::STDIN_FILENO, &mut input[..n])
+// Reads once, at most `left` bytes. It asks for at least one byte, so that none is the end of the input.
+fn fetch(input: &mut [u8], left: u64) -> Fetched
+    requires { ⌜ 0 < length (now input) ⌝ }
+    requires { ⌜ 0 < left ⌝ }
+    ensures { λ r. ⌜ Fetches (length (now (input .entry))) left r ⌝ }
+{
+    let most = least(input.len(), left);
+    let got = libc::read(libc::STDIN_FILENO, &mut input[..most]);
+    if got < 0 {
+        return Fetched::Failed;
+    }
+    Fetched::Bytes(least(io::count(got, input), left))
 }
 
 // Lists all of a chunk and writes what it gives. With room for a line each call takes a byte, so the loop ends.
 fn pump(s: Listing, chunk: &[u8], out: &mut [u8]) -> Pumped
     requires { ⌜ lineRoom ≤ length (now out) ⌝ }
+    ensures { λ r. ⌜ Pumps s (now (chunk .entry)) r ⌝ }
 {
     let mut state = s;
-    let mut i: usize = 0;
-    while i < chunk.len() {
-        let r = trace::list(state, &chunk[i..], out);
-        let taken = r.taken;
-        let wrote = r.wrote;
+    let mut wrote: u64 = 0;
+    let mut taken: usize = 0;
+    while taken < chunk.len() {
+        let r = trace::list(state, &chunk[taken..], out);
+        let len = r.wrote;
         state = r.next;
-        if !io::write_all(libc::STDOUT_FILENO, &out[..wrote]) {
+        taken = taken + r.taken;
+        let sent = send(&out[..len]);
+        wrote = std::num::wrapping_add_u64(wrote, sent.len);
+        if !sent.whole {
             return Pumped {
-                is_written: false,
+                taken,
+                wrote,
+                whole: sent.whole,
                 next: state,
             };
         }
-        i = i + taken;
     }
     Pumped {
-        is_written: true,
+        taken,
+        wrote,
+        whole: true,
         next: state,
     }
 }
 
-fn finish(s: Listing, out: &mut [u8]) {
-    let wrote = trace::finish(s, out);
-    if !io::write_all(libc::STDOUT_FILENO, &out[..wrote]) {
-        write_failed();
+// Ends the program: the last text, and why it is the last.
+fn close(s: Listing, stop: Stop, read: u64, wrote: u64, out: &mut [u8]) -> Ran
+    requires { ⌜ lastRoom ≤ length (now out) ⌝ }
+    ensures { λ r. ⌜ Closes s stop read wrote (now (out .entry)) (now (out .exit)) r ⌝ }
+{
+    let sent = finish(s, out);
+    if !sent.whole {
+        let failed = Stop::LastWrite(sent.whole);
+        return Ran {
+            stop: failed,
+            read,
+            wrote,
+        };
     }
+    Ran {
+        stop,
+        read,
+        wrote: std::num::wrapping_add_u64(wrote, sent.len),
+    }
+}
+
+fn finish(s: Listing, out: &mut [u8]) -> Sent
+    requires { ⌜ lastRoom ≤ length (now out) ⌝ }
+    ensures { λ r. ⌜ Finishes s (now (out .entry)) (now (out .exit)) r ⌝ }
+{
+    let written = trace::finish(s, out);
+    match written {
+        Written::Length(n) => send(&out[..n]),
+        Written::Refused(_) => Sent {
+            len: 0,
+            whole: false,
+        },
+    }
+}
+
+fn send(text: &[u8]) -> Sent
+    ensures { λ r. ⌜ r .len ≡ length (now (text .entry)) ⌝ }
+{
+    let whole = io::write_all(libc::STDOUT_FILENO, text);
+    let len = text.len() as u64;
+    Sent { len, whole }
 }
 
 fn least(n: usize, left: u64) -> usize
@@ -92,12 +191,4 @@ fn least(n: usize, left: u64) -> usize
     ensures { λ r. ⌜ r ≤ left ⌝ }
 {
     if n as u64 <= left { n } else { left as usize }
-}
-
-fn read_failed() {
-    os::fail(b"standard input");
-}
-
-fn write_failed() {
-    os::fail(b"standard output");
 }

@@ -1,15 +1,17 @@
 -- The laws of texts put into an output one after the other.
-use mathlib.Core.Path.{_≡_, refl, sym, ap, _∙_}
+use mathlib.Core.Path.{_≡_, refl, sym, ap, _∙_, subst}
 use mathlib.Core.List.{List, [], _∷_, _++_}
 use Prim.Native.Nat.{ℕ, _+_, _≤_, _<_}
 use native.Mathlib.Nat.{add-zero, add-assoc}
 use native.Mathlib.Numerals.{add-one}
 use native.Mathlib.Omega.{arith}
 use lib.ListN.{length, take, drop, set, getD, length-append}
-use lib.Seq.{length-take-le, take-suc, take-all}
+use lib.Seq.{length-take-le, take-suc, take-all, take-at}
 use Rattle.lists.specs.Splice.{splice}
 use Rattle.lists.proofs.Splices.{splice-nil, splice-splice, length-splice, set-splice, set2-splice}
-use Rattle.text.specs.Writing.{Wrote, lineRoom, Puts}
+use Rattle.answer.specs.Answer.{Answer, result}
+use Rattle.answer.proofs.Drafts.{Writes, writes-done}
+use Rattle.text.specs.Writing.{Wrote}
 
 -- Nothing, one byte, two bytes.
 pub wrote-nothing : (out : List ℕ) (at : ℕ) → Wrote out at [] out at
@@ -76,11 +78,19 @@ pub copy-all : (s out₀ : List ℕ) (at i : ℕ) (out : List ℕ) → length s 
     → Wrote out₀ at s out (at + i)
 copy-all s out₀ at i out h p = wrote-as (take-all i s h) p
 
--- ---- a line that is written only where there is room for any
+-- ---- writers
 
-pub puts-short : (out : List ℕ) (at : ℕ) (w : List ℕ) → length out < at + lineRoom → Puts out at w out at
-puts-short out at w h = record { written = λ g. absurd (omega arith); short = λ g. (refl, refl) }
+-- A text that was put at the front of the output, and one that was put at the front of another list first.
+pub wrote-here : {out w out′ : List ℕ} {e : ℕ} → Wrote out 0 w out′ e → e ≤ length out
+    → Writes (result w) out (result e) out′
+wrote-here {out} {w} {out′} {e} p h =
+    let n : length w ≡ e = sym (wrote-first p .0) in
+    subst (λ (k : ℕ). Writes (result w) out (result k) out′) n
+    (writes-done (result w) w out out′ refl (omega arith) (p .is))
 
-pub puts-done : {out : List ℕ} {at : ℕ} {w out′ : List ℕ} {e : ℕ} → at + lineRoom ≤ length out → Wrote out at w out′ e
-    → e ≤ at + lineRoom → Puts out at w out′ e
-puts-done h p k = record { written = λ g. (p, k); short = λ g. absurd (omega arith) }
+pub wrote-copy : {line w line′ : List ℕ} {e : ℕ} (out out′ : List ℕ) (a : Answer ℕ) → Wrote line 0 w line′ e
+    → Writes (result (take e line′)) out a out′ → Writes (result w) out a out′
+wrote-copy {line} {w} {line′} {e} out out′ a p q =
+    let f : (e ≡ length w) × (line′ ≡ w ++ drop e line) = wrote-first p in
+    let t : take e line′ ≡ w = ap (take e) (f .1) ∙ take-at w (drop e line) e (sym (f .0)) in
+    subst (λ (v : List ℕ). Writes (result v) out a out′) t q

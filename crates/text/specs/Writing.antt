@@ -1,7 +1,7 @@
 -- A text put into an output at an index.
 use mathlib.Core.Path.{_≡_}
 use mathlib.Core.List.{List}
-use Prim.Native.Nat.{ℕ, _+_, _≤_, _<_}
+use Prim.Native.Nat.{ℕ, _+_}
 use lib.ListN.{length}
 use Rattle.lists.specs.Splice.{splice}
 
@@ -13,9 +13,3 @@ pub record Wrote (out : List ℕ) (at : ℕ) (w out′ : List ℕ) (end : ℕ) :
 -- The room in which every line fits, the totals as well.
 abbrev pub lineRoom : ℕ
 lineRoom = 96
-
--- What a public function that writes a line does: it writes where there is room for any line, and else leaves the
--- output as it is.
-pub record Puts (out : List ℕ) (at : ℕ) (w out′ : List ℕ) (end : ℕ) : Type 0 where
-  pub written : at + lineRoom ≤ length out → Wrote out at w out′ end × (end ≤ at + lineRoom)
-  pub short : length out < at + lineRoom → (out′ ≡ out) × (end ≡ at)

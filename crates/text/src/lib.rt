@@ -3,20 +3,23 @@
 mod digits;
 
 use answer::Refusal;
+use answer::Written;
 use line::Told;
 ghost use mathlib.Core.Path.{_≡_};
 ghost use Prim.Native.Nat.{_+_, _≤_};
 ghost use lib.ListN.{length};
+ghost use Rattle.answer.specs.Answer.{result};
+ghost use Rattle.answer.specs.Draft.{draftAnswer, draftOut, writtenMeans};
 ghost use Rattle.answer.specs.Refusals.{numberOf};
 ghost use Rattle.command.specs.Stop.{stopsWorkout};
 ghost use Rattle.line.specs.Outcome.{toldMeans, outcomeOf};
 ghost use Rattle.text.specs.Digits.{hex};
 ghost use Rattle.text.specs.Lines.{field, hexField, stopText, head, callLine, totals, refusedBody, standardBody};
 ghost use Rattle.text.specs.Lines.{extendedBody};
-ghost use Rattle.text.specs.Writing.{Wrote, lineRoom, Puts};
+ghost use Rattle.text.specs.Writing.{Wrote, lineRoom};
 ghost use Rattle.text.specs.Private.{headRoom, bodyRoom};
 
-// The room that any line fits in. A line is written only where there is so much, so no line has to be measured first.
+// The room that any line fits in.
 pub const LINE_ROOM: usize = 96;
 
 // The two upper-case hexadecimal digits of a byte.
@@ -26,33 +29,48 @@ pub fn hex_digits(b: u8) -> [u8; 2]
     [digits::hex_digit(b / 16), digits::hex_digit(b % 16)]
 }
 
-// Writes the line of an answer, the n-th, at an index, and answers the index after it. The contents are the first bytes
-// of a slice, as many as the answer says. Without the room it writes nothing.
-pub fn put_answer(told: Told, contents: &[u8], n: u64, out: &mut [u8], at: usize) -> usize
-    ensures { λ r.
-        ⌜ Puts (now (out .entry)) at (callLine n (outcomeOf (toldMeans told) (now (contents .entry))))
-        (now (out .exit)) r ⌝ }
+// Writes the line of an answer, the n-th, or nothing where it is none. The contents are the first bytes of a slice, as
+// many as the answer says. Refusal 1. A line that could be too long for the output is made in an array first.
+pub fn write_answer(told: Told, contents: &[u8], n: u64, out: &mut [u8]) -> Written
+    ensures { λ r. ⌜ writtenMeans r
+        ≡ draftAnswer (result (callLine n (outcomeOf (toldMeans told) (now (contents .entry)))))
+        (length (now (out .entry))) ⌝ }
+    ensures { λ r. ⌜ now (out .exit)
+        ≡ draftOut (result (callLine n (outcomeOf (toldMeans told) (now (contents .entry))))) (now (out .entry)) ⌝ }
+    ensures { λ r. ⌜ length (callLine n (outcomeOf (toldMeans told) (now (contents .entry)))) ≤ lineRoom ⌝ }
 {
     if out.len() < LINE_ROOM {
-        return at;
+        let mut line = [0u8; LINE_ROOM];
+        let len = put_told(told, contents, n, &mut line, 0);
+        return write_bytes(&line[..len], out);
     }
-    if out.len() - LINE_ROOM < at {
-        return at;
-    }
-    put_told(told, contents, n, out, at)
+    Written::Length(put_told(told, contents, n, out, 0))
 }
 
-// Writes the totals at an index where there is room for any line, and else nothing.
-pub fn put_totals(frames: u64, refusals: u64, strays: u64, out: &mut [u8], at: usize) -> usize
-    ensures { λ r. ⌜ Puts (now (out .entry)) at (totals frames refusals strays) (now (out .exit)) r ⌝ }
+// Writes the totals. Refusal 1.
+pub fn write_totals(frames: u64, refusals: u64, strays: u64, out: &mut [u8]) -> Written
+    ensures { λ r. ⌜ writtenMeans r
+        ≡ draftAnswer (result (totals frames refusals strays)) (length (now (out .entry))) ⌝ }
+    ensures { λ r. ⌜ now (out .exit) ≡ draftOut (result (totals frames refusals strays)) (now (out .entry)) ⌝ }
+    ensures { λ r. ⌜ length (totals frames refusals strays) ≤ lineRoom ⌝ }
 {
     if out.len() < LINE_ROOM {
-        return at;
+        let mut line = [0u8; LINE_ROOM];
+        let len = put_counts(frames, refusals, strays, &mut line, 0);
+        return write_bytes(&line[..len], out);
     }
-    if out.len() - LINE_ROOM < at {
-        return at;
+    Written::Length(put_counts(frames, refusals, strays, out, 0))
+}
+
+// Writes bytes that stand elsewhere. Refusal 1.
+pub fn write_bytes(s: &[u8], out: &mut [u8]) -> Written
+    ensures { λ r. ⌜ writtenMeans r ≡ draftAnswer (result (now (s .entry))) (length (now (out .entry))) ⌝ }
+    ensures { λ r. ⌜ now (out .exit) ≡ draftOut (result (now (s .entry))) (now (out .entry)) ⌝ }
+{
+    if out.len() < s.len() {
+        return Written::Refused(Refusal::NoRoom);
     }
-    put_counts(frames, refusals, strays, out, at)
+    Written::Length(put_bytes(s, out, 0))
 }
 
 fn put_told(told: Told, contents: &[u8], n: u64, out: &mut [u8], at: usize) -> usize

@@ -1,17 +1,23 @@
 -- The listing of the functions themselves: any run of calls, known by nothing but what the contracts tell a caller,
 -- writes the text of the trace.
-use mathlib.Core.Path.{_≡_, refl, subst}
+use mathlib.Core.Path.{_≡_, refl, sym, _∙_, subst}
 use mathlib.Core.List.{List, [], _++_}
 use Prim.Native.Nat.{ℕ, _≤_, _<_}
 use lib.ListN.{length, take, drop}
 use contract.Lifetimes.{Lfts}
 use denote.Ref.{RefT}
+use Rattle.answer.specs.Answer.{result, refused}
+use Rattle.answer.specs.Draft.{writtenMeans}
+use Rattle.answer.specs.declared.Written.{Written}
+use Rattle.answer.proofs.Drafts.{writes-no-room}
+use native.Mathlib.Omega.{arith}
 use Rattle.text.specs.Text.{text}
 use Rattle.text.specs.Writing.{lineRoom}
-use Rattle.trace.specs.Machine.{lastRoom}
+use Rattle.trace.specs.Machine.{lastRoom, lastText}
 use Rattle.trace.specs.Cutting.{Calls, ended, call, longest}
 use Rattle.trace.specs.declared.Listing.{Listing}
 use Rattle.trace.specs.declared.Listed.{Listed}
+use Rattle.trace.proofs.AnswerLaws.{room-answers, no-room-exactly}
 use Rattle.trace.proofs.Cuttings.{writes-text, takes-some}
 use Rattle.trace.proofs.new.Reads as new-reads
 use Rattle.trace.proofs.list.Reads as list-reads
@@ -31,13 +37,13 @@ ran : {s s′ : Listing} {bytes written : List ℕ} → ListCalls s bytes writte
 ran ended-lent = ended
 ran (listed κs chunk chunk′ out out′ rest r l t) = call (chunk .now) rest (out .now) (out′ .now) r l (ran t)
 
--- `new`, calls of `list` over the whole trace, and a `finish` with room.
+-- `new`, calls of `list` over the whole trace, and a `finish` that answered a length.
 pub calls-write-text : (trace : List ℕ) → length trace ≤ longest → (s : Listing) → new-reads.Learnt tt tt s tt
     → (s′ : Listing) (before : List ℕ) → ListCalls s trace before s′
-    → (κs : Lfts 1) (out out′ : RefT (List ℕ)) (wrote : ℕ) → lastRoom ≤ length (out .now)
-    → finish-reads.Learnt κs (s′, (out, tt)) wrote (s′, (out′, tt))
-    → before ++ take wrote (out′ .now) ≡ text trace
-calls-write-text trace h s n s′ before t κs out out′ wrote room e =
+    → (κs : Lfts 1) (out out′ : RefT (List ℕ)) (r : Written)
+    → finish-reads.Learnt κs (s′, (out, tt)) r (s′, (out′, tt))
+    → (wrote : ℕ) → writtenMeans r ≡ result wrote → before ++ take wrote (out′ .now) ≡ text trace
+calls-write-text trace h s n s′ before t κs out out′ r e wrote a =
     writes-text trace (before ++ take wrote (out′ .now)) h (record {
       state = s′;
       before = before;
@@ -45,10 +51,31 @@ calls-write-text trace h s n s′ before t κs out out′ wrote room e =
       out = out .now;
       out′ = out′ .now;
       wrote = wrote;
-      room = room;
-      ends = e;
+      answered = sym (e .0) ∙ a;
+      left = e .1 .0;
       all = refl;
     })
+
+module _ (s : Listing) (κs : Lfts 1) (out out′ : RefT (List ℕ)) (r : Written)
+    (e : finish-reads.Learnt κs (s, (out, tt)) r (s, (out′, tt))) where
+  -- A `finish` with room for two lines answers a length.
+  pub finish-answers : lastRoom ≤ length (out .now) → (wrote : ℕ) × (writtenMeans r ≡ result wrote)
+  finish-answers room = (
+    length (lastText s),
+    room-answers (lastText s) (length (out .now)) (writtenMeans r) (omega (arith, e .1 .1)) (e .0),
+  )
+
+  -- It answers 1 exactly where the output is shorter than its text, and then leaves the output as it is.
+  pub finish-refuses : (writtenMeans r ≡ refused 1 → length (out .now) < length (lastText s))
+      × (length (out .now) < length (lastText s) → (writtenMeans r ≡ refused 1) × (out′ .now ≡ out .now))
+  finish-refuses =
+      let x = no-room-exactly (lastText s) (length (out .now)) in (
+        λ a. x .0 (sym (e .0) ∙ a),
+        λ h. (
+          e .0 ∙ x .1 h,
+          e .1 .0 ∙ sym (writes-no-room (result (lastText s)) (lastText s) (out .now) refl h .1),
+        ),
+      )
 
 -- A call of `list` with a byte to take and room for any line takes a byte.
 pub call-takes-some : (s : Listing) (κs : Lfts 2) (chunk chunk′ out out′ : RefT (List ℕ)) (r : Listed)

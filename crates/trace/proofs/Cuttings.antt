@@ -11,6 +11,8 @@ use borrow.Author.Tests.{le-ltb}
 use Rattle.lists.specs.Choice.{pick}
 use Rattle.framing.specs.Reference.{finish, Reference}
 use Rattle.framing.specs.Demand3.{feed}
+use Rattle.answer.specs.Answer.{Answer, result}
+use Rattle.answer.proofs.Drafts.{written-first}
 use Rattle.line.specs.Outcome.{Outcome, answersIn}
 use Rattle.line.specs.Rowing.{rowing}
 use Rattle.line.proofs.Follows.{reader-follows}
@@ -67,21 +69,24 @@ from-zero os bytes =
     let z : 0 + strays false bytes ≡ strays false bytes = omega arith in
     rw (x, y, z)
 
-new-text : (trace : List ℕ) → length trace ≤ longest
+-- the lines of a trace, and the last text after it, are its text
+pub new-text : (trace : List ℕ) → length trace ≤ longest
     → texts newListing trace ++ lastText (listingAfter newListing trace) ≡ text trace
 new-text trace h =
     all-text newListing trace (omega arith) (omega arith)
     ∙ ap (λ (os : List Outcome). Rest 0 0 0 false os trace) (reader-follows .same (feed trace ++ finish ∷ []))
     ∙ from-zero (Reference rowing (feed trace ++ finish ∷ [])) trace
 
+same-result : (v w : List ℕ) → _≡_ {A = Answer (List ℕ)} (result v) (result w) → v ≡ w
+same-result v w e = cc
+
 pub writes-text : WritesText
 writes-text trace written h s =
     let k : (s .before ≡ texts newListing trace) × (s .state ≡ listingAfter newListing trace) =
     calls-texts (s .calls) in
-    let e : (s .wrote ≡ length (lastText (s .state))) × (s .out′ ≡ lastText (s .state) ++ drop (s .wrote) (s .out)) =
-    s .ends .whole (s .room) in
-    let l : take (s .wrote) (s .out′) ≡ lastText (s .state) =
-    ap (take (s .wrote)) (e .1) ∙ take-at (lastText (s .state)) (drop (s .wrote) (s .out)) (s .wrote) (sym (e .0)) in
+    let f = written-first (result (lastText (s .state))) (s .out) (s .wrote) (s .answered) in
+    let same : lastText (s .state) ≡ f .0 = same-result (lastText (s .state)) (f .0) (f .1) in
+    let l : take (s .wrote) (s .out′) ≡ lastText (s .state) = ap (take (s .wrote)) (s .left) ∙ f .3 ∙ sym same in
     s .all
     ∙ ap (λ (x : List ℕ). x ++ take (s .wrote) (s .out′)) (k .0)
     ∙ ap (λ (x : List ℕ). texts newListing trace ++ x) (l ∙ ap lastText (k .1))

@@ -3,9 +3,11 @@ use mathlib.Core.Path.{_≡_}
 use mathlib.Core.List.{List, [], _++_}
 use Prim.Native.Nat.{ℕ, _≤_, _<_}
 use lib.ListN.{length, take, drop}
+use Rattle.answer.specs.Answer.{result}
+use Rattle.answer.specs.Draft.{draftAnswer, draftOut}
 use Rattle.text.specs.Text.{text}
 use Rattle.text.specs.Writing.{lineRoom}
-use Rattle.trace.specs.Machine.{newListing, lastRoom, Lists, Ends}
+use Rattle.trace.specs.Machine.{newListing, lastText, Lists}
 use Rattle.trace.specs.declared.Listing.{Listing}
 use Rattle.trace.specs.declared.Listed.{Listed}
 
@@ -18,7 +20,7 @@ pub data Calls : Listing → (bytes written : List ℕ) → Listing → Type 0 w
       → Calls (r .next) (drop (r .taken) chunk ++ rest) written s′
       → Calls s (chunk ++ rest) (take (r .wrote) out′ ++ written) s′
 
--- A whole listing: calls from a new state over the whole trace, and a finish with room.
+-- A whole listing: calls from a new state over the whole trace, and a finish that answered a length.
 pub record Session (trace written : List ℕ) : Type 0 where
   pub state : Listing
   pub before : List ℕ
@@ -26,8 +28,8 @@ pub record Session (trace written : List ℕ) : Type 0 where
   pub out : List ℕ
   pub out′ : List ℕ
   pub wrote : ℕ
-  pub room : lastRoom ≤ length out
-  pub ends : Ends state out out′ wrote
+  pub answered : draftAnswer (result (lastText state)) (length out) ≡ result wrote
+  pub left : out′ ≡ draftOut (result (lastText state)) out
   pub all : written ≡ before ++ take wrote out′
 
 -- The most bytes of a trace.

@@ -2,7 +2,7 @@
 use mathlib.Core.Path.{_≡_}
 use mathlib.Core.Bool.{Bool, true, false}
 use mathlib.Core.List.{List, [], _∷_, _++_}
-use Prim.Native.Nat.{ℕ, _+_, _-_, _*_, _%_, _^_, _<_, _≤_}
+use Prim.Native.Nat.{ℕ, _+_, _-_, _*_, _%_, _^_, _≤_}
 use lib.ListN.{length, take, drop}
 use lib.Dec.{ltb}
 use Rattle.lists.specs.Choice.{pick}
@@ -81,7 +81,7 @@ pub record Lists (s : Listing) (chunk out out′ : List ℕ) (r : Listed) : Type
 abbrev pub lastRoom : ℕ
 lastRoom = 2 * lineRoom
 
--- The text after the last byte.
+-- The text after the last byte, which the finish writes.
 unfoldable pub lastText : Listing → List ℕ
 lastText s =
     callLine (numberAfter (s .frames) (s .refusals)) (finishOf (s .reader) .answer)
@@ -89,9 +89,3 @@ lastText s =
     (add64 (s .frames) (frameOne (finishOf (s .reader) .answer)))
     (add64 (s .refusals) (refusedOne (finishOf (s .reader) .answer)))
     (s .strays)
-
--- The finish: all of that text, or nothing where the output is too short.
-pub record Ends (s : Listing) (out out′ : List ℕ) (wrote : ℕ) : Type 0 where
-  pub short : length out < lastRoom → (wrote ≡ 0) × (out′ ≡ out)
-  pub whole : lastRoom ≤ length out → (wrote ≡ length (lastText s)) × (out′ ≡ lastText s ++ drop wrote out)
-  pub fits : wrote ≤ length out

@@ -14,7 +14,7 @@ use Rattle.trace.specs.declared.Advanced.{Advanced}
 use Rattle.trace.specs.declared.Listed.{Listed}
 use Rattle.trace.specs.declared.Tally.{Tally}
 use Rattle.frame.specs.Flags.{isStart}
-use Rattle.answer.specs.Answer.{result, refused}
+use Rattle.answer.specs.Answer.{Answer, result, refused}
 use Rattle.frame.specs.Answers.{standardOutline, extendedOutline}
 use Rattle.line.specs.Outcome.{Summary, silent, tells}
 
@@ -25,6 +25,11 @@ listing bytes t =
 
 abbrev pub listedOf : (taken wrote : ℕ) → Listing → Listed
 listedOf taken wrote s = record { taken = taken; wrote = wrote; next = s }
+
+-- How many bytes a writer wrote.
+abbrev pub lengthOf : Answer ℕ → ℕ
+lengthOf (result n) = n
+lengthOf (refused number) = 0
 
 -- From the state s₀ on, the bytes before the index i are taken, which leaves the state s, and their lines stand before
 -- the index at.

@@ -1,5 +1,6 @@
 // The listing of a trace: a line for each answer of the line reader, then the totals (document 01, "Listing").
 // The state is a value. A call takes a chunk of the trace and a lent output, and writes whole lines into it.
+use answer::Written;
 use frame::flags;
 use line::LineReader;
 use line::Mode;
@@ -8,10 +9,13 @@ use line::Told;
 ghost use mathlib.Core.Path.{_≡_};
 ghost use Prim.Native.Nat.{_+_, _≤_};
 ghost use lib.ListN.{length};
+ghost use Rattle.answer.specs.Answer.{result};
+ghost use Rattle.answer.specs.Draft.{draftAnswer, draftOut, writtenMeans};
 ghost use Rattle.line.specs.Outcome.{toldMeans};
-ghost use Rattle.text.specs.Writing.{lineRoom};
+ghost use Rattle.text.specs.Writing.{Wrote, lineRoom};
 ghost use Rattle.trace.specs.Private.{strayCount, Advances, listing, listedOf, frameCount, refusedCount};
-ghost use Rattle.trace.specs.Machine.{isOpen, newListing, numberAfter, Lists, Ends};
+ghost use Rattle.trace.specs.Private.{lengthOf};
+ghost use Rattle.trace.specs.Machine.{isOpen, newListing, numberAfter, Lists, lastText, lastRoom};
 
 // The room that the line of the finish and the totals fit in.
 const LAST_ROOM: usize = 2 * text::LINE_ROOM;
@@ -85,14 +89,23 @@ pub fn list(s: Listing, chunk: &[u8], out: &mut [u8]) -> Listed
     listed_of(i, at, bytes, tally)
 }
 
-// Ends the trace: writes the line of a candidate that is open, and the totals, and answers how many bytes it wrote. It
-// writes nothing where the output is shorter than the room for both.
-pub fn finish(s: Listing, out: &mut [u8]) -> usize
-    ensures { λ r. ⌜ Ends s (now (out .entry)) (now (out .exit)) r ⌝ }
+// Ends the trace: writes the line of a candidate that is open, and the totals. Refusal 1. The text is made in an array
+// first, because its length is known only then.
+pub fn finish(s: Listing, out: &mut [u8]) -> Written
+    ensures { λ r. ⌜ writtenMeans r ≡ draftAnswer (result (lastText s)) (length (now (out .entry))) ⌝ }
+    ensures { λ r. ⌜ now (out .exit) ≡ draftOut (result (lastText s)) (now (out .entry)) ⌝ }
+    ensures { λ r. ⌜ length (lastText s) ≤ lastRoom ⌝ }
 {
-    if out.len() < LAST_ROOM {
-        return 0;
-    }
+    let mut last = [0u8; LAST_ROOM];
+    let len = put_last(s, &mut last);
+    text::write_bytes(&last[..len], out)
+}
+
+fn put_last(s: Listing, out: &mut [u8]) -> usize
+    requires { ⌜ lastRoom ≤ length (now out) ⌝ }
+    ensures { λ r. ⌜ Wrote (now (out .entry)) 0 (lastText s) (now (out .exit)) r ⌝ }
+    ensures { λ r. ⌜ r ≤ lastRoom ⌝ }
+{
     let frames = s.frames;
     let refusals = s.refusals;
     let reader = s.reader;
@@ -100,10 +113,20 @@ pub fn finish(s: Listing, out: &mut [u8]) -> usize
     let state = reader.state;
     let step = line::finish_in(state);
     let told = step.told;
-    let at = text::put_answer(told, &bytes, next_number(frames, refusals), out, 0);
+    let at = length_of(text::write_answer(told, &bytes, next_number(frames, refusals), out));
     let all_frames = std::num::wrapping_add_u64(frames, frame_count(told));
     let all_refusals = std::num::wrapping_add_u64(refusals, refused_count(told));
-    text::put_totals(all_frames, all_refusals, s.strays, out, at)
+    at + length_of(text::write_totals(all_frames, all_refusals, s.strays, &mut out[at..]))
+}
+
+// How many bytes were written.
+fn length_of(written: Written) -> usize
+    ensures { λ r. ⌜ r ≡ lengthOf (writtenMeans written) ⌝ }
+{
+    match written {
+        Written::Length(n) => n,
+        Written::Refused(_) => 0,
+    }
 }
 
 fn listed_of(taken: usize, wrote: usize, bytes: [u8; 118], t: Tally) -> Listed
@@ -138,10 +161,15 @@ fn advance(bytes: &mut [u8; 118], t: Tally, rest: &[u8], out: &mut [u8], at: usi
     let told = fed.told;
     let state = fed.state;
     let strays = stray_count(mode, &rest[..taken]);
-    let end = text::put_answer(told, bytes, next_number(frames, refusals), out, at);
+    let len = length_of(text::write_answer(
+        told,
+        bytes,
+        next_number(frames, refusals),
+        &mut out[at..],
+    ));
     Advanced {
         taken,
-        at: end,
+        at: at + len,
         tally: Tally {
             state,
             frames: std::num::wrapping_add_u64(frames, frame_count(told)),

@@ -24,6 +24,18 @@ same-length c = search needs
 returns : tie.Need-returns
 returns c = search needs
 
+count-requires : tie.Need-count-requires
+count-requires c κs = search needs
+
+least-requires-2 : tie.Need-least-requires-2
+least-requires-2 c κs = search needs
+
+same-length-2 : tie.Need-same-length-2
+same-length-2 c = search needs
+
+returns-2 : tie.Need-returns-2
+returns-2 c = search needs
+
 pub fetch-spec : {M : Type 1} → statement M
 fetch-spec =
     tie.close
@@ -33,4 +45,8 @@ fetch-spec =
     slice-aggregate-read
     read-requires
     same-length
-    returns)
+    returns
+    count-requires
+    least-requires-2
+    same-length-2
+    returns-2)

@@ -1,7 +1,15 @@
+use Prim.Native.Nat.{_+_, _-_}
+use lib.ListN.{length}
+use borrow.Rule.Slice.PartMut.{putMid}
+use Rattle.answer.specs.Draft.{writtenMeans}
+use Rattle.line.specs.Outcome.{toldMeans, outcomeOf}
+use Rattle.text.specs.Lines.{callLine}
+use Rattle.text.specs.Writing.{Wrote}
 use mathlib.Core.Path.{sym}
 use native.Mathlib.Omega.{arith}
 use lib.Seq.{length-take-le}
 use Rattle.trace.proofs.FeedLaws.{CountsFit, fed-fits, advances}
+use Rattle.trace.proofs.AnswerLaws.{part-wrote}
 use Rattle.trace.specs.Private.{listing}
 use borrow.Author.Needs.{needs}
 use Rattle.trace.proofs.advance.Statement.{statement}
@@ -27,8 +35,55 @@ stray-count-requires c κs = search needs
 next-number-requires : tie.Need-next-number-requires
 next-number-requires c κs = search needs
 
-put-answer-requires : tie.Need-put-answer-requires
-put-answer-requires c κs = search needs
+sub-write-answer : tie.Need-sub-write-answer
+sub-write-answer c = search needs
+
+part-write-answer-start : tie.Need-part-write-answer-start
+part-write-answer-start c = search needs
+
+part-write-answer-end : tie.Need-part-write-answer-end
+part-write-answer-end c = search needs
+
+write-answer-requires : tie.Need-write-answer-requires
+write-answer-requires c κs = search needs
+
+length-of-requires : tie.Need-length-of-requires
+length-of-requires c κs = search needs
+
+-- the line of the answer
+line : (c : tie.After-length-of)
+    → Wrote (c .before .before .before .before .before .before .before .before .before .before .before .before .before
+    .before .before .before .args .out .now) (c .before .before .before .before .before .before .before .before
+    .before .before .before .before .before .before .before .before .args .at)
+    (callLine (c .before .before .before .before .before .next-number .result)
+    (outcomeOf (toldMeans (c .before .before .before .before .before .before .before .before .before .before .before
+    .feed-in .result .told)) (c .before .before .before .before .before .before .before .before .before .before
+    .before .feed-in .last .0)))
+    (putMid (c .before .before .before .before .before .before .before .before .before .before .before .before .before
+    .before .before .before .args .at) (length (c .before .before .before .before .before .before .before .before
+    .before .before .before .before .before .before .before .before .args .out .now) - c .before .before .before
+    .before .before .before .before .before .before .before .before .before .before .before .before .before .args .at)
+    (c .before .before .before .before .before .before .before .before .before .before .before .before .before .before
+    .before .before .args .out .now)
+    (c .before .before .before .write-answer .last .1 .1 .1 .0)) (c .before .before .before .before .before .before
+    .before .before .before .before .before .before .before .before .before .before .args .at + c .length-of .result)
+line c =
+    let w = c .before .before .before .write-answer in
+    let start = c .before .before .before .before .before .before .before .before .before .before .before .before
+    .before .before .before .before in
+    part-wrote _ (start .args .out .now) (w .last .1 .1 .1 .0) (writtenMeans (w .result)) (start .args .at)
+    (c .length-of .result) (omega (arith, w .ensures .1 .1, start .pre)) (w .ensures .0, w .ensures .1 .0)
+    (c .length-of .ensures)
+
+add-t24 : tie.Need-add-t24
+add-t24 c = omega (
+  arith,
+  line c .ends,
+  c .before .before .before .write-answer .ensures .1 .1,
+  c .before .before
+      .before .before .before .before .before .before .before .before .before .before .before .before .before .before
+      .pre,
+)
 
 frame-count-requires : tie.Need-frame-count-requires
 frame-count-requires c κs = search needs
@@ -50,12 +105,11 @@ same-length c = search needs
 
 returns : tie.Need-returns
 returns c =
-    let p = c .before .before .before .before .before .before .before in
-    let n = p .before .before in
+    let p = c .before .before .before .before .before in
+    let n = p .before .before .before .before .before in
     let sc = n .before .before .before in
     let f = sc .before .before .before in
     let start = f .before .before .before .before .before in
-    let w = p .put-answer .ensures .written (start .pre) in
     advances (start .args .bytes .now) (start .args .t) (start .args .rest .now) (f .feed-in .last .0)
     (f .feed-in .result) (f .feed-in .ensures) (counted start) (n .next-number .result)
     (c .before .before .before .wrapping-add-u64 .result) (c .before .wrapping-add-u642 .result)
@@ -64,7 +118,8 @@ returns c =
     (sc .stray-count .result) (n .next-number .ensures) (c .before .before .before .wrapping-add-u64 .ensures)
     (c .before .before .before .before .frame-count .ensures) (c .before .wrapping-add-u642 .ensures)
     (c .before .before .refused-count .ensures)
-    (c .wrapping-add-u643 .ensures) (sc .stray-count .ensures) (w .0) (w .1)
+    (c .wrapping-add-u643 .ensures) (sc .stray-count .ensures) (line p)
+    (omega (arith, line p .ends, p .before .before .before .write-answer .ensures .1 .1))
 
 pub advance-spec : {M : Type 1} → statement M
 advance-spec =
@@ -74,7 +129,12 @@ advance-spec =
     slice-aggregate-stray-count
     stray-count-requires
     next-number-requires
-    put-answer-requires
+    sub-write-answer
+    part-write-answer-start
+    part-write-answer-end
+    write-answer-requires
+    length-of-requires
+    add-t24
     frame-count-requires
     wrapping-add-u64-requires
     refused-count-requires
