@@ -42,6 +42,21 @@ pub(crate) fn groups(s: &[u8]) -> usize {
     n
 }
 
+// One of them, without the space after the stroke.
+pub(crate) fn group(s: &[u8], k: usize) -> &[u8] {
+    unspaced(upto(after(s, b'/', k), b'/'))
+}
+
+fn unspaced(s: &[u8]) -> &[u8] {
+    if s.len() == 0 {
+        return s;
+    }
+    if s[0] == b' ' {
+        return &s[1..];
+    }
+    s
+}
+
 // How many bytes are not 0.
 pub(crate) fn nonzero(s: &[u8]) -> usize {
     let mut n = 0;
@@ -61,21 +76,6 @@ fn counted(n: usize, is_one: bool) -> usize {
     n
 }
 
-// One of them, without the space after the stroke.
-pub(crate) fn group(s: &[u8], k: usize) -> &[u8] {
-    unspaced(upto(after(s, b'/', k), b'/'))
-}
-
-fn unspaced(s: &[u8]) -> &[u8] {
-    if s.len() == 0 {
-        return s;
-    }
-    if s[0] == b' ' {
-        return &s[1..];
-    }
-    s
-}
-
 // The index of a word among so many that a space parts, or how many they are.
 pub(crate) fn index_among(all: &[u8], count: usize, word: &[u8]) -> usize {
     let mut k = 0;
@@ -87,6 +87,7 @@ pub(crate) fn index_among(all: &[u8], count: usize, word: &[u8]) -> usize {
     }
     k
 }
+
 // Puts bytes, two digits each and one character between two of them, first in `out`, and answers how many there are.
 pub(crate) fn bytes(s: &[u8], out: &mut [u8]) -> usize {
     let mut n = 0;
