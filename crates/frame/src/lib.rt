@@ -4,6 +4,7 @@ pub mod address;
 mod bytes;
 mod candidate;
 pub mod flags;
+mod plain;
 mod stuffing;
 
 use answer::Refusal;
@@ -227,7 +228,7 @@ fn judge_whole(kind: Kind, s: &mut [u8]) -> Read
     ensures { λ r. ⌜ readMeans r ≡ judgeAnswer (verdict (candidateOf kind (now (s .entry)))) ⌝ }
     ensures { λ r. ⌜ now (s .exit) ≡ leftIn (verdict (candidateOf kind (now (s .entry)))) (now (s .entry)) ⌝ }
 {
-    let found = candidate::examine_whole(kind, s);
+    let found = plain::examine_whole(kind, s);
     match found {
         Examined::Unsound(refusal) => Read::Refused(refusal),
         Examined::Sound { header, start, len } => {

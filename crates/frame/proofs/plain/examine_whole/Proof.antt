@@ -1,7 +1,7 @@
 use Rattle.frame.proofs.VerdictLaws.{whole-examined, plain-flagless}
 use borrow.Author.Needs.{needs}
-use Rattle.frame.proofs.candidate.examine_whole.Statement.{statement}
-use Rattle.frame.proofs.candidate.examine_whole.Tie as tie
+use Rattle.frame.proofs.plain.examine_whole.Statement.{statement}
+use Rattle.frame.proofs.plain.examine_whole.Tie as tie
 
 look-plain-requires : tie.Need-look-plain-requires
 look-plain-requires c κs = search needs

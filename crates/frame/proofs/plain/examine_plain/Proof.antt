@@ -4,8 +4,8 @@ use Rattle.frame.specs.Private.{Examines}
 use Rattle.frame.specs.declared.Kind.{Kind}
 use Rattle.frame.proofs.VerdictLaws.{plain-standard, plain-short, plain-extended}
 use borrow.Author.Needs.{needs}
-use Rattle.frame.proofs.candidate.examine_plain.Statement.{statement}
-use Rattle.frame.proofs.candidate.examine_plain.Tie as tie
+use Rattle.frame.proofs.plain.examine_plain.Statement.{statement}
+use Rattle.frame.proofs.plain.examine_plain.Tie as tie
 
 enum-told : tie.Need-enum-told
 enum-told c = search needs

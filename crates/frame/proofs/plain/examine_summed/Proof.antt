@@ -1,7 +1,7 @@
 use Rattle.frame.proofs.VerdictLaws.{after-short, after-sum, after-sound}
 use borrow.Author.Needs.{needs}
-use Rattle.frame.proofs.candidate.examine_summed.Statement.{statement}
-use Rattle.frame.proofs.candidate.examine_summed.Tie as tie
+use Rattle.frame.proofs.plain.examine_summed.Statement.{statement}
+use Rattle.frame.proofs.plain.examine_summed.Tie as tie
 
 returns : tie.Need-returns
 returns c = let s = c .before in after-short (s .args .header) _ _ _ (s .pre) (c .if1 .taken)
