@@ -8,9 +8,7 @@ use Rattle.text.proofs.write_bytes.Statement.{statement}
 use Rattle.text.proofs.write_bytes.Tie as tie
 
 returns : tie.Need-returns
-returns c =
-    let a = c .before .before .before .args in
-    writes-no-room (result (a .s .now)) (a .s .now) (a .out .now) refl (c .if1 .taken)
+returns c = writes-no-room (result _) _ _ refl (omega arith)
 
 put-bytes-requires : tie.Need-put-bytes-requires
 put-bytes-requires c κs = search needs
