@@ -2,56 +2,63 @@
 use crate::print;
 use crate::wire;
 use crate::words;
+use command::entries;
 use lease::LeaseAnswer;
+
+// Calls, by their index among those that `call_index` knows.
+const HOLD: usize = 0;
+
+const RELEASE: usize = 1;
+
+const STOP: usize = 2;
+
+// How many bytes of the table are an address's own.
+const OWN: usize = 8;
 
 pub(crate) fn run_calls(calls: &[u8]) {
     let mut table = [0u8; 2048];
-    let mut i = 0;
-    while i < calls.len() {
-        let call = words::upto(&calls[i..], b'/');
-        run_call(unspaced(call), &mut table);
-        let last = i + call.len();
-        if last == calls.len() {
-            return;
-        }
-        i = last + 1;
+    let n = words::groups(calls);
+    let mut k = 0;
+    while k < n {
+        run_call(words::group(calls, k), &mut table);
+        k += 1;
     }
-}
-
-// Without the space after a stroke.
-fn unspaced(call: &[u8]) -> &[u8] {
-    if call.len() == 0 {
-        return call;
-    }
-    if call[0] == b' ' {
-        return &call[1..];
-    }
-    call
 }
 
 // A call's name, an address as a byte, and a token.
 fn run_call(call: &[u8], table: &mut [u8; 2048]) {
-    let name = words::first(call);
-    let rest = words::rest(call);
-    let address = words::pair_at(rest, 0) as u32;
-    let token = words::number(words::first(words::rest(rest)));
-    print::text(b" ");
-    print::text(name);
-    print::text(b"=");
-    answer(name, table, address, token);
+    let name = words::nth(call, 0);
+    let address = words::pair_at(words::nth(call, 1), 0) as u32;
+    let token = words::number(words::nth(call, 2));
+    print_name(name);
+    answer(call_index(name), table, address, token);
 }
 
-fn answer(name: &[u8], table: &mut [u8; 2048], address: u32, token: u64) {
-    if check::same(name, b"hold") {
+fn call_index(name: &[u8]) -> usize {
+    words::index_among(b"hold release stop bytes", 4, name)
+}
+
+fn print_name(name: &[u8]) {
+    print::character(b' ');
+    print::text(name);
+    print::character(b'=');
+}
+
+fn answer(call: usize, table: &mut [u8; 2048], address: u32, token: u64) {
+    if call == HOLD {
         return print_outcome(lease::hold_lent(table, address, token));
     }
-    if check::same(name, b"release") {
+    if call == RELEASE {
         return print_outcome(lease::release_lent(table, address, token));
     }
-    if check::same(name, b"stop") {
+    if call == STOP {
         return stop(table, address, token);
     }
-    print::text(b"unknown");
+    print_own(table, address)
+}
+
+fn print_own(table: &[u8], address: u32) {
+    print::hex(entries::part(table, OWN * address as usize, OWN));
 }
 
 fn stop(table: &[u8], address: u32, token: u64) {
@@ -63,6 +70,6 @@ fn stop(table: &[u8], address: u32, token: u64) {
 fn print_outcome(outcome: LeaseAnswer) {
     match outcome {
         LeaseAnswer::Done => print::text(b"done"),
-        LeaseAnswer::Refused(why) => print::refusal(b"refused:", why),
+        LeaseAnswer::Refused(why) => print::refusal(why),
     }
 }

@@ -1,9 +1,40 @@
 // Pieces of a line on standard output.
+use crate::words;
 use answer::Refusal;
 use libc::STDOUT_FILENO;
 
+// Words that every answer uses, by their index in the text of `word`.
+const REFUSED: usize = 0;
+
+pub(crate) const LEN: usize = 1;
+
+pub(crate) const CONTENTS: usize = 2;
+
+pub(crate) const WRITTEN: usize = 3;
+
+pub(crate) fn word(index: usize) {
+    nth_word(b"refused:| len=| contents=| written=", index);
+}
+
+// A word of a text in which a stroke parts two words. The checker's work on a function grows quickly with the literals
+// in it, so a module has its words in one text and names them by their index.
+pub(crate) fn nth_word(all: &[u8], index: usize) {
+    text(words::upto(words::after(all, b'|', index), b'|'));
+}
+
 pub(crate) fn text(s: &[u8]) {
     io::write_all(STDOUT_FILENO, s);
+}
+
+pub(crate) fn character(c: u8) {
+    text(&[c]);
+}
+
+// A comma before each entry of a list but the first.
+pub(crate) fn comma(n: usize) {
+    if n != 0 {
+        character(b',');
+    }
 }
 
 // Two digits for each byte.
@@ -20,19 +51,11 @@ pub(crate) fn hex_byte(b: u8) {
     text(&digits);
 }
 
-// A key and a decimal number.
-pub(crate) fn number(key: &[u8], n: u64) {
-    text(key);
+pub(crate) fn number(n: u64) {
     io::print_decimal(STDOUT_FILENO, n);
 }
 
-// A key and bytes.
-pub(crate) fn bytes(key: &[u8], s: &[u8]) {
-    text(key);
-    hex(s);
-}
-
-// A key and a refusal's number.
-pub(crate) fn refusal(key: &[u8], why: Refusal) {
-    number(key, why.number() as u64);
+pub(crate) fn refusal(why: Refusal) {
+    word(REFUSED);
+    number(why.number() as u64);
 }

@@ -10,21 +10,82 @@ pub(crate) fn upto(s: &[u8], mark: u8) -> &[u8]
     &s[..end]
 }
 
-// What stands after the first `mark`, or nothing.
-pub(crate) fn past(s: &[u8], mark: u8) -> &[u8] {
-    let end = index_of(s, mark);
-    if s.len() <= end {
-        return &s[..0];
+// What stands after so many marks, or nothing.
+pub(crate) fn after(s: &[u8], mark: u8, marks: usize) -> &[u8] {
+    let mut left = marks;
+    let mut i = 0;
+    while i < s.len() {
+        if left == 0 {
+            return &s[i..];
+        }
+        if s[i] == mark {
+            left = left - 1;
+        }
+        i += 1;
     }
-    &s[end + 1..]
+    &s[..0]
 }
 
-pub(crate) fn first(s: &[u8]) -> &[u8] {
-    upto(s, b' ')
+// The word after so many others.
+pub(crate) fn nth(s: &[u8], k: usize) -> &[u8] {
+    upto(after(s, b' ', k), b' ')
 }
 
-pub(crate) fn rest(s: &[u8]) -> &[u8] {
-    past(s, b' ')
+// How many groups a stroke parts.
+pub(crate) fn groups(s: &[u8]) -> usize {
+    let mut n = 1;
+    let mut i = 0;
+    while i < s.len() {
+        n = counted(n, s[i] == b'/');
+        i += 1;
+    }
+    n
+}
+
+// One of them, without the space after the stroke.
+pub(crate) fn group(s: &[u8], k: usize) -> &[u8] {
+    unspaced(upto(after(s, b'/', k), b'/'))
+}
+
+fn unspaced(s: &[u8]) -> &[u8] {
+    if s.len() == 0 {
+        return s;
+    }
+    if s[0] == b' ' {
+        return &s[1..];
+    }
+    s
+}
+
+// How many bytes are not 0.
+pub(crate) fn nonzero(s: &[u8]) -> usize {
+    let mut n = 0;
+    let mut i = 0;
+    while i < s.len() {
+        n = counted(n, s[i] != 0);
+        i += 1;
+    }
+    n
+}
+
+// A number and one more, where something is to be counted.
+fn counted(n: usize, is_one: bool) -> usize {
+    if is_one {
+        return std::num::wrapping_add_usize(n, 1);
+    }
+    n
+}
+
+// The index of a word among so many that a space parts, or how many they are.
+pub(crate) fn index_among(all: &[u8], count: usize, word: &[u8]) -> usize {
+    let mut k = 0;
+    while k < count {
+        if check::same(nth(all, k), word) {
+            return k;
+        }
+        k += 1;
+    }
+    k
 }
 
 // Puts bytes, two digits each and one character between two of them, first in `out`, and answers how many there are.
@@ -41,15 +102,20 @@ pub(crate) fn bytes(s: &[u8], out: &mut [u8]) -> usize {
     n
 }
 
-// Puts as much of a slice first in `out` as fits, and answers how much that is.
-pub(crate) fn copy(s: &[u8], out: &mut [u8]) -> usize {
-    let mut n = 0;
-    let mut i = 0;
-    while i < s.len() {
-        n = put(s[i], out, n);
-        i += 1;
+// The byte at an index, 0 past the end.
+pub(crate) fn byte_at(s: &[u8], i: usize) -> u8 {
+    if s.len() <= i {
+        return 0;
     }
-    n
+    s[i]
+}
+
+// A number less another, or 0.
+pub(crate) fn less(a: usize, b: usize) -> usize {
+    if a <= b {
+        return 0;
+    }
+    a - b
 }
 
 // The byte whose two digits stand from an index on.

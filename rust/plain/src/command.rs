@@ -44,6 +44,17 @@ pub fn nth(contents: &[u8], n: usize) -> Result<Found, u8> {
     nth
 }
 
+/// How many commands there are at the top, or the index of the byte of the one
+/// whose count is missing or runs beyond the end.
+pub fn count(contents: &[u8]) -> Result<usize, usize> {
+    let (mut at, mut count) = (0, 0);
+    while at < contents.len() {
+        at = command_at(contents, at).map_err(|_| at)?.end();
+        count += 1;
+    }
+    Ok(count)
+}
+
 /// The n-th command in the wrapper that is the w-th command at the top; `start`
 /// is counted in `contents`.
 ///
@@ -60,9 +71,50 @@ pub fn nth_inside(contents: &[u8], w: usize, n: usize) -> Result<Found, u8> {
     })
 }
 
+/// A walker over one list of commands: a frame's contents, or a wrapper's data.
+#[derive(Clone, Copy, Debug)]
+pub struct Cursor<'a> {
+    list: &'a [u8],
+    at: usize,
+}
+
+impl<'a> Cursor<'a> {
+    /// A cursor at the first command.
+    pub fn new(list: &'a [u8]) -> Self {
+        Cursor::at(list, 0)
+    }
+
+    /// A cursor at any index; one past the end finds no command.
+    pub fn at(list: &'a [u8], at: usize) -> Self {
+        Cursor { list, at }
+    }
+
+    /// The index of the next command.
+    pub fn index(self) -> usize {
+        self.at
+    }
+
+    /// The command at the cursor, which then moves past it. All counts from there
+    /// on are checked first, and a refusal leaves the cursor where it is.
+    ///
+    /// Refusals, in this order: 7, 15.
+    pub fn step(&mut self) -> Result<Found, u8> {
+        if self.at >= self.list.len() {
+            return Err(refusal::NONE);
+        }
+        let command = command_at(self.list, self.at)?;
+        let mut at = command.end();
+        while at < self.list.len() {
+            at = command_at(self.list, at)?.end();
+        }
+        self.at = command.end();
+        Ok(command)
+    }
+}
+
 /// Whether the contents are a sound list with a sound 76 wrapper that holds the
 /// command to terminate the workout.
-pub(crate) fn terminates(contents: &[u8]) -> bool {
+pub fn terminates(contents: &[u8]) -> bool {
     sound_with(contents, |byte, data| {
         byte == PROPRIETARY_WRAPPER
             && sound_with(data, |byte, data| {

@@ -29,22 +29,39 @@ impl Status {
     pub const FINISH: u8 = 7;
     pub const MANUAL: u8 = 8;
     pub const OFFLINE: u8 = 9;
+
+    /// A status of its parts.
+    ///
+    /// Refusal: 8.
+    pub fn of(toggle: bool, previous: u8, state: u8) -> Result<Status, u8> {
+        let known = matches!(
+            state,
+            Status::ERROR..=Status::HAVE_ID | Status::IN_USE..=Status::OFFLINE
+        );
+        if previous > Status::PREVIOUS_NOT_READY || !known {
+            return Err(refusal::STATUS);
+        }
+        Ok(Status {
+            toggle,
+            previous,
+            state,
+        })
+    }
+
+    /// The byte that says this.
+    pub fn byte(self) -> u8 {
+        u8::from(self.toggle) << 7 | self.previous << 4 | self.state
+    }
 }
 
 /// Reads a status byte.
 ///
 /// Refusal: 8.
 pub fn status(byte: u8) -> Result<Status, u8> {
-    let state = byte & 0x0F;
-    let known = matches!(state, Status::ERROR..=Status::HAVE_ID | Status::IN_USE..=Status::OFFLINE);
-    if byte & 0x40 != 0 || !known {
+    if byte & 0x40 != 0 {
         return Err(refusal::STATUS);
     }
-    Ok(Status {
-        toggle: byte & 0x80 != 0,
-        previous: byte >> 4 & 0x03,
-        state,
-    })
+    Status::of(byte & 0x80 != 0, byte >> 4 & 0x03, byte & 0x0F)
 }
 
 /// The status and the number of items of a reply.

@@ -2,7 +2,7 @@
 
 mod examples;
 
-use plain::command::{self, Found};
+use plain::command::{self, Cursor, Found};
 use plain::frame::{self, Read};
 use plain::line::{Answer, Line};
 use plain::reply::{self, Status};
@@ -379,6 +379,22 @@ fn listing_of_a_long_trace() {
 }
 
 #[test]
+fn garbled_examples_are_no_byte_strings() {
+    for (name, printed) in examples::GARBLED {
+        let is_byte = |word: &str| word.len() == 2 && u8::from_str_radix(word, 16).is_ok();
+        assert!(!printed.split(' ').all(is_byte), "{name}");
+    }
+}
+
+#[test]
+fn example_stops() {
+    for (name, _) in examples::LISTS {
+        let stops = command::terminates(&contents_of(name));
+        assert_eq!(stops, examples::STOPS.contains(name), "{name}");
+    }
+}
+
+#[test]
 fn listing_marks_stops() {
     let cases = [
         ("76 04 13 02 01 02", "yes"),
@@ -550,6 +566,46 @@ fn walk_at_the_top() {
     for (contents, n, expected) in cases {
         assert_eq!(command::nth(&bytes(contents), n), expected, "{contents}");
     }
+}
+
+#[test]
+fn cursor_tells_what_the_walk_tells() {
+    let cases = [
+        "",
+        "80 20 05",
+        "20",
+        "76 01 13",
+        "76 00 80",
+        "80 24 02 03 00 81",
+    ];
+    let lists = examples::LISTS.iter().map(|(name, _)| contents_of(name));
+    for contents in cases.iter().map(|case| bytes(case)).chain(lists) {
+        let mut cursor = Cursor::new(&contents);
+        for n in 0..contents.len() + 2 {
+            let before = cursor.index();
+            let found = cursor.step();
+            assert_eq!(found, command::nth(&contents, n));
+            let after = found.map_or(before, |found| found.start + found.len);
+            assert_eq!(cursor.index(), after);
+        }
+    }
+}
+
+#[test]
+fn cursor_at_any_index() {
+    let list = bytes("80 24 02 03 00 81");
+    let cases = [
+        (1, found(0x24, 3, 2)),
+        (3, found(0x03, 5, 0)),
+        (5, found(0x81, 6, 0)),
+        (6, Err(15)),
+        (7, Err(15)),
+        (usize::MAX, Err(15)),
+    ];
+    for (at, expected) in cases {
+        assert_eq!(Cursor::at(&list, at).step(), expected, "{at}");
+    }
+    assert_eq!(Cursor::at(&bytes("80 20 05"), 1).step(), Err(7));
 }
 
 #[test]

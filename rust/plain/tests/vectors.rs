@@ -1,12 +1,14 @@
 //! The worked examples that `crates/vectors` runs too: the stored answers are
-//! those of the program here, no example of the source documents is missing, and
-//! each answer says what those documents' table has. To store the answers:
+//! those of the program here, they are the examples of the source documents and no
+//! other but document 01's, and each answer says what those documents' tables
+//! have. To store the answers:
 //!
 //!     cargo run -p plain --bin vectors < ../crates/vectors/stdin > ../crates/vectors/stdout
 
 mod examples;
+mod numbers;
 
-use std::collections::HashMap;
+use std::collections::{HashMap, HashSet};
 use std::fs;
 use std::path::PathBuf;
 use std::process::{Command, Stdio};
@@ -89,6 +91,73 @@ fn every_frame_of_the_sources_is_among_them() {
     }
 }
 
+/// Whether a name is one of the source documents' examples: a capital letter, then
+/// a digit.
+fn is_of_the_sources(name: &str) -> bool {
+    let name = name.as_bytes();
+    name[0].is_ascii_uppercase() && name[0] != b'P' && name[1].is_ascii_digit()
+}
+
+#[test]
+fn no_other_is_told_of_the_sources() {
+    let frames = examples::FRAMES.iter().map(|example| example.0);
+    let bare = examples::BARE.iter().map(|example| example.0);
+    let workouts = examples::WORKOUTS.iter().map(|example| example.0);
+    let combined = numbers::COMBINED.iter().map(|example| example.0);
+    let taken_apart = numbers::TAKEN_APART.iter().map(|example| example.0);
+    let tables = frames.chain(bare).chain(combined).chain(taken_apart);
+    let known: HashSet<&str> = tables.chain(workouts).collect();
+    let examples = text("stdin");
+    for name in by_name(&examples)
+        .into_keys()
+        .filter(|name| is_of_the_sources(name))
+    {
+        let name = name.trim_end_matches("-written");
+        assert!(known.contains(name), "{name}");
+    }
+    for (name, _) in examples::GARBLED {
+        assert!(!known.contains(name), "{name}");
+    }
+}
+
+/// Bytes as they are printed, lowest first.
+fn lowest_first(printed: &[u8], first: numbers::First) -> Vec<u8> {
+    let mut bytes = printed.to_vec();
+    if first == numbers::First::High {
+        bytes.reverse();
+    }
+    bytes
+}
+
+fn hex(bytes: &[u8]) -> Vec<String> {
+    bytes.iter().map(|byte| format!("{byte:02X}")).collect()
+}
+
+#[test]
+fn every_number_is_put_together() {
+    let (examples, answers) = (text("stdin"), text("stdout"));
+    let (examples, answers) = (by_name(&examples), by_name(&answers));
+    for (name, printed, first, value) in numbers::COMBINED {
+        let bytes = hex(&lowest_first(printed, *first)).join(" ");
+        assert_eq!(examples[name], format!("number {bytes}"), "{name}");
+        assert_eq!(answers[name], format!("number={value}"), "{name}");
+    }
+}
+
+#[test]
+fn every_number_is_taken_apart() {
+    let (examples, answers) = (text("stdin"), text("stdout"));
+    let (examples, answers) = (by_name(&examples), by_name(&answers));
+    for (name, value, printed, first) in numbers::TAKEN_APART {
+        let call = format!("lease hold 01 {value} / bytes 01");
+        assert_eq!(examples[name], call, "{name}");
+        let mut token = lowest_first(printed, *first);
+        token.resize(8, 0);
+        let answer = format!("hold=done bytes={}", hex(&token).concat());
+        assert_eq!(answers[name], answer, "{name}");
+    }
+}
+
 /// A list of commands without places, and without the colon before no data.
 fn without_places(list: &str) -> String {
     let mut parts = list.split('@');
@@ -108,6 +177,49 @@ fn commands_are_those_of_the_table() {
     for (name, list) in examples::LISTS {
         let commands = without_places(value(answers[name], "commands="));
         assert_eq!(commands, format!("[{}]", list.replace(' ', "")), "{name}");
+    }
+}
+
+#[test]
+fn stops_are_those_of_the_table() {
+    let answers = text("stdout");
+    let answers = by_name(&answers);
+    for (name, _) in examples::LISTS {
+        let stop = if examples::STOPS.contains(name) {
+            "yes"
+        } else {
+            "no"
+        };
+        assert_eq!(value(answers[name], "stop="), stop, "{name}");
+    }
+}
+
+/// The places of the commands at the top: of a list with what stands in wrappers
+/// and data left out.
+fn places(list: &str) -> Vec<&str> {
+    let mut depth = 0;
+    let entries = list.split(|c| {
+        depth += i32::from(c == '{') - i32::from(c == '}');
+        depth == 0 && c == ','
+    });
+    let place = |entry: &'_ str| entry.split([':', '{', '>']).next().map(str::len);
+    entries
+        .map(|entry| &entry[..place(entry).unwrap()])
+        .collect()
+}
+
+#[test]
+fn steps_tell_the_commands_and_then_15() {
+    let answers = text("stdout");
+    let answers = by_name(&answers);
+    for (name, _) in examples::LISTS {
+        let list = |key| value(answers[name], key).trim_matches(['[', ']']);
+        let mut commands = places(list("commands="));
+        commands.push("refused");
+        for key in ["steps=", "by-steps="] {
+            assert_eq!(places(list(key)), commands, "{name}");
+            assert!(list(key).contains("refused:15"), "{name}");
+        }
     }
 }
 

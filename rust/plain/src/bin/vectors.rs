@@ -4,7 +4,7 @@
 use std::io::{self, Read as _};
 use std::process::ExitCode;
 
-use plain::command::{self, Found};
+use plain::command::{self, Cursor, Found};
 use plain::frame::{self, Read};
 use plain::line::{Answer, Line};
 use plain::reply::{self, Status};
@@ -14,6 +14,7 @@ use plain::{lease, refusal};
 /// Room for whatever the examples write.
 const ROOM: usize = 300;
 const TABLE_LEN: usize = 2_048;
+const TOKEN_LEN: usize = 8;
 
 fn main() -> ExitCode {
     let mut text = String::new();
@@ -42,16 +43,18 @@ fn run(line: &str) -> Option<String> {
     let answer = match operation {
         "frame" => frame_answer(&bytes(arguments)?),
         "contents" => contents_answer(&bytes(arguments)?),
-        "write-standard" => standard_answer(&bytes(arguments)?),
-        "write-extended" => extended_answer(&bytes(arguments)?)?,
-        "workout-distance" => {
-            workout_answer(arguments, |metres, split| Goal::Distance { metres, split })?
-        }
-        "workout-time" => {
-            workout_answer(arguments, |seconds, split| Goal::Time { seconds, split })?
-        }
+        "standard" => standard_answer(&bytes(arguments)?),
+        "extended" => extended_answer(&bytes(arguments)?)?,
+        "distance" => workout_answer(arguments, |metres, split| Goal::Distance { metres, split })?,
+        "time" => workout_answer(arguments, |seconds, split| Goal::Time { seconds, split })?,
         "lease" => lease_answer(arguments)?,
-        "line" => line_answer(&bytes(arguments)?),
+        "line" => line_answer(arguments)?,
+        "command" => command_answer(&bytes(arguments)?)?,
+        "inside" => inside_answer(&bytes(arguments)?)?,
+        "item" => item_answer(&bytes(arguments)?)?,
+        "step" => step_answer(&bytes(arguments)?)?,
+        "status" => status_answer(&bytes(arguments)?)?,
+        "names" => names_answer(),
         "number" => format!(" number={}", number(&bytes(arguments)?)),
         _ => return None,
     };
@@ -122,9 +125,20 @@ fn told_frame(read: Read, contents: &[u8]) -> String {
 
 fn contents_answer(contents: &[u8]) -> String {
     let commands = top_commands(contents);
+    let count = count(contents);
+    let steps = steps_over(contents);
+    let by_steps = by_steps(contents);
+    let stop = if command::terminates(contents) {
+        "yes"
+    } else {
+        "no"
+    };
     let reply = reply_in(contents).unwrap_or_else(refused);
     let workout = workout_in(contents).unwrap_or_else(refused);
-    format!(" commands={commands} reply={reply} workout={workout}")
+    format!(
+        " commands={commands} count={count} steps=[{steps}] by-steps=[{by_steps}] stop={stop} \
+         reply={reply} workout={workout}"
+    )
 }
 
 /// Entries up to the first that does not exist, or why they can't be told.
@@ -176,6 +190,112 @@ fn top_command(contents: &[u8], index: usize, entry: Found) -> String {
     format!("{}{{{inside}}}", place(entry))
 }
 
+/// How many commands there are, or the index of the one that fails.
+fn count(contents: &[u8]) -> String {
+    match command::count(contents) {
+        Ok(count) => count.to_string(),
+        Err(index) => format!("unsound@{index}"),
+    }
+}
+
+/// What a cursor finds step by step, and where it then stands, up to its first
+/// refusal.
+fn steps_over(contents: &[u8]) -> String {
+    let mut cursor = Cursor::new(contents);
+    let mut steps = Vec::new();
+    loop {
+        let found = cursor.step();
+        let text = found_text(contents, found);
+        steps.push(format!("{text}>{}", cursor.index()));
+        if found.is_err() {
+            return steps.join(",");
+        }
+    }
+}
+
+/// The commands up to the first refusal, each reached by the steps of a new
+/// cursor.
+fn by_steps(contents: &[u8]) -> String {
+    let mut texts = Vec::new();
+    loop {
+        let found = nth_by_steps(contents, texts.len());
+        texts.push(found_text(contents, found));
+        if found.is_err() {
+            return texts.join(",");
+        }
+    }
+}
+
+fn nth_by_steps(contents: &[u8], n: usize) -> Result<Found, u8> {
+    let mut cursor = Cursor::new(contents);
+    for _ in 0..n {
+        cursor.step()?;
+    }
+    cursor.step()
+}
+
+fn found_text(contents: &[u8], found: Result<Found, u8>) -> String {
+    found.map_or_else(refused, |entry| with_data(contents, entry))
+}
+
+fn command_answer(arguments: &[u8]) -> Option<String> {
+    let (&n, contents) = arguments.split_first()?;
+    let nth = found_text(contents, command::nth(contents, n.into()));
+    let by_steps = found_text(contents, nth_by_steps(contents, n.into()));
+    Some(format!(" nth={nth} by-steps={by_steps}"))
+}
+
+fn inside_answer(arguments: &[u8]) -> Option<String> {
+    let &[wrapper, n, ref contents @ ..] = arguments else {
+        return None;
+    };
+    let found = command::nth_inside(contents, wrapper.into(), n.into());
+    Some(format!(" nth={}", found_text(contents, found)))
+}
+
+fn item_answer(arguments: &[u8]) -> Option<String> {
+    let (&n, contents) = arguments.split_first()?;
+    let found = reply::nth_item(contents, n.into());
+    Some(format!(" nth={}", found_text(contents, found)))
+}
+
+fn step_answer(arguments: &[u8]) -> Option<String> {
+    let (&at, contents) = arguments.split_first()?;
+    let mut cursor = Cursor::at(contents, at.into());
+    let found = found_text(contents, cursor.step());
+    Some(format!(" found={found} next={}", cursor.index()))
+}
+
+fn status_answer(arguments: &[u8]) -> Option<String> {
+    let &[toggle, previous, state] = arguments else {
+        return None;
+    };
+    let status = Status::of(toggle != 0, previous, state);
+    let byte = status.map_or_else(refused, |status| hex(&[status.byte()]));
+    Some(format!(" byte={byte}"))
+}
+
+fn names_answer() -> String {
+    let results = [
+        Status::PREVIOUS_OK,
+        Status::PREVIOUS_REJECT,
+        Status::PREVIOUS_BAD,
+        Status::PREVIOUS_NOT_READY,
+    ];
+    let states = [
+        Status::ERROR,
+        Status::READY,
+        Status::IDLE,
+        Status::HAVE_ID,
+        Status::IN_USE,
+        Status::PAUSE,
+        Status::FINISH,
+        Status::MANUAL,
+        Status::OFFLINE,
+    ];
+    format!(" results={} states={}", hex(&results), hex(&states))
+}
+
 fn reply_in(contents: &[u8]) -> Result<String, u8> {
     let (status, count) = reply::read(contents)?;
     let items = entries(|n| reply::nth_item(contents, n))?;
@@ -193,11 +313,14 @@ fn reply_in(contents: &[u8]) -> Result<String, u8> {
     ))
 }
 
+/// The reply written from what stands before its last item and that item, or from
+/// its status.
 fn rewritten_reply(contents: &[u8], items: &[Found]) -> Result<Vec<u8>, u8> {
-    let start = written(|out| reply::write_status(contents[0], out))?;
-    items.iter().try_fold(start, |prior, &item| {
-        written(|out| reply::write_item(&prior, item.byte, data_of(contents, item), out))
-    })
+    let Some(&last) = items.last() else {
+        return written(|out| reply::write_status(contents[0], out));
+    };
+    let prior = &contents[..last.start - 2];
+    written(|out| reply::write_item(prior, last.byte, data_of(contents, last), out))
 }
 
 fn workout_in(contents: &[u8]) -> Result<String, u8> {
@@ -223,10 +346,7 @@ fn extended_answer(arguments: &[u8]) -> Option<String> {
 }
 
 fn writing_answer(wire: Result<Vec<u8>, u8>) -> String {
-    match wire {
-        Ok(wire) => format!(" len={} written={}", wire.len(), hex(&wire)),
-        Err(code) => format!(" code={code}"),
-    }
+    format!(" written={}", value(wire))
 }
 
 fn workout_answer(arguments: &str, goal: impl Fn(u32, u32) -> Goal) -> Option<String> {
@@ -235,7 +355,7 @@ fn workout_answer(arguments: &str, goal: impl Fn(u32, u32) -> Goal) -> Option<St
     let watts = words.next()?.parse().ok()?;
     let contents = match written(|out| workout::write(Workout { goal, watts }, out)) {
         Ok(contents) => contents,
-        Err(code) => return Some(format!(" code={code}")),
+        Err(code) => return Some(format!(" contents={}", refused(code))),
     };
     let wire = value(written(|out| frame::write_standard(&contents, out)));
     Some(format!(" contents={} written={wire}", hex(&contents)))
@@ -251,26 +371,61 @@ fn lease_call(table: &mut [u8], call: &str) -> Option<String> {
     let mut words = call.split(' ');
     let name = words.next()?;
     let address = u32::from_str_radix(words.next()?, 16).ok()?;
-    let token = words.next()?.parse().ok()?;
+    let token = words.next().map_or(Some(0), |token| token.parse().ok())?;
     let done = |()| "done".to_string();
     let answer = match name {
         "hold" => lease::hold(table, address, token).map_or_else(refused, done),
         "release" => lease::release(table, address, token).map_or_else(refused, done),
         "stop" => value(written(|out| lease::stop(table, address, token, out))),
+        "bytes" => hex(&table[usize::try_from(address).ok()? * TOKEN_LEN..][..TOKEN_LEN]),
         _ => return None,
     };
     Some(format!(" {name}={answer}"))
 }
 
-fn line_answer(bytes: &[u8]) -> String {
-    let mut line = Line::new();
-    let mut text = String::new();
+/// The answers of a reader that gets single bytes and of one that gets a group's
+/// bytes at once; both are finished after each group.
+fn line_answer(arguments: &str) -> Option<String> {
+    let (mut single, mut chunked) = (Line::new(), Line::new());
+    let group = |group| {
+        let bytes = bytes(group)?;
+        let step = step_all(&mut single, &bytes);
+        let feed_in = feed_all(&mut chunked, &bytes);
+        Some(format!(" step:{step} feed_in:{feed_in}"))
+    };
+    arguments.split(" / ").map(group).collect()
+}
+
+/// The answers of the reader by value, whose array has zeros behind the contents.
+fn step_all(line: &mut Line, bytes: &[u8]) -> String {
+    let mut answers = String::new();
     for (at, &byte) in bytes.iter().enumerate() {
         let answer = line.feed(byte);
-        text += &told_at(at, answer, line.contents());
+        answers += &stepped_at(at, answer, line.contents());
     }
     let last = line.finish();
-    text + &told_at(bytes.len(), last, line.contents())
+    answers + &stepped_at(bytes.len(), last, line.contents())
+}
+
+fn stepped_at(at: usize, answer: Answer, contents: &[u8]) -> String {
+    let nonzero = match answer {
+        Answer::Nothing => return String::new(),
+        Answer::Frame(_) => contents.iter().filter(|&&byte| byte != 0).count(),
+        Answer::Refused(_) => 0,
+    };
+    format!("{} nonzero={nonzero}", told_at(at, answer, contents))
+}
+
+fn feed_all(line: &mut Line, bytes: &[u8]) -> String {
+    let mut answers = String::new();
+    let mut fed = 0;
+    while fed < bytes.len() {
+        let (taken, answer) = line.feed_chunk(&bytes[fed..]);
+        fed += taken;
+        answers += &told_at(fed - 1, answer, line.contents());
+    }
+    let last = line.finish();
+    answers + &told_at(bytes.len(), last, line.contents())
 }
 
 fn told_at(at: usize, answer: Answer, contents: &[u8]) -> String {

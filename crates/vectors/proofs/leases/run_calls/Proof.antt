@@ -1,44 +1,31 @@
 use Prim.Native.Nat.{_≤_, _-_}
-use lib.ListN.{length}
 use borrow.Author.Needs.{needs}
 use Rattle.vectors.proofs.leases.run_calls.Statement.{statement}
 use Rattle.vectors.proofs.leases.run_calls.Tie as tie
+use Rattle.vectors.proofs.leases.run_call.Reads as run-call-reads
+use Rattle.vectors.proofs.words.group.Reads as group-reads
+use Rattle.vectors.proofs.words.groups.Reads as groups-reads
 
 abbrev Inv-loop : tie.InvT-loop
-Inv-loop calls table₀ i₀ table i = i ≤ length calls
+Inv-loop calls table₀ n k₀ table k = k ≤ n
 
 abbrev μ-loop : tie.MeasureT-loop
-μ-loop calls table₀ i₀ table i = length calls - i
+μ-loop calls table₀ n k₀ table k = n - k
+
+groups-requires : tie.Need-groups-requires Inv-loop μ-loop
+groups-requires c κs = search needs
 
 loop-holds : tie.Need-loop-holds Inv-loop μ-loop
 loop-holds c = search needs
 
-sub-upto : tie.Need-sub-upto Inv-loop μ-loop
-sub-upto c = search needs
-
-part-upto-start : tie.Need-part-upto-start Inv-loop μ-loop
-part-upto-start c = search needs
-
-part-upto-end : tie.Need-part-upto-end Inv-loop μ-loop
-part-upto-end c = search needs
-
-upto-requires : tie.Need-upto-requires Inv-loop μ-loop
-upto-requires c κs = search needs
-
-unspaced-requires : tie.Need-unspaced-requires Inv-loop μ-loop
-unspaced-requires c κs = search needs
+group-requires : tie.Need-group-requires Inv-loop μ-loop
+group-requires c κs = search needs
 
 run-call-requires : tie.Need-run-call-requires Inv-loop μ-loop
 run-call-requires c κs = search needs
 
-add-last : tie.Need-add-last Inv-loop μ-loop
-add-last c = search needs
-
-returns : tie.Need-returns Inv-loop μ-loop
-returns c = search needs
-
-add-i : tie.Need-add-i Inv-loop μ-loop
-add-i c = search needs
+add-k : tie.Need-add-k Inv-loop μ-loop
+add-k c = search needs
 
 loop-less : tie.Need-loop-less Inv-loop μ-loop
 loop-less c = search needs
@@ -46,8 +33,8 @@ loop-less c = search needs
 loop-again : tie.Need-loop-again Inv-loop μ-loop
 loop-again c = search needs
 
-returns-2 : tie.Need-returns-2 Inv-loop μ-loop
-returns-2 c = search needs
+returns : tie.Need-returns Inv-loop μ-loop
+returns c = search needs
 
 pub run-calls-spec : {M : Type 1} → statement M
 run-calls-spec =
@@ -55,16 +42,11 @@ run-calls-spec =
     (tie.spec
     Inv-loop
     μ-loop
+    groups-requires
     loop-holds
-    sub-upto
-    part-upto-start
-    part-upto-end
-    upto-requires
-    unspaced-requires
+    group-requires
     run-call-requires
-    add-last
-    returns
-    add-i
+    add-k
     loop-less
     loop-again
-    returns-2)
+    returns)

@@ -1,22 +1,25 @@
 use Prim.Native.Nat.{_≤_, _-_}
 use borrow.Author.Needs.{needs}
-use Rattle.vectors.proofs.contents.print_items.Statement.{statement}
-use Rattle.vectors.proofs.contents.print_items.Tie as tie
+use Rattle.vectors.proofs.replies.print_items.Statement.{statement}
+use Rattle.vectors.proofs.replies.print_items.Tie as tie
+use Rattle.vectors.proofs.print.comma.Reads as comma-reads
+use Rattle.vectors.proofs.replies.print_item.Reads as print-item-reads
+use Rattle.vectors.proofs.replies.word.Reads as word-reads
 
 abbrev Inv-loop : tie.InvT-loop
-Inv-loop contents items n₀ t5 n = n ≤ items
+Inv-loop contents items n₀ n = n ≤ items
 
 abbrev μ-loop : tie.MeasureT-loop
-μ-loop contents items n₀ t5 n = items - n
+μ-loop contents items n₀ n = items - n
 
-slice-aggregate-text : tie.Need-slice-aggregate-text Inv-loop μ-loop
-slice-aggregate-text c = search needs
-
-text-requires : tie.Need-text-requires Inv-loop μ-loop
-text-requires c κs = search needs
+word-requires : tie.Need-word-requires Inv-loop μ-loop
+word-requires c κs = search needs
 
 loop-holds : tie.Need-loop-holds Inv-loop μ-loop
 loop-holds c = search needs
+
+comma-requires : tie.Need-comma-requires Inv-loop μ-loop
+comma-requires c κs = search needs
 
 print-item-requires : tie.Need-print-item-requires Inv-loop μ-loop
 print-item-requires c κs = search needs
@@ -30,12 +33,6 @@ loop-less c = search needs
 loop-again : tie.Need-loop-again Inv-loop μ-loop
 loop-again c = search needs
 
-slice-aggregate-text-2 : tie.Need-slice-aggregate-text-2 Inv-loop μ-loop
-slice-aggregate-text-2 c = search needs
-
-text-requires-2 : tie.Need-text-requires-2 Inv-loop μ-loop
-text-requires-2 c κs = search needs
-
 returns : tie.Need-returns Inv-loop μ-loop
 returns c = search needs
 
@@ -45,13 +42,11 @@ print-items-spec =
     (tie.spec
     Inv-loop
     μ-loop
-    slice-aggregate-text
-    text-requires
+    word-requires
     loop-holds
+    comma-requires
     print-item-requires
     add-n
     loop-less
     loop-again
-    slice-aggregate-text-2
-    text-requires-2
     returns)

@@ -1,8 +1,9 @@
 use Prim.Native.Nat.{_≤_, _-_}
 use lib.ListN.{length}
 use borrow.Author.Needs.{needs}
-use Rattle.vectors.proofs.contents.print_list.Statement.{statement}
-use Rattle.vectors.proofs.contents.print_list.Tie as tie
+use Rattle.vectors.proofs.commands.print_list.Statement.{statement}
+use Rattle.vectors.proofs.commands.print_list.Tie as tie
+use Rattle.vectors.proofs.commands.print_nth.Reads as print-nth-reads
 
 abbrev Inv-loop : tie.InvT-loop
 Inv-loop contents n₀ n = n ≤ length contents

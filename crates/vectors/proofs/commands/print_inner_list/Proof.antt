@@ -1,20 +1,19 @@
 use Prim.Native.Nat.{_≤_, _-_}
 use lib.ListN.{length}
 use borrow.Author.Needs.{needs}
-use Rattle.vectors.proofs.contents.print_inner_list.Statement.{statement}
-use Rattle.vectors.proofs.contents.print_inner_list.Tie as tie
+use Rattle.vectors.proofs.commands.print_inner_list.Statement.{statement}
+use Rattle.vectors.proofs.commands.print_inner_list.Tie as tie
+use Rattle.vectors.proofs.commands.print_inner.Reads as print-inner-reads
+use Rattle.vectors.proofs.print.character.Reads as character-reads
 
 abbrev Inv-loop : tie.InvT-loop
-Inv-loop contents w n₀ t5 n = n ≤ length contents
+Inv-loop contents w n₀ n = n ≤ length contents
 
 abbrev μ-loop : tie.MeasureT-loop
-μ-loop contents w n₀ t5 n = length contents - n
+μ-loop contents w n₀ n = length contents - n
 
-slice-aggregate-text : tie.Need-slice-aggregate-text Inv-loop μ-loop
-slice-aggregate-text c = search needs
-
-text-requires : tie.Need-text-requires Inv-loop μ-loop
-text-requires c κs = search needs
+character-requires : tie.Need-character-requires Inv-loop μ-loop
+character-requires c κs = search needs
 
 loop-holds : tie.Need-loop-holds Inv-loop μ-loop
 loop-holds c = search needs
@@ -31,11 +30,8 @@ loop-less c = search needs
 loop-again : tie.Need-loop-again Inv-loop μ-loop
 loop-again c = search needs
 
-slice-aggregate-text-2 : tie.Need-slice-aggregate-text-2 Inv-loop μ-loop
-slice-aggregate-text-2 c = search needs
-
-text-requires-2 : tie.Need-text-requires-2 Inv-loop μ-loop
-text-requires-2 c κs = search needs
+character-requires-2 : tie.Need-character-requires-2 Inv-loop μ-loop
+character-requires-2 c κs = search needs
 
 returns : tie.Need-returns Inv-loop μ-loop
 returns c = search needs
@@ -46,13 +42,11 @@ print-inner-list-spec =
     (tie.spec
     Inv-loop
     μ-loop
-    slice-aggregate-text
-    text-requires
+    character-requires
     loop-holds
     print-inner-requires
     add-n
     loop-less
     loop-again
-    slice-aggregate-text-2
-    text-requires-2
+    character-requires-2
     returns)

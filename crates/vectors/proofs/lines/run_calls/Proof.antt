@@ -1,0 +1,93 @@
+use Prim.Native.Nat.{_≤_, _-_}
+use borrow.Author.Needs.{needs}
+use Rattle.vectors.proofs.lines.run_calls.Statement.{statement}
+use Rattle.vectors.proofs.lines.run_calls.Tie as tie
+use Rattle.command.proofs.entries.part.Reads as part-reads
+use Rattle.io.proofs.buffer.Reads as buffer-reads
+use Rattle.line.proofs.LineReader.new.Reads as new-reads
+use Rattle.vectors.proofs.lines.feed_all.Reads as feed-all-reads
+use Rattle.vectors.proofs.lines.step_all.Reads as step-all-reads
+use Rattle.vectors.proofs.words.bytes.Reads as bytes-reads
+use Rattle.vectors.proofs.words.group.Reads as group-reads
+use Rattle.vectors.proofs.words.groups.Reads as groups-reads
+
+abbrev Inv-loop : tie.InvT-loop
+Inv-loop calls reader₀ held₀ state₀ n k₀ reader held state k = k ≤ n
+
+abbrev μ-loop : tie.MeasureT-loop
+μ-loop calls reader₀ held₀ state₀ n k₀ reader held state k = n - k
+
+new-requires : tie.Need-new-requires Inv-loop μ-loop
+new-requires c κs = search needs
+
+groups-requires : tie.Need-groups-requires Inv-loop μ-loop
+groups-requires c κs = search needs
+
+loop-holds : tie.Need-loop-holds Inv-loop μ-loop
+loop-holds c = search needs
+
+buffer-requires : tie.Need-buffer-requires Inv-loop μ-loop
+buffer-requires c κs = search needs
+
+group-requires : tie.Need-group-requires Inv-loop μ-loop
+group-requires c κs = search needs
+
+slice-aggregate-bytes : tie.Need-slice-aggregate-bytes Inv-loop μ-loop
+slice-aggregate-bytes c = search needs
+
+bytes-requires : tie.Need-bytes-requires Inv-loop μ-loop
+bytes-requires c κs = search needs
+
+slice-aggregate-part : tie.Need-slice-aggregate-part Inv-loop μ-loop
+slice-aggregate-part c = search needs
+
+part-requires : tie.Need-part-requires Inv-loop μ-loop
+part-requires c κs = search needs
+
+step-all-requires : tie.Need-step-all-requires Inv-loop μ-loop
+step-all-requires c κs = search needs
+
+slice-aggregate-part-2 : tie.Need-slice-aggregate-part-2 Inv-loop μ-loop
+slice-aggregate-part-2 c = search needs
+
+part-requires-2 : tie.Need-part-requires-2 Inv-loop μ-loop
+part-requires-2 c κs = search needs
+
+feed-all-requires : tie.Need-feed-all-requires Inv-loop μ-loop
+feed-all-requires c κs = search needs
+
+add-k : tie.Need-add-k Inv-loop μ-loop
+add-k c = search needs
+
+loop-less : tie.Need-loop-less Inv-loop μ-loop
+loop-less c = search needs
+
+loop-again : tie.Need-loop-again Inv-loop μ-loop
+loop-again c = search needs
+
+returns : tie.Need-returns Inv-loop μ-loop
+returns c = search needs
+
+pub run-calls-spec : {M : Type 1} → statement M
+run-calls-spec =
+    tie.close
+    (tie.spec
+    Inv-loop
+    μ-loop
+    new-requires
+    groups-requires
+    loop-holds
+    buffer-requires
+    group-requires
+    slice-aggregate-bytes
+    bytes-requires
+    slice-aggregate-part
+    part-requires
+    step-all-requires
+    slice-aggregate-part-2
+    part-requires-2
+    feed-all-requires
+    add-k
+    loop-less
+    loop-again
+    returns)

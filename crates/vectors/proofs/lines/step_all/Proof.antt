@@ -1,0 +1,66 @@
+use Prim.Native.Nat.{_≤_, _-_}
+use lib.ListN.{length}
+use borrow.Author.Needs.{needs}
+use Rattle.vectors.proofs.lines.step_all.Statement.{statement}
+use Rattle.vectors.proofs.lines.step_all.Tie as tie
+use Rattle.line.proofs.LineReader.finish.Reads as finish-reads
+use Rattle.line.proofs.LineReader.step.Reads as step-reads
+use Rattle.vectors.proofs.lines.print_answer.Reads as print-answer-reads
+use Rattle.vectors.proofs.lines.word.Reads as word-reads
+
+abbrev Inv-loop : tie.InvT-loop
+Inv-loop bytes r₀ i₀ r i = i ≤ length bytes
+
+abbrev μ-loop : tie.MeasureT-loop
+μ-loop bytes r₀ i₀ r i = length bytes - i
+
+word-requires : tie.Need-word-requires Inv-loop μ-loop
+word-requires c κs = search needs
+
+loop-holds : tie.Need-loop-holds Inv-loop μ-loop
+loop-holds c = search needs
+
+shared-slice-read-step : tie.Need-shared-slice-read-step Inv-loop μ-loop
+shared-slice-read-step c = search needs
+
+step-requires : tie.Need-step-requires Inv-loop μ-loop
+step-requires c κs = search needs
+
+print-answer-requires : tie.Need-print-answer-requires Inv-loop μ-loop
+print-answer-requires c κs = search needs
+
+add-i : tie.Need-add-i Inv-loop μ-loop
+add-i c = search needs
+
+loop-less : tie.Need-loop-less Inv-loop μ-loop
+loop-less c = search needs
+
+loop-again : tie.Need-loop-again Inv-loop μ-loop
+loop-again c = search needs
+
+finish-requires : tie.Need-finish-requires Inv-loop μ-loop
+finish-requires c κs = search needs
+
+print-answer-requires-2 : tie.Need-print-answer-requires-2 Inv-loop μ-loop
+print-answer-requires-2 c κs = search needs
+
+returns : tie.Need-returns Inv-loop μ-loop
+returns c = search needs
+
+pub step-all-spec : {M : Type 1} → statement M
+step-all-spec =
+    tie.close
+    (tie.spec
+    Inv-loop
+    μ-loop
+    word-requires
+    loop-holds
+    shared-slice-read-step
+    step-requires
+    print-answer-requires
+    add-i
+    loop-less
+    loop-again
+    finish-requires
+    print-answer-requires-2
+    returns)
