@@ -10,7 +10,8 @@ use lib.Seq.{length-take-le, take-suc, take-all, take-at}
 use Rattle.lists.specs.Splice.{splice}
 use Rattle.lists.proofs.Splices.{splice-nil, splice-splice, length-splice, set-splice, set2-splice}
 use Rattle.answer.specs.Answer.{Answer, result}
-use Rattle.answer.proofs.Drafts.{Writes, writes-done}
+use Rattle.answer.specs.Draft.{Writes}
+use Rattle.answer.proofs.Drafts.{writes-done}
 use Rattle.text.specs.Writing.{Wrote}
 
 -- Nothing, one byte, two bytes.
