@@ -13,8 +13,7 @@ use Rattle.lists.proofs.Splices.{part-splice}
 use Rattle.framing.specs.Reference.{finish}
 use Rattle.frame.specs.Frame.{standard, extended}
 use Rattle.answer.specs.Answer.{Answer, result, refused}
-use Rattle.answer.specs.Draft.{draftAnswer, draftOut}
-use Rattle.answer.specs.Draft.{Writes}
+use Rattle.answer.specs.Draft.{draftAnswer, draftOut, Writes}
 use Rattle.frame.specs.Answers.{judgeAnswer}
 use Rattle.line.specs.Outcome.{Outcome, nothing, judged, toldMeans, summaryOf, outcomeOf}
 use Rattle.line.specs.Reader.{finishOf, LentStepIs}
