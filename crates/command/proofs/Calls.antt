@@ -10,7 +10,7 @@ use lib.Seq.{length-take-le}
 use contract.Lifetimes.{Lfts}
 use denote.Ref.{RefT, now}
 use Rattle.lists.specs.Choice.{Exactly}
-use Rattle.lists.proofs.Cases.{by-bool}
+use Rattle.lists.proofs.Cases.{by-bool, exactly}
 use Rattle.answer.specs.Answer.{Answer, result, refused}
 use Rattle.command.specs.Entries.{commands, Extent, headOf}
 use Rattle.command.specs.Answers.{CountAnswer, foundMeans, countedMeans, partOf}
@@ -28,7 +28,7 @@ use Rattle.command.specs.declared.entries.Step.{Step}
 use Rattle.command.specs.declared.entries.Found.{Found}
 use Rattle.command.specs.declared.cursor.CommandStep.{CommandStep}
 use Rattle.command.proofs.Table.{count-by-table, nth-by-table, command-by-table, inside-by-table, entry-data}
-use Rattle.command.proofs.PartLaws.{stands-as}
+use Rattle.command.proofs.PartLaws.{stands-as, stands-exactly}
 use Rattle.command.proofs.Stops.{stops-exactly}
 use Rattle.command.proofs.StepTable.{step-by-table, move-by-table}
 use Rattle.command.proofs.Table.{top-data, inner-data, start-is, ends-within, is-wrapper, wrapper-is}
@@ -60,10 +60,6 @@ answer-by-table s (nthAtTop n) a = command-by-table s n a
 answer-by-table s (nthInWrapper w n) a = inside-by-table s w n a
 answer-by-table s (atIndex at) a = nth-by-table commands at (drop at s) 0 a
 
--- an answer that equals one which is given exactly when
-pub exactly : {A : Type 0} (T : A → Type 0) {x y a : A} → x ≡ y → Exactly (y ≡ a) (T a) → Exactly (x ≡ a) (T a)
-exactly T e t = ((λ h. t .0 (sym e ∙ h)), (λ h. e ∙ t .1 h))
-
 -- ---- calls for a command
 
 -- A call on contents with what it asked and its answer, known by what the function's contract tells a caller.
@@ -90,7 +86,7 @@ called-is (step-from κs ρ ρ′ r e) = e .0
 -- A call is answered a exactly when the table answers a: 7, 15 or the entry.
 pub calls-by-table : {s : List ℕ} {q : Question} {x : Answer Extent} → Called s q x → (a : Answer Extent)
     → Exactly (x ≡ a) (TableAnswers s q a)
-calls-by-table {s} {q} {x} c a = exactly (TableAnswers s q) (called-is c) (answer-by-table s q a)
+calls-by-table {s} {q} {x} c a = exactly (called-is c) (answer-by-table s q a)
 
 -- ---- calls for a command's data
 
@@ -121,7 +117,7 @@ index-data s at {byte} {start} {len} e =
     ∙ entry-data e (take at s) [] (length-take-le at s within)
 
 -- what the table gives as data is the part that the answer names, and starts where the answer says
-pub table-data : (s : List ℕ) (q : Question) (start : ℕ) (bytes : List ℕ) → TableData s q start bytes
+table-data : (s : List ℕ) (q : Question) (start : ℕ) (bytes : List ℕ) → TableData s q start bytes
     → (partOf s (answerTo s q) ≡ bytes) × (startOf (answerTo s q) ≡ start)
 table-data s q start bytes (ofNth {n = n} e) =
     let a = answer-by-table s (nthAtTop n) _ .1 (present e) in (ap (partOf s) a ∙ top-data e, ap startOf a)
@@ -133,13 +129,6 @@ table-data s q start bytes (ofIndex {at = at} e) =
 table-data s q start bytes (ofRefusal number j) =
     let a = answer-by-table s q (refused number) .1 j in (ap (partOf s) a, ap startOf a)
 
--- The slice that a call hands out is the data that the table gives, and stands where they stand in the contents: inside
--- a wrapper the inner entry's data, at its place in the whole.
-pub data-by-table : {s r : RefT (List ℕ)} {q : Question} → CalledData s q r → (start : ℕ) (bytes : List ℕ)
-    → TableData (now s) q start bytes → StandsAt s r start bytes
-data-by-table {s} {q = q} c start bytes d =
-    stands-as (answerTo (now s) q) (data-is c) (table-data (now s) q start bytes d)
-
 -- The table gives data for every question.
 pub data-given : (s : List ℕ) (q : Question) → (start : ℕ) × (bytes : List ℕ) × TableData s q start bytes
 data-given s q = given q (answerTo s q) (answer-by-table s q (answerTo s q) .0 refl)
@@ -150,6 +139,19 @@ data-given s q = given q (answerTo s q) (answer-by-table s q (answerTo s q) .0 r
     given (nthAtTop n) (result x) (present e) = (_, _, ofNth e)
     given (atIndex at) (result x) (present e) = (_, _, ofIndex e)
     given (nthInWrapper w n) (result x) (inWrapper outer y (present e)) = (_, _, ofInner outer y e)
+
+-- A part that is the data of the answer stands at an index with these bytes exactly when the table gives them.
+pub data-exactly : {s r : RefT (List ℕ)} (q : Question) → IsData s r (answerTo (now s) q)
+    → (start : ℕ) (bytes : List ℕ) → Exactly (StandsAt s r start bytes) (TableData (now s) q start bytes)
+data-exactly {s} q d =
+    stands-exactly (TableData (now s) q)
+    (λ start bytes t. stands-as (answerTo (now s) q) d (table-data (now s) q start bytes t)) (data-given (now s) q)
+
+-- A call hands back a part of the contents with these bytes at this index exactly when the table gives them: inside a
+-- wrapper the inner entry's data, at its place in the whole.
+pub data-by-table : {s r : RefT (List ℕ)} {q : Question} → CalledData s q r → (start : ℕ) (bytes : List ℕ)
+    → Exactly (StandsAt s r start bytes) (TableData (now s) q start bytes)
+data-by-table {q = q} c = data-exactly q (data-is c)
 
 -- ---- moves
 
@@ -166,7 +168,7 @@ moved-is (step-past κs ρ ρ′ r e) = e .1
 
 -- It tells the index to which the table's move leads.
 pub move-calls : {s : List ℕ} {at next : ℕ} → CalledMove s at next → (i : ℕ) → Exactly (next ≡ i) (Moves s at i)
-move-calls {s} {at} c i = exactly (Moves s at) (moved-is c) (move-by-table s at i)
+move-calls {s} {at} c i = exactly (moved-is c) (move-by-table s at i)
 
 -- ---- entries
 
@@ -174,7 +176,7 @@ move-calls {s} {at} c i = exactly (Moves s at) (moved-is c) (move-by-table s at 
 pub step-calls : (κs : Lfts 1) (ρ ρ′ : RefT (List ℕ)) (c : Cursor) (limit : ℕ) (r : Step)
     → step-reads.Learnt κs (c, (limit, (ρ, tt))) r (c, (limit, (ρ′, tt))) → (a : Answer EntryStep)
     → Exactly (stepMeans r ≡ a) (Steps limit (ρ .now) (c .at) a)
-step-calls κs ρ ρ′ c limit r e a = exactly (Steps limit (ρ .now) (c .at)) e (step-by-table limit (ρ .now) (c .at) a)
+step-calls κs ρ ρ′ c limit r e a = exactly e (step-by-table limit (ρ .now) (c .at) a)
 
 -- Any call of `count` is answered a exactly when the table answers a: the number of entries, or 7 with the index of the
 -- entry that fails.
@@ -182,27 +184,24 @@ pub count-calls : (κs : Lfts 1) (ρ ρ′ : RefT (List ℕ)) (limit : ℕ) (fro
     → count-reads.Learnt κs (limit, (ρ, (from, tt))) r (limit, (ρ′, (from, tt))) → (a : CountAnswer)
     → Exactly (countedMeans r ≡ a) (Counts limit (from .at) (drop (from .at) (ρ .now)) a)
 count-calls κs ρ ρ′ limit from r e a =
-    exactly (Counts limit (from .at) (drop (from .at) (ρ .now))) e
-    (count-by-table limit (from .at) (drop (from .at) (ρ .now)) a)
+    exactly e (count-by-table limit (from .at) (drop (from .at) (ρ .now)) a)
 
 -- Any call of `entries::nth`, over any limit and from any index on.
 pub nth-calls : (κs : Lfts 1) (ρ ρ′ : RefT (List ℕ)) (limit : ℕ) (from : Cursor) (n : ℕ) (r : Found)
     → nth-entry-reads.Learnt κs (limit, (ρ, (from, (n, tt)))) r (limit, (ρ′, (from, (n, tt)))) → (a : Answer Extent)
     → Exactly (foundMeans r ≡ a) (Nth limit (from .at) (drop (from .at) (ρ .now)) n a)
 nth-calls κs ρ ρ′ limit from n r e a =
-    exactly (Nth limit (from .at) (drop (from .at) (ρ .now)) n) e
-    (nth-by-table limit (from .at) (drop (from .at) (ρ .now)) n a)
+    exactly e (nth-by-table limit (from .at) (drop (from .at) (ρ .now)) n a)
 
 -- ---- wrappers
 
 -- Any call of `is_wrapper` answers yes exactly for the five of document 01.
 pub wrapper-calls : (b : ℕ) (r : Bool) → is-wrapper-reads.Learnt tt (b, tt) r (b, tt) → Exactly (r ≡ true) (Wrapper b)
-wrapper-calls b r e = exactly (λ (t : Bool). Wrapper b) e (is-wrapper b, wrapper-is)
+wrapper-calls b r e = exactly e (is-wrapper b, wrapper-is)
 
 -- ---- contents that stop a workout
 
 -- Any call of `stops_workout` answers yes exactly for contents that do.
 pub stop-calls : (κs : Lfts 1) (ρ ρ′ : RefT (List ℕ)) (r : Bool) → stops-workout-reads.Learnt κs (ρ, tt) r (ρ′, tt)
     → Exactly (r ≡ true) (StopsWorkout (ρ .now))
-stop-calls κs ρ ρ′ r e =
-    exactly (λ (t : Bool). StopsWorkout (ρ .now)) e (stops-exactly (ρ .now))
+stop-calls κs ρ ρ′ r e = exactly e (stops-exactly (ρ .now))

@@ -15,6 +15,7 @@ use contract.Lifetimes.{Lfts}
 use contract.Monad.{Fun, fact}
 use denote.Ref.{RefT, now}
 use Rattle.lists.specs.Choice.{Exactly}
+use Rattle.lists.proofs.Cases.{exactly}
 use Rattle.answer.specs.Answer.{Answer}
 use Rattle.command.specs.Entries.{commands, Extent}
 use Rattle.command.specs.Answers.{foundMeans}
@@ -24,10 +25,10 @@ use Rattle.command.specs.Traversal.{commandAt, indexAfter, indexOf}
 use Rattle.command.specs.Table.{NthEntry, Moves, TableAnswers, TableData, atIndex, nthAtTop, ofNth}
 use Rattle.command.specs.declared.entries.Found.{Found}
 use Rattle.command.specs.declared.cursor.CommandCursor.{CommandCursor}
-use Rattle.command.proofs.Calls.{answer-by-table, exactly, table-data}
+use Rattle.command.proofs.Calls.{answer-by-table, data-exactly}
 use Rattle.command.proofs.Table.{start-is}
 use Rattle.command.proofs.StepTable.{move-by-table}
-use Rattle.command.proofs.PartLaws.{stands-as, stands-through}
+use Rattle.command.proofs.PartLaws.{stands-through}
 use Rattle.command.proofs.CursorSteps.{kth-step, index-more}
 use Rattle.command.proofs.cursor.CommandCursor.new as new
 use Rattle.command.proofs.cursor.CommandCursor.command as command
@@ -94,32 +95,32 @@ run-answers {s} {k} {c} m =
 pub cursor-by-table : (c : CommandCursor) (r : Found) → Answers c r → (a : Answer Extent)
     → Exactly (foundMeans r ≡ a) (TableAnswers (now (c .contents)) (atIndex (c .at)) a)
 cursor-by-table c r e a =
-    let q = atIndex (c .at) in
-    exactly (TableAnswers (now (c .contents)) q) e (answer-by-table (now (c .contents)) q a)
+    exactly e (answer-by-table (now (c .contents)) (atIndex (c .at)) a)
 
 -- It moves to an index exactly when the table's move leads there, on the same contents.
 pub cursor-moves : (c d : CommandCursor) → MovesTo c d
     → (d .contents ≡ c .contents) × ((i : ℕ) → Exactly (d .at ≡ i) (Moves (now (c .contents)) (c .at) i))
 cursor-moves c d m = (
   m .0,
-  (λ i. exactly (Moves (now (c .contents)) (c .at)) (m .1) (move-by-table (now (c .contents)) (c .at) i)),
+  (λ i. exactly (m .1) (move-by-table (now (c .contents)) (c .at) i)),
 )
 
 -- After k moves, exactly when the table answers a to the k-th command of the contents that it was made on.
 pub moves-by-table : (s : RefT (List ℕ)) (k : ℕ) (c : CommandCursor) → Moved s k c → (r : Found) → Answers c r
     → (a : Answer Extent) → Exactly (foundMeans r ≡ a) (TableAnswers (now s) (nthAtTop k) a)
 moves-by-table s k c m r e a =
-    exactly (TableAnswers (now s) (nthAtTop k)) (e ∙ run-answers m) (answer-by-table (now s) (nthAtTop k) a)
+    exactly (e ∙ run-answers m) (answer-by-table (now s) (nthAtTop k) a)
 
--- The data that it hands out are those of the k-th command, where they stand in those contents.
+-- It hands out a part of those contents with these bytes at this index exactly when the table gives them as the data of
+-- the k-th command.
 pub moves-data : (s : RefT (List ℕ)) (k : ℕ) (c : CommandCursor) → Moved s k c → (r : RefT (List ℕ)) → HandsOut c r
-    → (start : ℕ) (bytes : List ℕ) → TableData (now s) (nthAtTop k) start bytes → StandsAt s r start bytes
-moves-data s k c m r h start bytes d =
+    → (start : ℕ) (bytes : List ℕ) → Exactly (StandsAt s r start bytes) (TableData (now s) (nthAtTop k) start bytes)
+moves-data s k c m r h =
     let i : IsData (c .contents) r (nthCommand (now s) k) =
     subst (λ (a : Answer Extent). IsData (c .contents) r a) (run-answers m) h in
     let j : IsData s r (nthCommand (now s) k) =
     subst (λ (x : RefT (List ℕ)). IsData x r (nthCommand (now s) k)) (stands m .0) i in
-    stands-as (nthCommand (now s) k) j (table-data (now s) (nthAtTop k) start bytes d)
+    data-exactly (nthAtTop k) j
 
 -- ---- on a wrapper's data
 
@@ -151,4 +152,4 @@ inner-moves-data s p {start = start} outer j k c m r h {at = at} e =
     subst (λ (l : List ℕ). TableData l (nthAtTop k) (at - start) (e .here .body)) (sym (j .holds)) (ofNth f) in
     let i : start + (at - start) ≡ at = omega (arith, start-is e) in
     subst (λ (x : ℕ). StandsAt s r x (e .here .body)) i
-    (stands-through j (moves-data p k c m r h (at - start) (e .here .body) d))
+    (stands-through j (moves-data p k c m r h (at - start) (e .here .body) .1 d))

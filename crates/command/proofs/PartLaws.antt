@@ -7,6 +7,7 @@ use lib.ListN.{length, take, drop, length-drop, drop-of-length-le}
 use lib.Seq.{take-all, take-nil}
 use denote.Ref.{RefT, ptr, now}
 use borrow.Author.Tests.{le-leb, lt-leb}
+use Rattle.lists.specs.Choice.{Exactly}
 use Rattle.answer.specs.Answer.{Answer, result, refused}
 use Rattle.answer.specs.declared.Refusal.{Refusal}
 use Rattle.command.specs.Entries.{Extent, found}
@@ -74,6 +75,20 @@ pub stands-as : {s r : RefT (List ℕ)} {start : ℕ} {bytes : List ℕ} (a : An
     → (partOf (now s) a ≡ bytes) × (startOf a ≡ start) → StandsAt s r start bytes
 stands-as {s} {r} {start} {bytes} a d t =
     subst (λ (x : ℕ). StandsAt s r x bytes) (t .1) (subst (λ (x : List ℕ). StandsAt s r (startOf a) x) (t .0) d)
+
+-- Where the data that a table gives stand in a slice, and it gives some, a part of the slice stands at an index with
+-- these bytes exactly when the table gives them.
+pub stands-exactly : {s r : RefT (List ℕ)} (D : ℕ → List ℕ → Type 0)
+    → ((start : ℕ) (bytes : List ℕ) → D start bytes → StandsAt s r start bytes)
+    → (start : ℕ) × (bytes : List ℕ) × D start bytes
+    → (start : ℕ) (bytes : List ℕ) → Exactly (StandsAt s r start bytes) (D start bytes)
+stands-exactly D stands g start bytes = (
+  (λ st. let m = stands (g .0) (g .1) (g .2) in
+      let b : g .1 ≡ bytes = sym (m .holds) ∙ st .holds in
+      let i : g .0 ≡ start = omega (arith, m .place, st .place) in
+      subst (λ (x : ℕ). D x bytes) i (subst (λ (x : List ℕ). D (g .0) x) b (g .2))),
+  stands start bytes,
+)
 
 -- A part of a part stands in the whole, as many bytes further on as both places say.
 pub stands-through : {s p r : RefT (List ℕ)} {at i : ℕ} {held bytes : List ℕ} → StandsAt s p at held

@@ -6,6 +6,7 @@ use mathlib.Core.List.{List, _++_}
 use lib.ListN.{length, take, drop}
 use contract.Lifetimes.{Lfts}
 use denote.Ref.{RefT}
+use Rattle.lists.specs.Choice.{Exactly}
 use Rattle.answer.specs.Answer.{Answer, result}
 use Rattle.answer.specs.Draft.{Writes}
 use Rattle.frame.specs.Frame.{Frame, standard, extended, contentsOf}
@@ -52,14 +53,12 @@ exported-reads (read-slice n κs wire out out′ e) = (slice-told n (wire .now) 
 
 -- A call that reads is answered, and leaves its output, exactly as document 01's table says.
 pub exported-read-exactly : {w out last : List ℕ} {a : Answer FrameOutline} → ExportedRead w out a last
-    → (b : Answer FrameOutline) (left : List ℕ)
-    → ((a ≡ b) × (last ≡ left) → ReadJudged w out b left) × (ReadJudged w out b left → (a ≡ b) × (last ≡ left))
+    → (b : Answer FrameOutline) (left : List ℕ) → Exactly ((a ≡ b) × (last ≡ left)) (ReadJudged w out b left)
 exported-read-exactly {w} {out} {last} {a} k b left = reads-exactly w out a b last left (exported-reads k)
 
 -- A call that writes is answered, and leaves its output, exactly as document 01's table says.
 pub exported-write-exactly : {f : Frame} {out last : List ℕ} {a : Answer ℕ} → ExportedWrite f out a last
-    → (b : Answer ℕ) (left : List ℕ)
-    → ((a ≡ b) × (last ≡ left) → WriteJudged f out b left) × (WriteJudged f out b left → (a ≡ b) × (last ≡ left))
+    → (b : Answer ℕ) (left : List ℕ) → Exactly ((a ≡ b) × (last ≡ left)) (WriteJudged f out b left)
 exported-write-exactly {f} {out} {last} {a} k b left = writes-exactly f out a b last left (exported-writes k)
 
 -- ---- demand 2
@@ -67,14 +66,12 @@ exported-write-exactly {f} {out} {last} {a} k b left = writes-exactly f out a b 
 -- Given room for the contents of any frame, a call tells a frame exactly when the slice's limit, escapes, length and
 -- checksum are right.
 pub exported-accepted-given-room : {w out last : List ℕ} {a : Answer FrameOutline} → ExportedRead w out a last
-    → 117 ≤ length out
-    → ((f : Frame) × (frameRead a last ≡ result f) → Sound w) × (Sound w → (f : Frame) × (frameRead a last ≡ result f))
+    → 117 ≤ length out → Exactly ((f : Frame) × (frameRead a last ≡ result f)) (Sound w)
 exported-accepted-given-room {w} {out} {last} {a} k room = told-when w out a last (exported-reads k) room
 
 -- Given room for its contents, a call tells a frame exactly when the slice is sound and is that frame.
 pub exported-accepted-as : {w out last : List ℕ} {a : Answer FrameOutline} → ExportedRead w out a last
-    → (f : Frame) → length (contentsOf f) ≤ length out
-    → (frameRead a last ≡ result f → SoundFrame w f) × (SoundFrame w f → frameRead a last ≡ result f)
+    → (f : Frame) → length (contentsOf f) ≤ length out → Exactly (frameRead a last ≡ result f) (SoundFrame w f)
 exported-accepted-as {w} {out} {last} {a} k f room = told-exactly w out a last (exported-reads k) f room
 
 -- A frame that a call wrote, read from the bytes that it wrote by any call with room, is told as the same frame: its

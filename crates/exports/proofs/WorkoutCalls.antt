@@ -7,11 +7,12 @@ use mathlib.Core.List.{List}
 use lib.ListN.{length, take}
 use contract.Lifetimes.{Lfts}
 use denote.Ref.{RefT}
+use Rattle.lists.specs.Choice.{Exactly}
 use Rattle.answer.specs.Answer.{Answer, result}
 use Rattle.workout.specs.Limits.{pm3Limits}
 use Rattle.workout.specs.Workout.{Programmed, distance, time}
 use Rattle.workout.specs.Contracts.{WritesWorkout}
-use Rattle.workout.specs.Conditions.{JudgedWriting}
+use Rattle.workout.specs.Conditions.{WorkoutWritten}
 use Rattle.workout.proofs.Table.{writes-exactly}
 use Rattle.workout.proofs.CallLaws.{pm3-writes-read-back}
 use Rattle.workout.proofs.Calls.{CalledRead, call-reads}
@@ -46,9 +47,7 @@ exported-workouts (wrote-time {seconds = seconds} {split = split} {watts = watts
 
 -- A call is answered 12, 1 or the length, and leaves its output, exactly as document 01's table says.
 pub exported-workout-exactly : {w : Programmed} {out last : List ℕ} {a : Answer ℕ} → ExportedWorkout w out a last
-    → (b : Answer ℕ) (left : List ℕ)
-    → ((a ≡ b) × (last ≡ left) → JudgedWriting pm3Limits w out b left)
-    × (JudgedWriting pm3Limits w out b left → (a ≡ b) × (last ≡ left))
+    → (b : Answer ℕ) (left : List ℕ) → Exactly ((a ≡ b) × (last ≡ left)) (WorkoutWritten pm3Limits w out b left)
 exported-workout-exactly {w} {out} {last} {a} k b left =
     writes-exactly pm3Limits w out a b last left (exported-workouts k .writes)
 

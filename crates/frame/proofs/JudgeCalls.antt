@@ -8,6 +8,7 @@ use lib.ListN.{take}
 use contract.Lifetimes.{Lfts}
 use denote.Ref.{RefT}
 use Rattle.lists.specs.Choice.{Exactly}
+use Rattle.lists.proofs.Cases.{exactly}
 use Rattle.answer.specs.Answer.{Answer, result, refused}
 use Rattle.frame.specs.Flags.{candidateOf}
 use Rattle.frame.specs.Verdict.{Verdict, verdict}
@@ -35,9 +36,7 @@ module _ (κs : Lfts 1) (kind : Kind) (ρ ρ′ : RefT (List ℕ)) (len : ℕ) (
   -- flag among the bytes is refused with 6.
   pub judged-by-table : (v : Verdict)
       → Exactly (frameRead (readMeans r) (ρ′ .now) ≡ v) (Judged (candidateOf kind (take len (ρ .now))) v)
-  judged-by-table v =
-      let t = verdict-by-table (candidateOf kind (take len (ρ .now))) v in
-      ((λ e. t .0 (sym judged-is ∙ e)), (λ j. judged-is ∙ t .1 j))
+  judged-by-table v = exactly judged-is (verdict-by-table (candidateOf kind (take len (ρ .now))) v)
 
   -- A refusal changes no byte.
   pub judged-untouched : (n : ℕ) → readMeans r ≡ refused n → ρ′ .now ≡ ρ .now

@@ -15,7 +15,7 @@ use lib.Dec.{leb, eqb}
 use lib.ListN.{length, getD}
 use borrow.Author.Tests.{leb-true, leb-false, eqb-true, eqb-false, le-leb, ne-eqb}
 use Rattle.lists.specs.Choice.{pick, Exactly}
-use Rattle.lists.proofs.Cases.{by-bool}
+use Rattle.lists.proofs.Cases.{by-bool, both-exactly}
 use Rattle.lists.proofs.Lists.{drop-two}
 use Rattle.answer.specs.Draft.{draftAnswer, draftOut, Writes}
 use Rattle.answer.proofs.Drafts.{writes-refusal, writes-no-room, writes-done}
@@ -288,10 +288,7 @@ module _ (w out : List ℕ) where
   -- The answer of a call that reads and the output that it left are given ones exactly when the table gives those.
   pub reads-exactly : (a b : Answer FrameOutline) (last left : List ℕ) → Reads w out a last
       → Exactly ((a ≡ b) × (last ≡ left)) (ReadJudged w out b left)
-  reads-exactly a b last left p = (
-    (λ e. read-by-table b left .0 (sym (e .0) ∙ p .0, sym (e .1) ∙ p .1)),
-    (λ j. let q = line-read b left j in (p .0 ∙ sym (q .0), p .1 ∙ sym (q .1))),
-  )
+  reads-exactly a b last left p = both-exactly p (read-by-table b left)
 
 -- ---- writing
 
@@ -333,7 +330,4 @@ module _ (f : Frame) (out : List ℕ) where
   -- The answer of a call that writes and the output that it left are given ones exactly when the table gives those.
   pub writes-exactly : (a b : Answer ℕ) (last left : List ℕ) → Writes (frameDraft f) out a last
       → Exactly ((a ≡ b) × (last ≡ left)) (WriteJudged f out b left)
-  writes-exactly a b last left p = (
-    (λ e. written-by-table b left .0 (sym (e .0) ∙ p .0, sym (e .1) ∙ p .1)),
-    (λ j. let q = line-write b left j in (p .0 ∙ sym (q .0), p .1 ∙ sym (q .1))),
-  )
+  writes-exactly a b last left p = both-exactly p (written-by-table b left)

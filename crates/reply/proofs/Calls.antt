@@ -4,13 +4,13 @@ use Prim.Native.Nat.{ℕ, _+_, _≤_, _<_}
 use mathlib.Core.Path.{_≡_, refl, sym, ap, _∙_, subst}
 use mathlib.Core.Bool.{Bool}
 use mathlib.Core.List.{List, [], _∷_, _++_, append-assoc, append-nil}
-use native.Mathlib.Omega.{arith}
 use lib.ListN.{length, take, drop}
 use borrow.Author.Tests.{lt-ltb}
 use contract.Lifetimes.{Lfts}
 use denote.Ref.{RefT, now}
 use Rattle.lists.specs.Choice.{Every, Exactly}
 use Rattle.lists.specs.Machine.{Ran, ended, call, Answered}
+use Rattle.lists.proofs.Cases.{exactly, both-exactly}
 use Rattle.lists.proofs.Machines.{ran-every}
 use Rattle.answer.specs.Answer.{Answer, result, refused}
 use Rattle.answer.specs.Draft.{writtenMeans}
@@ -21,9 +21,8 @@ use Rattle.command.specs.Answers.{foundMeans, partOf}
 use Rattle.command.specs.Parts.{StandsAt, startOf}
 use Rattle.command.specs.declared.entries.Found.{Found}
 use Rattle.command.proofs.Extents.{nth-at}
-use Rattle.command.proofs.PartLaws.{stands-as}
+use Rattle.command.proofs.PartLaws.{stands-as, stands-exactly}
 use Rattle.command.proofs.Table.{entry-data}
-use Rattle.command.proofs.Calls.{exactly}
 use Rattle.reply.specs.Status.{status, StatusByte}
 use Rattle.reply.specs.Replies.{Reply, reply, replyIn, ReplyOutline, replyOutline, replyMeans, nthItem, itemOf}
 use Rattle.reply.specs.Replies.{replyAnswer}
@@ -86,48 +85,32 @@ data-given s n = given (item-by-table s n (nthItem s n) .0 refl)
 -- `read_reply` gives each answer, a status and the number of items or 4, 8, 7, exactly when the table gives it.
 pub read-exactly : (κs : Lfts 1) (s : RefT (List ℕ)) (r : ReplyRead) → CalledRead κs s r → (a : Answer ReplyOutline)
     → Exactly (replyMeans r ≡ a) (ReplyJudged (now s) a)
-read-exactly κs s r k a = exactly (ReplyJudged (now s)) k (read-by-table (now s) a)
+read-exactly κs s r k a = exactly k (read-by-table (now s) a)
 
 -- `nth_item` gives each answer, an item with its place or 4, 8, 7, 15, exactly when the table gives it.
 pub nth-exactly : (κs : Lfts 1) (s : RefT (List ℕ)) (n : ℕ) (r : Found) → CalledNth κs s n r → (a : Answer Extent)
     → Exactly (foundMeans r ≡ a) (ItemJudged (now s) n a)
-nth-exactly κs s n r k a = exactly (ItemJudged (now s) n) k (item-by-table (now s) n a)
+nth-exactly κs s n r k a = exactly k (item-by-table (now s) n a)
 
 -- `nth_item_data` hands back a part of the contents with these bytes at this index exactly when the table gives them.
 pub data-exactly : (κs : Lfts 1) (s : RefT (List ℕ)) (n : ℕ) (r : RefT (List ℕ)) → CalledData κs s n r
     → (start : ℕ) (bytes : List ℕ) → Exactly (StandsAt s r start bytes) (ItemData (now s) n start bytes)
-data-exactly κs s n r k start bytes = (
-  (λ st. let g = data-given (now s) n in
-      let m = stands (g .0) (g .1) (g .2) in
-      let b : g .1 ≡ bytes = sym (m .holds) ∙ st .holds in
-      let i : g .0 ≡ start = omega (arith, m .place, st .place) in
-      subst (λ (x : ℕ). ItemData (now s) n x bytes) i
-      (subst (λ (x : List ℕ). ItemData (now s) n (g .0) x) b (g .2))),
-  stands start bytes,
-)
-  where
-    stands : (start : ℕ) (bytes : List ℕ) → ItemData (now s) n start bytes → StandsAt s r start bytes
-    stands start bytes d = stands-as (nthItem (now s) n) k (data-is d)
+data-exactly κs s n r k =
+    stands-exactly (ItemData (now s) n) (λ start bytes d. stands-as (nthItem (now s) n) k (data-is d))
+    (data-given (now s) n)
 
 -- `write_status` gives each answer, 1 as the length or 8, 1 as refusals, and leaves the output, exactly when the table
 -- says so.
 pub status-exactly : (κs : Lfts 1) (b : ℕ) (out last : RefT (List ℕ)) (r : Written) → CalledStatus κs b out r last
     → (a : Answer ℕ) (o : List ℕ) → Exactly ((writtenMeans r ≡ a) × (now last ≡ o)) (StatusWritten b (now out) a o)
-status-exactly κs b out last r k a o =
-    let t = status-written-by-table b (now out) a o in (
-      (λ e. t .0 (sym (e .0) ∙ k .0, sym (e .1) ∙ k .1)),
-      (λ j. let w = t .1 j in (k .0 ∙ sym (w .0), k .1 ∙ sym (w .1))),
-    )
+status-exactly κs b out last r k a o = both-exactly k (status-written-by-table b (now out) a o)
 
 -- `write_item` gives each answer, a length or 4, 8, 7, 2, 1, and leaves the output, exactly when the table says so.
 pub item-exactly : (κs : Lfts 3) (s : RefT (List ℕ)) (b : ℕ) (d out last : RefT (List ℕ)) (r : Written)
     → CalledItem κs s b d out r last → (a : Answer ℕ) (o : List ℕ)
     → Exactly ((writtenMeans r ≡ a) × (now last ≡ o)) (ItemWritten (now s) b (now d) (now out) a o)
 item-exactly κs s b d out last r k a o =
-    let t = item-written-by-table (now s) b (now d) (now out) a o in (
-      (λ e. t .0 (sym (e .0) ∙ k .0, sym (e .1) ∙ k .1 .0)),
-      (λ j. let w = t .1 j in (k .0 ∙ sym (w .0), k .1 .0 ∙ sym (w .1))),
-    )
+    both-exactly (k .0, k .1 .0) (item-written-by-table (now s) b (now d) (now out) a o)
 
 -- ---- what a run of calls wrote
 

@@ -4,8 +4,8 @@ use mathlib.Core.Path.{_≡_, sym, ap, _∙_}
 use mathlib.Core.Bool.{Bool}
 use native.Mathlib.Omega.{arith}
 use Rattle.lists.specs.Choice.{Exactly}
+use Rattle.lists.proofs.Cases.{exactly}
 use Rattle.answer.specs.Answer.{Answer, result}
-use Rattle.command.proofs.Calls.{exactly}
 use Rattle.reply.specs.Status.{StatusParts, status, partsOf, statusMeans, StatusByte, StatusJudged, PartsJudged}
 use Rattle.reply.specs.declared.status.Status.{Status}
 use Rattle.reply.specs.declared.status.StatusRead.{StatusRead}
@@ -30,12 +30,12 @@ CalledToByte s b = to-byte-reads.Learnt tt (s, tt) b (s, tt)
 -- is the byte of none.
 pub from-byte-exactly : (b : ℕ) (r : StatusRead) → CalledFromByte b r → (a : Answer StatusParts)
     → Exactly (statusMeans r ≡ a) (StatusJudged b a)
-from-byte-exactly b r k a = exactly (StatusJudged b) k (status-by-table b a)
+from-byte-exactly b r k a = exactly k (status-by-table b a)
 
 -- `of` answers its arguments as a status exactly when both numbers have names, and 8 exactly when one has none.
 pub of-exactly : (t : Bool) (p s : ℕ) (r : StatusRead) → CalledOf t p s r → (a : Answer StatusParts)
     → Exactly (statusMeans r ≡ a) (PartsJudged (status t p s) a)
-of-exactly t p s r k a = exactly (PartsJudged (status t p s)) k (parts-by-table t p s a)
+of-exactly t p s r k a = exactly k (parts-by-table t p s a)
 
 -- an answer with the parts of a status is that status
 same-status : (r : StatusRead) (s : Status) → statusMeans r ≡ result (partsOf s) → r ≡ ReadStatus s

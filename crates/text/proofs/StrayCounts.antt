@@ -5,6 +5,7 @@ use mathlib.Core.List.{List, [], _∷_, _++_, append-assoc}
 use mathlib.Core.Logic.{_⊎_, inl, inr, ⊎-elim}
 use Prim.Native.Nat.{ℕ, suc, _+_}
 use native.Mathlib.Omega.{arith}
+use Rattle.lists.specs.Choice.{Exactly}
 use Rattle.framing.specs.Reference.{Role, starts, stops, plain, FlagFree}
 use Rattle.framing.specs.Demand3.{LeftOpen}
 use Rattle.frame.specs.Flags.{roleOf}
@@ -154,6 +155,6 @@ one-number (stray i s) (stray j t) = ap suc (one-number s t)
 
 -- The count of the totals is that number, and no other number is.
 pub strays-exactly : (trace : List ℕ) (n : ℕ)
-    → (n ≡ strays false trace → Strays [] trace n) × (Strays [] trace n → n ≡ strays false trace)
+    → Exactly (n ≡ strays false trace) (Strays [] trace n)
 strays-exactly trace n =
     ((λ e. rw e (counted false [] trace none-open)), λ s. one-number s (counted false [] trace none-open))

@@ -8,6 +8,7 @@ use lib.ListN.{length, take, drop, length-drop}
 use lib.Seq.{length-take-le, take-length}
 use lib.Dec.{leb}
 use borrow.Author.Tests.{le-leb, lt-leb, leb-false}
+use Rattle.lists.specs.Choice.{Exactly}
 use Rattle.lists.proofs.Cases.{by-bool}
 use Rattle.lists.proofs.Splices.{part-splice}
 use Rattle.framing.specs.Reference.{finish}
@@ -61,8 +62,7 @@ room-length w room a n h e l = l ∙ ap lengthOf (room-answers w room a h e)
 
 -- and 1 exactly where the output is shorter
 pub no-room-exactly : (w : List ℕ) (room : ℕ)
-    → (draftAnswer (result w) room ≡ refused 1 → room < length w)
-    × (room < length w → draftAnswer (result w) room ≡ refused 1)
+    → Exactly (draftAnswer (result w) room ≡ refused 1) (room < length w)
 unfolding draftAnswer
 no-room-exactly w room = (
   λ e. by-bool (leb (length w) room)

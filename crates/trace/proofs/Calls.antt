@@ -6,6 +6,8 @@ use Prim.Native.Nat.{ℕ, _≤_, _<_}
 use lib.ListN.{length, take, drop}
 use contract.Lifetimes.{Lfts}
 use denote.Ref.{RefT}
+use Rattle.lists.specs.Choice.{Exactly}
+use Rattle.lists.proofs.Cases.{exactly}
 use Rattle.answer.specs.Answer.{result, refused}
 use Rattle.answer.specs.Draft.{writtenMeans}
 use Rattle.answer.specs.declared.Written.{Written}
@@ -66,16 +68,12 @@ module _ (s : Listing) (κs : Lfts 1) (out out′ : RefT (List ℕ)) (r : Writte
   )
 
   -- It answers 1 exactly where the output is shorter than its text, and then leaves the output as it is.
-  pub finish-refuses : (writtenMeans r ≡ refused 1 → length (out .now) < length (lastText s))
-      × (length (out .now) < length (lastText s) → (writtenMeans r ≡ refused 1) × (out′ .now ≡ out .now))
-  finish-refuses =
-      let x = no-room-exactly (lastText s) (length (out .now)) in (
-        λ a. x .0 (sym (e .0) ∙ a),
-        λ h. (
-          e .0 ∙ x .1 h,
-          e .1 .0 ∙ sym (writes-no-room (result (lastText s)) (lastText s) (out .now) refl h .1),
-        ),
-      )
+  pub finish-refuses : Exactly (writtenMeans r ≡ refused 1) (length (out .now) < length (lastText s))
+      × (length (out .now) < length (lastText s) → out′ .now ≡ out .now)
+  finish-refuses = (
+    exactly (e .0) (no-room-exactly (lastText s) (length (out .now))),
+    λ h. e .1 .0 ∙ sym (writes-no-room (result (lastText s)) (lastText s) (out .now) refl h .1),
+  )
 
 -- A call of `list` with a byte to take and room for any line takes a byte.
 pub call-takes-some : (s : Listing) (κs : Lfts 2) (chunk chunk′ out out′ : RefT (List ℕ)) (r : Listed)

@@ -2,13 +2,15 @@
 use Prim.Native.Nat.{ℕ}
 use mathlib.Core.Path.{_≡_, sym, ap, _∙_}
 use mathlib.Core.List.{List}
-use lib.ListN.{length, take}
+use lib.ListN.{take}
+use Rattle.lists.specs.Choice.{Exactly}
+use Rattle.lists.proofs.Cases.{exactly}
 use Rattle.answer.specs.Answer.{Answer, result}
 use Rattle.workout.specs.Limits.{Limits, pm3Limits}
 use Rattle.workout.specs.Workout.{Programmed, Sendable}
 use Rattle.workout.specs.Answers.{workoutAnswer}
 use Rattle.workout.specs.Contracts.{ReadsWorkout, WritesWorkout}
-use Rattle.workout.specs.Conditions.{WithinLimits, Readable, JudgedWorkout}
+use Rattle.workout.specs.Conditions.{WithinLimits, Readable, WorkoutJudged}
 use Rattle.workout.specs.Encoding.{Encoded}
 use Rattle.workout.proofs.Table.{read-by-table, read-exactly, written-within}
 use Rattle.workout.proofs.EncodingLaws.{encoded-read, read-encoded}
@@ -16,23 +18,17 @@ use Rattle.workout.proofs.RoundTrip.{written-workout-reads-back, pm3-se
 
 module _ (limits : Limits) (c : List ℕ) (a : Answer Programmed) (k : ReadsWorkout limits c a) where
   -- A call that reads is answered exactly as document 01's table says.
-  pub reads-by-table : (b : Answer Programmed)
-      → (a ≡ b → JudgedWorkout limits c b) × (JudgedWorkout limits c b → a ≡ b)
-  reads-by-table b =
-      let t = read-by-table limits c b in ((λ e. t .0 (sym (k .answered) ∙ e)), (λ j. k .answered ∙ t .1 j))
+  pub reads-by-table : (b : Answer Programmed) → Exactly (a ≡ b) (WorkoutJudged limits c b)
+  reads-by-table b = exactly (k .answered) (read-by-table limits c b)
 
   -- It is answered with a workout exactly when form and limits hold, and then with that workout.
-  pub reads-exactly : (w : Programmed) → (a ≡ result w → Readable limits c w) × (Readable limits c w → a ≡ result w)
-  reads-exactly w =
-      let t = read-exactly limits c w in ((λ e. t .0 (sym (k .answered) ∙ e)), (λ r. k .answered ∙ t .1 r))
+  pub reads-exactly : (w : Programmed) → Exactly (a ≡ result w) (Readable limits c w)
+  reads-exactly w = exactly (k .answered) (read-exactly limits c w)
 
   -- It is answered with a workout exactly when the contents stand for it and it is within the limits.
-  pub reads-encoded : (w : Programmed)
-      → (a ≡ result w → Encoded w c × WithinLimits limits w) × (Encoded w c × WithinLimits limits w → a ≡ result w)
-  reads-encoded w = (
-    (λ e. read-encoded c (k .bytes) limits w (sym (k .answered) ∙ e)),
-    (λ p. k .answered ∙ encoded-read limits w c (p .0) (p .1)),
-  )
+  pub reads-encoded : (w : Programmed) → Exactly (a ≡ result w) (Encoded w c × WithinLimits limits w)
+  reads-encoded w =
+      exactly (k .answered) (read-encoded c (k .bytes) limits w, λ p. encoded-read limits w c (p .0) (p .1))
 
 -- What a call wrote is read back by any call on the bytes that were written, if they can hold the goal.
 pub writes-read-back : (limits : Limits) (w : Programmed) (out last : List ℕ) (n : ℕ) (a : Answer Programmed)

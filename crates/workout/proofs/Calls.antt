@@ -6,6 +6,7 @@ use mathlib.Core.List.{List}
 use lib.ListN.{take}
 use contract.Lifetimes.{Lfts}
 use denote.Ref.{RefT}
+use Rattle.lists.specs.Choice.{Exactly}
 use Rattle.answer.specs.Answer.{Answer, result}
 use Rattle.answer.specs.Draft.{writtenMeans}
 use Rattle.answer.specs.declared.Written.{Written}
@@ -13,7 +14,7 @@ use Rattle.workout.specs.Limits.{pm3Limits}
 use Rattle.workout.specs.Workout.{Programmed, programmed}
 use Rattle.workout.specs.Answers.{workoutMeans}
 use Rattle.workout.specs.Contracts.{ReadsWorkout, WritesWorkout}
-use Rattle.workout.specs.Conditions.{WithinLimits, Readable, JudgedWorkout, JudgedWriting}
+use Rattle.workout.specs.Conditions.{WithinLimits, Readable, WorkoutJudged, WorkoutWritten}
 use Rattle.workout.specs.Encoding.{Encoded}
 use Rattle.workout.specs.declared.Workout.{Workout}
 use Rattle.workout.specs.declared.WorkoutRead.{WorkoutRead}
@@ -50,14 +51,12 @@ call-writes (wrote-workout r κs w out out′ e) =
 
 -- A call that reads is answered 13, 12 or a workout exactly as document 01's table says.
 pub call-read-by-table : {c : List ℕ} {a : Answer Programmed} → CalledRead c a → (b : Answer Programmed)
-    → (a ≡ b → JudgedWorkout pm3Limits c b) × (JudgedWorkout pm3Limits c b → a ≡ b)
+    → Exactly (a ≡ b) (WorkoutJudged pm3Limits c b)
 call-read-by-table {c} {a} k = reads-by-table pm3Limits c a (call-reads k)
 
 -- A call that writes is answered 12, 1 or the length, and leaves its output, exactly as document 01's table says.
 pub call-written-by-table : {w : Programmed} {out last : List ℕ} {a : Answer ℕ} → CalledWrite w out a last
-    → (b : Answer ℕ) (left : List ℕ)
-    → ((a ≡ b) × (last ≡ left) → JudgedWriting pm3Limits w out b left)
-    × (JudgedWriting pm3Limits w out b left → (a ≡ b) × (last ≡ left))
+    → (b : Answer ℕ) (left : List ℕ) → Exactly ((a ≡ b) × (last ≡ left)) (WorkoutWritten pm3Limits w out b left)
 call-written-by-table {w} {out} {last} {a} k b left =
     writes-exactly pm3Limits w out a b last left (call-writes k .writes)
 
@@ -65,13 +64,13 @@ call-written-by-table {w} {out} {last} {a} k b left =
 
 -- A call that reads is answered with a workout exactly when form and limits hold, and then with that workout.
 pub call-read-exactly : {c : List ℕ} {a : Answer Programmed} → CalledRead c a → (w : Programmed)
-    → (a ≡ result w → Readable pm3Limits c w) × (Readable pm3Limits c w → a ≡ result w)
+    → Exactly (a ≡ result w) (Readable pm3Limits c w)
 call-read-exactly {c} {a} k = reads-exactly pm3Limits c a (call-reads k)
 
 -- A call that reads is answered with a workout exactly when the contents stand for it, in km or in metres where it is a
 -- distance, and it is within the limits.
 pub call-read-encoded : {c : List ℕ} {a : Answer Programmed} → CalledRead c a → (w : Programmed)
-    → (a ≡ result w → Encoded w c × WithinLimits pm3Limits w) × (Encoded w c × WithinLimits pm3Limits w → a ≡ result w)
+    → Exactly (a ≡ result w) (Encoded w c × WithinLimits pm3Limits w)
 call-read-encoded {c} {a} k = reads-encoded pm3Limits c a (call-reads k)
 
 -- A workout that a call wrote is read back as itself by any call on the bytes that were written.

@@ -6,7 +6,7 @@ use native.Mathlib.Nat.{div-lt-iff-lt-mul, suc-mul, le-of-lt, lt-of-le-of-lt, mu
 use native.Mathlib.Omega.{arith}
 use lib.Dec.{leb}
 use borrow.Author.Tests.{leb-true, le-leb}
-use Rattle.lists.specs.Choice.{within}
+use Rattle.lists.specs.Choice.{within, Exactly}
 use Rattle.lists.proofs.Cases.{by-bool, both-true}
 use Rattle.lists.proofs.Tests.{within-yes, within-true}
 use Rattle.workout.specs.Limits.{GoalLimits, ceilDiv, RoundedUp, withinGoal}
@@ -15,7 +15,7 @@ use Rattle.workout.specs.Conditions.{GoalWithin}
 -- ---- rounding up
 
 -- A quotient rounded up is at most a number exactly where that many parts reach.
-pub ceil-div-product : (n d k : ℕ) → 0 < d → (ceilDiv n d ≤ k → n ≤ k * d) × (n ≤ k * d → ceilDiv n d ≤ k)
+pub ceil-div-product : (n d k : ℕ) → 0 < d → Exactly (ceilDiv n d ≤ k) (n ≤ k * d)
 unfolding ceilDiv
 ceil-div-product n d k h =
     let i = div-lt-iff-lt-mul {k = d} {x = n + (d - 1)} {y = suc k} h in (

@@ -13,6 +13,7 @@ use Rattle.answer.specs.Answer.{result}
 use Rattle.answer.specs.Draft.{draftAnswer, draftOut}
 use Rattle.answer.proofs.Drafts.{written-first}
 use Rattle.numbers.proofs.Numbers.{number-bytesOf}
+use Rattle.lists.specs.Choice.{Exactly}
 use Rattle.lists.proofs.Cases.{by-bool}
 use Rattle.workout.specs.Limits.{Limits, pm3Limits}
 use Rattle.workout.specs.Workout.{Programmed, distance, time, wattsOf, withinLimits, layout, distanceBytes}
@@ -120,8 +121,7 @@ pm3-reads-back w h p = workout-reads-back pm3Limits w h (pm3-sendable w h) p
 
 -- Document 02's No. 6: within 65,535 km, a distance can't be sent exactly when it is above 65,535 m and not whole km.
 pub unsendable-exactly : (metres : ℕ) → metres ≤ 65535000
-    → (distanceSendable metres ≡ false → (65535 < metres) × (metres % 1000 ≡ 0 → ⊥))
-    × ((65535 < metres) × (metres % 1000 ≡ 0 → ⊥) → distanceSendable metres ≡ false)
+    → Exactly (distanceSendable metres ≡ false) ((65535 < metres) × (metres % 1000 ≡ 0 → ⊥))
 unfolding distanceSendable
 unsendable-exactly metres h = (
   (λ e. by-bool (eqb (metres % 1000) 0)

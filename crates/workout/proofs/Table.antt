@@ -12,7 +12,8 @@ use borrow.Author.Tests.{leb-true, leb-false, le-leb, eqb-true, eq-eqb}
 use Rattle.answer.specs.Draft.{draftAnswer, Writes}
 use Rattle.answer.proofs.Drafts.{writes-refusal, writes-no-room, written-first}
 use Rattle.answer.specs.Answer.{result, refused, Answer}
-use Rattle.lists.proofs.Cases.{by-bool, both-true}
+use Rattle.lists.specs.Choice.{Exactly}
+use Rattle.lists.proofs.Cases.{by-bool, both-true, both-exactly}
 use Rattle.workout.specs.Limits.{Limits}
 use Rattle.workout.specs.Workout.{Programmed, distance, time, commandOf, layout, withinLimits}
 use Rattle.workout.specs.Workout.{workoutBytes}
@@ -20,8 +21,8 @@ use Rattle.workout.specs.Form.{goalKindFor, goalKindIn, sameBytes, bytes
 use Rattle.workout.specs.Form.{workoutAs, hasForm, inLimits}
 use Rattle.workout.specs.Answers.{workoutAnswer, workoutDraft}
 use Rattle.workout.specs.Conditions.{UnitKnown, Formed, WithinLimits, ClockRight, Limited, Readable}
-use Rattle.workout.specs.Conditions.{JudgedWorkout, formless, overLimit, readable, JudgedWriting, outside, noRoom}
-use Rattle.workout.specs.Conditions.{fits}
+use Rattle.workout.specs.Conditions.{WorkoutJudged, formless, overLimit, readable, WorkoutWritten, outside}
+use Rattle.workout.specs.Conditions.{noRoom, fits}
 use Rattle.workout.specs.declared.layout.GoalKind.{GoalKind}
 use Rattle.workout.specs.declared.layout.GoalKind.the-variants.{Distance, Time}
 use Rattle.workout.proofs.SameLaws.{same-refl, same-true}
@@ -129,7 +130,7 @@ limited-yes limits c l =
 
 module _ (limits : Limits) (c : List ℕ) where
   -- what the table says is the answer
-  table-answer : (a : Answer Programmed) → JudgedWorkout limits c a → workoutAnswer limits c ≡ a
+  table-answer : (a : Answer Programmed) → WorkoutJudged limits c a → workoutAnswer limits c ≡ a
   unfolding workoutAnswer
   table-answer a (formless n) = by-bool (hasForm c) (λ y. absurd (n (goalKindIn c) (form-of c y))) (λ y. simp y)
   table-answer a (overLimit kind f n) =
@@ -143,7 +144,7 @@ module _ (limits : Limits) (c : List ℕ) where
       (ap (λ (k : GoalKind). result (workoutAs k c)) k ∙ ap result (sym (r .workout)))
 
   -- all contents have a line of the table
-  some-line : (a : Answer Programmed) × JudgedWorkout limits c a
+  some-line : (a : Answer Programmed) × WorkoutJudged limits c a
   some-line =
       by-bool (hasForm c)
       (λ y. by-bool (inLimits limits c)
@@ -157,23 +158,19 @@ module _ (limits : Limits) (c : List ℕ) where
 
   -- Every answer is given exactly when the table gives it: a refusal where the rule that it names fails and all before
   -- it hold.
-  pub read-by-table : (a : Answer Programmed)
-      → (workoutAnswer limits c ≡ a → JudgedWorkout limits c a)
-      × (JudgedWorkout limits c a → workoutAnswer limits c ≡ a)
+  pub read-by-table : (a : Answer Programmed) → Exactly (workoutAnswer limits c ≡ a) (WorkoutJudged limits c a)
   read-by-table a = (
-    (λ e. subst (λ (x : Answer Programmed). JudgedWorkout limits c x)
+    (λ e. subst (λ (x : Answer Programmed). WorkoutJudged limits c x)
         (sym (table-answer (some-line .0) (some-line .1)) ∙ e) (some-line .1)),
     table-answer a,
   )
 
   -- Read exactly when form and limits hold, and then as that workout.
-  pub read-exactly : (w : Programmed)
-      → (workoutAnswer limits c ≡ result w → Readable limits c w)
-      × (Readable limits c w → workoutAnswer limits c ≡ result w)
+  pub read-exactly : (w : Programmed) → Exactly (workoutAnswer limits c ≡ result w) (Readable limits c w)
   read-exactly w =
       ((λ e. found (result w) (read-by-table (result w) .0 e) w refl), (λ r. table-answer (result w) (readable w r)))
     where
-      found : (a : Answer Programmed) → JudgedWorkout limits c a → (w : Programmed) → a ≡ result w → Readable limits c w
+      found : (a : Answer Programmed) → WorkoutJudged limits c a → (w : Programmed) → a ≡ result w → Readable limits c w
       found a (formless n) w e = let z : _≡_ {A = ℕ} 0 1 = cc in absurd (omega arith)
       found a (overLimit kind f n) w e = let z : _≡_ {A = ℕ} 0 1 = cc in absurd (omega arith)
       found a (readable v r) w e = let q : v ≡ w = cc in subst (λ (x : Programmed). Readable limits c x) q r
@@ -182,7 +179,7 @@ module _ (limits : Limits) (c : List ℕ) where
 
 module _ (limits : Limits) (w : Programmed) (out : List ℕ) where
   -- what the table says is answered and left
-  line-write : (a : Answer ℕ) (last : List ℕ) → JudgedWriting limits w out a last
+  line-write : (a : Answer ℕ) (last : List ℕ) → WorkoutWritten limits w out a last
       → Writes (workoutDraft limits w) out a last
   line-write a last (outside n) =
       writes-refusal (workoutDraft limits w) 12 out (draft-outside limits w
@@ -196,7 +193,7 @@ module _ (limits : Limits) (w : Programmed) (out : List ℕ) where
       (ap₂ _++_ (sym (take-all (length b) b (omega arith))) (ap (λ (n : ℕ). drop n out) (sym (contents-length w))))
 
   -- every call has a line of the table
-  some-write : (a : Answer ℕ) × (last : List ℕ) × JudgedWriting limits w out a last
+  some-write : (a : Answer ℕ) × (last : List ℕ) × WorkoutWritten limits w out a last
   some-write =
       by-bool (withinLimits limits w)
       (λ y. by-bool (leb 23 (length out))
@@ -206,24 +203,19 @@ module _ (limits : Limits) (w : Programmed) (out : List ℕ) where
 
   -- Every answer to writing, with the output afterwards, is given exactly when the table gives it.
   pub written-by-table : (a : Answer ℕ) (last : List ℕ)
-      → (Writes (workoutDraft limits w) out a last → JudgedWriting limits w out a last)
-      × (JudgedWriting limits w out a last → Writes (workoutDraft limits w) out a last)
+      → Exactly (Writes (workoutDraft limits w) out a last) (WorkoutWritten limits w out a last)
   written-by-table a last = (
     (λ p. let s = some-write in
         let q = line-write (s .0) (s .1) (s .2) in
-        subst (λ (l : List ℕ). JudgedWriting limits w out a l) (q .1 ∙ sym (p .1))
-        (subst (λ (x : Answer ℕ). JudgedWriting limits w out x (s .1)) (q .0 ∙ sym (p .0)) (s .2))),
+        subst (λ (l : List ℕ). WorkoutWritten limits w out a l) (q .1 ∙ sym (p .1))
+        (subst (λ (x : Answer ℕ). WorkoutWritten limits w out x (s .1)) (q .0 ∙ sym (p .0)) (s .2))),
     line-write a last,
   )
 
   -- A call that writes is answered, and leaves its output, exactly as the table says.
   pub writes-exactly : (a b : Answer ℕ) (last left : List ℕ) → Writes (workoutDraft limits w) out a last
-      → ((a ≡ b) × (last ≡ left) → JudgedWriting limits w out b left)
-      × (JudgedWriting limits w out b left → (a ≡ b) × (last ≡ left))
-  writes-exactly a b last left p = (
-    (λ e. written-by-table b left .0 (sym (e .0) ∙ p .0, sym (e .1) ∙ p .1)),
-    (λ j. let q = line-write b left j in (p .0 ∙ sym (q .0), p .1 ∙ sym (q .1))),
-  )
+      → Exactly ((a ≡ b) × (last ≡ left)) (WorkoutWritten limits w out b left)
+  writes-exactly a b last left p = both-exactly p (written-by-table b left)
 
   -- What is written is within the limits.
   pub written-within : (n : ℕ) → draftAnswer (workoutDraft limits w) (length out) ≡ result n

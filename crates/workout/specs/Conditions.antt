@@ -62,15 +62,15 @@ pub record Readable (limits : Limits) (c : List ℕ) (w : Programmed) : Type 0 w
   pub workout : w ≡ workoutAs kind c
 
 -- Document 01's table with its order: each answer with the rule that fails, where every rule before it holds.
-pub data JudgedWorkout (limits : Limits) (c : List ℕ) : Answer Programmed → Type 0 where
-  formless : ((kind : GoalKind) → Formed kind c → ⊥) → JudgedWorkout limits c (refused 13)
-  overLimit : (kind : GoalKind) → Formed kind c → (Limited limits kind c → ⊥) → JudgedWorkout limits c (refused 12)
-  readable : (w : Programmed) → Readable limits c w → JudgedWorkout limits c (result w)
+pub data WorkoutJudged (limits : Limits) (c : List ℕ) : Answer Programmed → Type 0 where
+  formless : ((kind : GoalKind) → Formed kind c → ⊥) → WorkoutJudged limits c (refused 13)
+  overLimit : (kind : GoalKind) → Formed kind c → (Limited limits kind c → ⊥) → WorkoutJudged limits c (refused 12)
+  readable : (w : Programmed) → Readable limits c w → WorkoutJudged limits c (result w)
 
 -- What writing a workout is answered, and the output afterwards. Its limits come first, and the output's room is asked
 -- for last. The contents stand first in the output, and all after them is as it was; a refusal changes nothing.
-pub data JudgedWriting (limits : Limits) (w : Programmed) (out : List ℕ) : Answer ℕ → List ℕ → Type 0 where
-  outside : (WithinLimits limits w → ⊥) → JudgedWriting limits w out (refused 12) out
-  noRoom : WithinLimits limits w → length out < 23 → JudgedWriting limits w out (refused 1) out
+pub data WorkoutWritten (limits : Limits) (w : Programmed) (out : List ℕ) : Answer ℕ → List ℕ → Type 0 where
+  outside : (WithinLimits limits w → ⊥) → WorkoutWritten limits w out (refused 12) out
+  noRoom : WithinLimits limits w → length out < 23 → WorkoutWritten limits w out (refused 1) out
   fits : WithinLimits limits w → 23 ≤ length out
-      → JudgedWriting limits w out (result 23) (workoutBytes w ++ drop 23 out)
+      → WorkoutWritten limits w out (result 23) (workoutBytes w ++ drop 23 out)
