@@ -24,7 +24,7 @@ pub fn data_at(contents: &[u8], at: usize) -> &[u8]
     entries::found_part(contents, found)
 }
 
-// The index after it; the same index where `command_at` refuses.
+// The index after the command at an index; the same index where `command_at` refuses.
 pub fn index_after(contents: &[u8], at: usize) -> usize
     ensures { λ r. ⌜ r ≡ indexAfter (now (contents .entry)) at ⌝ }
 {

@@ -9,11 +9,11 @@ use denote.Ref.{RefT}
 use Rattle.lists.specs.Choice.{Exactly}
 use Rattle.answer.specs.Answer.{Answer, result}
 use Rattle.answer.specs.Draft.{Writes}
-use Rattle.frame.specs.Frame.{Frame, standard, extended, contentsOf}
+use Rattle.frame.specs.Frame.{Frame, standard, extended, contentsOf, wireOf}
 use Rattle.frame.specs.Answers.{FrameOutline, outlineOf, frameDraft, frameRead, Reads}
 use Rattle.frame.specs.Conditions.{Sound, SoundFrame, ReadJudged, WriteJudged}
 use Rattle.frame.proofs.Table.{reads-exactly, writes-exactly}
-use Rattle.frame.proofs.RoundTrip.{told-when, told-exactly, written-reads-back, read-writes-back}
+use Rattle.frame.proofs.RoundTrip.{told-when, told-exactly, told-as-written, written-reads-back, read-writes-back}
 use Rattle.exports.specs.Told.{toldWritten, toldRead}
 use Rattle.exports.proofs.ToldLaws.{frame-told, slice-told}
 use Rattle.exports.proofs.csafe_write_standard.Reads as write-standard-reads
@@ -73,6 +73,13 @@ exported-accepted-given-room {w} {out} {last} {a} k room = told-when w out a las
 pub exported-accepted-as : {w out last : List ℕ} {a : Answer FrameOutline} → ExportedRead w out a last
     → (f : Frame) → length (contentsOf f) ≤ length out → Exactly (frameRead a last ≡ result f) (SoundFrame w f)
 exported-accepted-as {w} {out} {last} {a} k f room = told-exactly w out a last (exported-reads k) f room
+
+-- Given room for its contents, a call tells a frame exactly when the slice is that frame as it is written, at most 120
+-- bytes long.
+pub exported-accepted-written : {w out last : List ℕ} {a : Answer FrameOutline} → ExportedRead w out a last
+    → (f : Frame) → length (contentsOf f) ≤ length out
+    → Exactly (frameRead a last ≡ result f) ((wireOf f ≡ w) × (length w ≤ 120))
+exported-accepted-written {w} {out} {last} {a} k f room = told-as-written w out a last (exported-reads k) f room
 
 -- A frame that a call wrote, read from the bytes that it wrote by any call with room, is told as the same frame: its
 -- kind, its addresses and the number of its contents bytes, and these first in the output.

@@ -13,11 +13,11 @@ use Rattle.framing.specs.Demand3.{feed, Demand3}
 use Rattle.framing.proofs.Restart.{demand3-of}
 use Rattle.line.specs.Outcome.{Outcome, Summary, outcomeOf}
 use Rattle.line.specs.Rowing.{rowing}
-use Rattle.line.specs.Reader.{outcomeAt, nextAfter}
+use Rattle.line.specs.Reader.{outcomeAt, nextAfter, AsNew}
 use Rattle.line.specs.Feed.{feedOf}
 use Rattle.line.specs.Chunks.{byByte, TakenToAnswer, AsSingly}
 use Rattle.line.proofs.ValueLaws.{call-whole}
-use Rattle.line.proofs.Follows.{reader-follows}
+use Rattle.line.proofs.Follows.{as-new-follows}
 use Rattle.line.proofs.ChunkLaws.{chunk-singly, chunk-taken}
 use Rattle.line.proofs.ChunkCalls.{feed-whole}
 use Rattle.exports.specs.Told.{toldLine}
@@ -94,10 +94,14 @@ exported-singly t =
     let k = ran-by-run ExportedLine outcomeAt nextAfter readerOf called-singly t in
     record { outcomes-are = k .0; reader-is = k .1 }
 
--- Demand 3 of `csafe_feed` and `csafe_finish`, whole, from 118 zeros and the number 0.
-pub exported-demand-3 : Demand3 rowing (AnsweredBy ExportedLine (λ l. l ≡ newLine))
+-- Demand 3 of `csafe_feed` and `csafe_finish`, whole, from every array and number that are a reader outside of a
+-- candidate.
+pub exported-demand-3 : Demand3 rowing (AnsweredBy ExportedLine (λ l. AsNew (readerOf l)))
 exported-demand-3 =
-    demand3-of rowing (AnsweredBy ExportedLine (λ l. l ≡ newLine))
+    demand3-of rowing (AnsweredBy ExportedLine (λ l. AsNew (readerOf l)))
     (λ calls outcomes k. exported-singly (k .ran) .outcomes-are
-    ∙ ap (λ (l : LentLine). run outcomeAt nextAfter (readerOf l) calls) (k .made)
-    ∙ reader-follows .same calls)
+    ∙ as-new-follows (readerOf (k .start)) (k .made) .same calls)
+
+-- 118 zeros and the number 0 are one.
+pub new-line-as-new : AsNew (readerOf newLine)
+new-line-as-new = record { array = refl; outside-is = refl }

@@ -38,7 +38,7 @@ abbrev pub Numbered : {A : Type 0} → Answer A → Type 0
 Numbered (result a) = Unit {0}
 Numbered (refused n) = n ≡ 0 → ⊥
 
--- The same of what a line reader tells.
+-- Where a line reader tells a refusal, its number is not 0.
 abbrev pub NumberedLine : Summary → Type 0
 NumberedLine silent = Unit {0}
 NumberedLine (tells a) = Numbered a

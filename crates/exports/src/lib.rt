@@ -81,7 +81,8 @@ pub extern "C" fn csafe_feed(
     packed::of_told(told)
 }
 
-// Ends the input of such a reader, whose array stays as it is. Refusal 6 where a candidate is open.
+// Ends the input of the line reader whose state the number holds; its array stays as it is. Refusal 6 where a candidate
+// is open.
 #[no_mangle]
 pub extern "C" fn csafe_finish(state: &mut u64) -> u64
     ensures { λ r. ⌜ ((bytes : List ℕ) → FinishedAs r (now (state .exit)) (finished bytes (now (state .entry)))) ⌝ }

@@ -5,7 +5,7 @@ use mathlib.Core.Bool.{true, false}
 use mathlib.Core.List.{List, [], _∷_}
 use native.Mathlib.Omega.{arith}
 use native.Mathlib.Nat.{zero-add}
-use lib.Dec.{leb}
+use lib.Dec.{leb, eqb}
 use lib.ListN.{length, getD, List·getD-eq-default}
 use borrow.Author.Tests.{eq-eqb, ne-eqb}
 use Rattle.answer.specs.Draft.{draftAnswer, draftOut}
@@ -149,3 +149,33 @@ pub stop-by : (x y : Answer (List ℕ)) (out : List ℕ) (a : Answer ℕ) (last 
     → Stops y out a last
 stop-by x y out a last e d =
     (d .0 ∙ ap writtenLength e, d .1 ∙ ap (λ (r : Answer (List ℕ)). outAfter r out) e)
+
+-- ---- 18
+
+-- No call on a table is refused with 18.
+other-number : (n : ℕ) → (n ≡ 18 → ⊥) → _≡_ {A = Answer (List ℕ)} (refused n) (refused 18) → ⊥
+other-number n k e = let q : n ≡ 18 = cc in k q
+
+other-answer : (w : List ℕ) → _≡_ {A = Answer (List ℕ)} (result w) (refused 18) → ⊥
+other-answer w e = let z : _≡_ {A = ℕ} 0 1 = cc in omega arith
+
+pub never-18 : (held : ℕ) (c : LeaseCall) → answerOf held c ≡ refused 18 → ⊥
+unfolding answerOf
+never-18 held (hold a t) e =
+    by-bool (inRange a)
+    (λ r. by-bool (eqb t 0) (λ z. other-number 14 (λ q. omega arith) (simp (r, z) at e))
+    (λ z. by-bool (eqb held 0) (λ f. other-answer [] (simp (r, z, f) at e))
+    (λ f. other-number 10 (λ q. omega arith) (simp (r, z, f) at e))))
+    (λ r. other-number 9 (λ q. omega arith) (simp r at e))
+never-18 held (release a t) e =
+    by-bool (inRange a)
+    (λ r. by-bool (owns t held) (λ o. other-answer [] (simp (r, o) at e))
+    (λ o. other-number 11 (λ q. omega arith) (simp (r, o) at e)))
+    (λ r. other-number 9 (λ q. omega arith) (simp r at e))
+never-18 held (stop a t room) e =
+    by-bool (inRange a)
+    (λ r. by-bool (owns t held)
+    (λ o. by-bool (leb (length (stopFrame a)) room) (λ l. other-answer (stopFrame a) (simp (r, o, l) at e))
+    (λ l. other-number 1 (λ q. omega arith) (simp (r, o, l) at e)))
+    (λ o. other-number 11 (λ q. omega arith) (simp (r, o) at e)))
+    (λ r. other-number 9 (λ q. omega arith) (simp r at e))

@@ -18,7 +18,7 @@ use Rattle.lease.specs.Lease.{tableOf, lentAnswer, lentLeft, lentAfter}
 use Rattle.lease.specs.History.{newTable, newBytes, tableOn, answersOn, lentOn, lentAnswersOn, Tokens, TokenFits}
 use Rattle.lease.specs.History.{Exchange, RanLent, ended, call, aside}
 use Rattle.lease.specs.Leases.{LentRun, LentLeases}
-use Rattle.lease.proofs.LeaseLaws.{range-means, accepted-range, lent-answer, lent-size}
+use Rattle.lease.proofs.LeaseLaws.{range-means, accepted-range, lent-answer, lent-size, never-18}
 use Rattle.lease.proofs.TableHistory.{Follows}
 use Rattle.lease.proofs.Sentences.{sentences}
 
@@ -209,9 +209,9 @@ new-lent cs t =
 module _ (called : List ℕ → LeaseCall → Answer (List ℕ) → List ℕ → Type 0)
     (each : (s s′ : List ℕ) (c : LeaseCall) (x : Answer (List ℕ)) → called s c x s′
     → (x ≡ lentAnswer s c) × (s′ ≡ lentAfter s c) × TokenFits c) where
-  other-length : (s s′ : List ℕ) (c : LeaseCall) (x : Answer (List ℕ)) → (length s ≡ 2048 → ⊥) → called s c x s′
+  aside-same : (s s′ : List ℕ) (c : LeaseCall) (x : Answer (List ℕ)) → (length s ≡ 2048 → ⊥) → called s c x s′
       → (x ≡ refused 18) × (s′ ≡ s)
-  other-length s s′ c x n k =
+  aside-same s s′ c x n k =
       let e = each s s′ c x k in let q = lent-size s c n in (e .0 ∙ sym (q .0), e .1 ∙ sym (q .1))
 
   -- A run on 2,048 bytes follows the table that they are.
@@ -223,7 +223,7 @@ module _ (called : List ℕ → LeaseCall → Answer (List ℕ) → List ℕ →
       let l = ap length (e .1) ∙ length-left s (lentAnswer s c) c ∙ size in
       (e .0 ∙ lent-answer s c size, subst (λ (ts : List ℕ). Follows ts es) after (follows-lent rest l))
   follows-lent (aside s t table o o′ c x {history = es} n k p q rest) size =
-      let same : t ≡ s = q ∙ ap table (other-length o o′ c x n k .1) ∙ sym p in
+      let same : t ≡ s = q ∙ ap table (aside-same o o′ c x n k .1) ∙ sym p in
       subst (λ (v : List ℕ). Follows (tableOf v) es) same (follows-lent rest (ap length same ∙ size))
 
   -- A run on bytes that are all 00 is answered as a new table answers those calls, and leaves the bytes of the table
@@ -246,7 +246,15 @@ module _ (called : List ℕ → LeaseCall → Answer (List ℕ) → List ℕ →
           ap length (sym (r .table)) ∙ length-numbers 8 256 0 (r .start),
           subst (λ (us : List ℕ). Follows us es) (r .table) (follows-lent (r .ran) (r .size)),
         ));
-        other-length = other-length;
+        other-length = λ s s′ c x k. (
+          (λ e size. never-18 (getD (tableOf s) (addressOf c) 0) c
+              (sym (lent-answer s c size) ∙ sym (each s s′ c x k .0) ∙ e)),
+          (λ n. aside-same s s′ c x n k .0),
+        );
+        refusal-leaves = λ s s′ c n k.
+            let e = each s s′ c (refused n) k in e .1 ∙ refused-lent s c n (sym (e .0));
+        own-bytes = λ s s′ c x i k o.
+            ap (λ (l : List ℕ). getD l i 0) (each s s′ c x k .1) ∙ others-untouched s c i o;
       }
 
 -- A run on bytes that are all 00 is one on the bytes of a new table.

@@ -1,12 +1,12 @@
 -- Document 01's sentences on leases, stated of histories: calls in a row, each with the answer that it got.
-use Prim.Native.Nat.{ℕ, _≤_, _<_}
+use Prim.Native.Nat.{ℕ, _+_, _*_, _≤_, _<_}
 use mathlib.Core.Path.{_≡_}
 use mathlib.Core.Logic.{_⊎_}
 use mathlib.Core.List.{List, [], _∷_, _++_}
 use lib.ListN.{length, getD}
 use Rattle.lists.specs.Choice.{Every, Exactly}
 use Rattle.answer.specs.Answer.{Answer, result, refused}
-use Rattle.lease.specs.Lease.{LeaseCall, hold, release, stop, stopFrame, tableOf}
+use Rattle.lease.specs.Lease.{LeaseCall, addressOf, hold, release, stop, stopFrame, tableOf}
 use Rattle.lease.specs.History.{newTable, Exchange, exchange, callsOf, historyAt, LastHold, Held, Free, RanLent}
 
 -- An address of a machine or a console.
@@ -93,8 +93,12 @@ pub record LentRun (called : List ℕ → LeaseCall → Answer (List ℕ) → Li
   pub end : List ℕ
   pub ran : RanLent called start history end
 
--- The same sentences of calls on lent bytes. A call on bytes of another length is answered 18 and changes none of them.
+-- Document 01's sentences of calls on lent bytes. 18 is answered exactly where the bytes have another length. A refusal
+-- changes none of them, and no call changes a byte but the eight of its own address.
 pub record LentLeases (called : List ℕ → LeaseCall → Answer (List ℕ) → List ℕ → Type 0) : Type 0 where
   pub leases : Leases (LentRun called)
-  pub other-length : (s s′ : List ℕ) (c : LeaseCall) (x : Answer (List ℕ)) → (length s ≡ 2048 → ⊥)
-      → called s c x s′ → (x ≡ refused 18) × (s′ ≡ s)
+  pub other-length : (s s′ : List ℕ) (c : LeaseCall) (x : Answer (List ℕ)) → called s c x s′
+      → Exactly (x ≡ refused 18) (length s ≡ 2048 → ⊥)
+  pub refusal-leaves : (s s′ : List ℕ) (c : LeaseCall) (n : ℕ) → called s c (refused n) s′ → s′ ≡ s
+  pub own-bytes : (s s′ : List ℕ) (c : LeaseCall) (x : Answer (List ℕ)) (i : ℕ) → called s c x s′
+      → (i < 8 * addressOf c) ⊎ (8 * addressOf c + 8 ≤ i) → getD s′ i 0 ≡ getD s i 0

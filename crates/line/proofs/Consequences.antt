@@ -1,21 +1,29 @@
--- What follows from demand 3: after the stop flag and after a finish the reader is as new, and it never answers 1.
+-- What follows from demand 3: after the stop flag and after a finish the reader is as new, and it never answers 1. Both
+-- are of the definitions and of calls of the functions.
 use mathlib.Core.Path.{_≡_, refl, sym, subst}
 use mathlib.Core.List.{List, [], _∷_, _++_}
 use native.Mathlib.Omega.{arith}
 use Prim.Native.Nat.{ℕ}
 use Rattle.framing.specs.Reference.{Call, byte, finish, Role, starts, stops, plain, Candidate, none, opened, byteAnswer}
 use Rattle.framing.specs.Reference.{answerTo, candidateAfter}
-use Rattle.lists.specs.Machine.{run}
+use Rattle.lists.specs.Machine.{run, AnsweredBy}
 use Rattle.framing.proofs.Restart.{as-new}
 use Rattle.frame.specs.Verdict.{Verdict, verdict}
 use Rattle.answer.specs.Answer.{refused}
 use Rattle.frame.specs.Conditions.{Judged, truncated, long, badEscape, short, badSum, sound}
 use Rattle.frame.proofs.Table.{verdict-by-table}
-use Rattle.line.specs.Outcome.{nothing, judged, Not1, Never1}
+use Rattle.line.specs.Outcome.{Outcome, nothing, judged, capacity, Not1, Never1}
 use Rattle.frame.specs.Flags.{stopFlag, roleOf}
 use Rattle.line.specs.Rowing.{rowing}
-use Rattle.line.specs.Reader.{readerOutcomes}
-use Rattle.line.proofs.Follows.{reader-follows}
+use Rattle.line.specs.Reader.{reader, nextAfter, readerOutcomes, AsNew, Closes, stop-flag, input-end}
+use Rattle.line.specs.declared.LineReader.{LineReader}
+use Rattle.line.specs.declared.Mode.{Mode}
+use Rattle.line.specs.declared.Mode.the-variants.{Outside, InStandard, InExtended, Overlong}
+use Rattle.frame.specs.declared.Kind.the-variants.{Standard, Extended}
+use Rattle.line.proofs.Follows.{reader-follows, rowing-suits}
+use Rattle.line.proofs.Calls.{CalledLent, lent-turns}
+use Rattle.line.proofs.ChunkCalls.{CalledIn, chunks-demand-3}
+use lib.ListN.{length}
 
 pub as-new-after-stop : (calls rest : List Call)
     → readerOutcomes (calls ++ byte stopFlag ∷ rest) ≡ readerOutcomes (calls ++ byte stopFlag ∷ [])
@@ -63,3 +71,27 @@ from-never-1 k (c ∷ calls) = (call-not-1 k c, from-never-1 (candidateAfter row
 
 pub never-1 : (calls : List Call) → Never1 (readerOutcomes calls)
 never-1 calls = subst Never1 (sym (reader-follows .same calls)) (from-never-1 none calls)
+
+-- No call of a row of `feed_in`, `step_in` and `finish_in` is answered 1.
+pub calls-never-1 : {calls : List Call} {outcomes : List Outcome} → AnsweredBy CalledIn AsNew calls outcomes
+    → Never1 outcomes
+calls-never-1 {calls} {outcomes} k =
+    subst Never1 (sym (chunks-demand-3 .same calls outcomes k)) (from-never-1 none calls)
+
+-- ---- as new
+
+stop-next : (mode : Mode) (bytes : List ℕ) (len : ℕ) → length bytes ≡ capacity
+    → AsNew (nextAfter (reader bytes len mode) (byte stopFlag))
+stop-next Outside bytes len h = record { array = h; outside-is = refl }
+stop-next InStandard bytes len h = record { array = rowing-suits .kept Standard len bytes h; outside-is = refl }
+stop-next InExtended bytes len h = record { array = rowing-suits .kept Extended len bytes h; outside-is = refl }
+stop-next Overlong bytes len h = record { array = h; outside-is = refl }
+
+closed-new : (r : LineReader) (c : Call) → Closes c → length (r .bytes) ≡ capacity → AsNew (nextAfter r c)
+closed-new r c stop-flag h = stop-next (r .state .mode) (r .bytes) (r .state .len) h
+closed-new r c input-end h = record { array = h; outside-is = refl }
+
+-- The reader that a call of `step_in` with the stop flag, or of `finish_in`, left is as new, whatever it was before.
+pub left-as-new : (r u : LineReader) (c : Call) (o : Outcome) → CalledLent r c o u → Closes c
+    → length (r .bytes) ≡ capacity → AsNew u
+left-as-new r u c o k e h = subst AsNew (sym (lent-turns r u c o k .1)) (closed-new r c e h)

@@ -6,7 +6,7 @@ use lib.ListN.{length}
 use Rattle.lists.specs.Machine.{Turn, turn, run}
 use Rattle.framing.specs.Reference.{Call, byte, finish, Role}
 use Rattle.framing.specs.Bounded.{BoundedMode, outside, inside, overlong, BoundedReader, bounded, byteTurn, boundedTurn}
-use Rattle.frame.specs.Flags.{roleOf}
+use Rattle.frame.specs.Flags.{stopFlag, roleOf}
 use Rattle.frame.specs.declared.Kind.{Kind}
 use Rattle.frame.specs.declared.Kind.the-variants.{Standard, Extended}
 use Rattle.line.specs.Outcome.{Outcome, toldMeans, summaryOf, outcomeOf, capacity, zeros, ValueAnswer, valueAnswerOf}
@@ -33,6 +33,11 @@ newReader = reader zeros 0 Outside
 pub record AsNew (r : LineReader) : Type 0 where
   pub array : length (r .bytes) ≡ capacity
   pub outside-is : r .state .mode ≡ Outside
+
+-- A call after which no candidate is open: the stop flag, or the end of input.
+pub data Closes : Call → Type 0 where
+  stop-flag : Closes (byte stopFlag)
+  input-end : Closes finish
 
 -- ---- the struct as a bounded reader, and back
 

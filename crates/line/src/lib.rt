@@ -135,7 +135,7 @@ pub fn step_in(bytes: &mut [u8; 118], state: State, b: u8) -> LentStep
     grow(bytes, state, b)
 }
 
-// Ends the input of such a reader. Its array stays as it is.
+// Ends the input of a reader whose array is lent and whose state goes in and comes back. The array stays as it is.
 pub fn finish_in(state: State) -> LentStep
     ensures { λ r. ⌜ ((bytes : List ℕ) → LentStepIs bytes r (finishOf (lentReader bytes state))) ⌝ }
 {
@@ -143,8 +143,8 @@ pub fn finish_in(state: State) -> LentStep
     restart(mode, Mode::Outside)
 }
 
-// Feeds such a reader bytes up to the first that is answered; with no answer it takes all of them. Runs of bytes that
-// are no flags have loops of their own, and the flags go through `step_in`.
+// Feeds bytes to a reader whose array is lent, up to the first that is answered; with no answer it takes all of them.
+// Runs of bytes that are no flags have loops of their own, and the flags go through `step_in`.
 pub fn feed_in(bytes: &mut [u8; 118], state: State, input: &[u8]) -> ChunkStep
     ensures { λ r. ⌜ ChunkStepIs (now (bytes .exit)) r
         (feedOf (lentReader (now (bytes .entry)) state) (now (input .entry))) ⌝ }

@@ -17,7 +17,7 @@ use Rattle.trace.specs.declared.Listing.{Listing}
 use Rattle.trace.specs.declared.Listed.{Listed}
 use Rattle.trace.proofs.ChunkLaws.{after-append, texts-append, rest-part}
 use Rattle.trace.proofs.Cuttings.{new-text}
-use Rattle.listing.specs.Runs.{Pumps, AllWritten, Stops, Runs}
+use Rattle.listing.specs.Runs.{Pumps, TextCounted, Stops, Runs}
 use Rattle.listing.specs.Private.{Fetches, ran, Closes}
 use Rattle.listing.specs.declared.Stop.{Stop}
 use Rattle.listing.specs.declared.Stop.the-variants.{LastRead, AtLimit, LastWrite}
@@ -135,7 +135,7 @@ module _ (s : Listing) (read wrote : ℕ) (g : Reading s read wrote) where
       record { bytes = g .bytes; read-is = g .read-is; within = g .within; stops = g .after .wrote-is }
 
   told : (out out′ : List ℕ) → out′ ≡ lastText s ++ drop (length (lastText s)) out
-      → AllWritten (g .bytes) (add64 wrote (length (lastText s))) out′
+      → TextCounted (g .bytes) (add64 wrote (length (lastText s))) out′
   told out out′ e =
       let b : List ℕ = g .bytes in
       let last : lastText s ≡ lastText (listingAfter newListing b) = ap lastText (g .after .state) in
@@ -152,7 +152,7 @@ module _ (s : Listing) (read wrote : ℕ) (g : Reading s read wrote) where
       )
 
   closed : (stop : Stop) (out out′ : List ℕ) (r : Ran) → Closes s stop read wrote out out′ r
-      → ((w : ℕ) → AllWritten (g .bytes) w out′ → Stops (g .bytes) stop w out′) → Runs out′ r
+      → ((w : ℕ) → TextCounted (g .bytes) w out′ → Stops (g .bytes) stop w out′) → Runs out′ r
   closed stop out out′ r (e, inl q) k =
       subst (Runs out′) (sym q) (record { bytes = g .bytes; read-is = g .read-is; within = g .within; stops = refl })
   closed stop out out′ r (e, inr q) k =

@@ -1,7 +1,8 @@
 // Lists a trace: standard input, at most 4,294,967,295 bytes, as a line for each answer and the totals (document 01,
 // "Listing"). Input is read and output is written in pieces of up to 65,536 bytes. What is written is what `trace`
-// proves of any cutting. No contract can say what the system read or wrote: those of this program say of the bytes that
-// it was given how many they were, which state they lead to and how many bytes were handed over for writing.
+// proves of any cutting. No contract can say what the system read or wrote, or whether it failed: those of this program
+// say how many bytes were listed, which state they lead to, how long their text is, and that the reason for which it
+// stopped fits these.
 use answer::Written;
 use trace::Listing;
 ghost use mathlib.Core.Path.{_≡_};

@@ -119,7 +119,7 @@ fn head(contents: &[u8]) -> StatusRead
     Status::from_byte(b)
 }
 
-// The same contents, whose status is known.
+// Reads the items of contents whose status is known. Refusal 7.
 fn read_items(contents: &[u8], status: Status) -> ReplyRead
     ensures { λ r. ⌜ replyMeans r ≡ replyAnswer
         (afterStatus (result (partsOf status)) (parse items (drop 1 (now (contents .entry))) 0)) ⌝ }

@@ -1,5 +1,6 @@
 -- Which contents stand for which workout, apart from how they are read: document 01, "Workout card". A distance may
--- stand in km or in metres.
+-- stand in km or in metres. The 23 bytes are laid out by `layout`, as the writer lays them out; `Formed` says each of them
+-- by itself.
 use Prim.Native.Nat.{ℕ, _+_, _*_, _^_, _≤_, _<_}
 use mathlib.Core.List.{List, [], _∷_, _++_}
 use Rattle.numbers.specs.Number.{bytesOf}

@@ -21,12 +21,11 @@ returns c =
 
 returns-2 : tie.Need-returns-2
 returns-2 c =
-    let a = c .before .before .before .before .args in
-    let w = programmed (a .workout) in
-    writes-no-room _ (workoutBytes w) (a .out .now)
-    (draft-inside (limitsOf (a .limits)) w
-    (sym (c .before .before .within-limits .ensures) ∙ not-false _ (c .before .if1 .left)))
-    (omega (arith, c .if2 .taken, contents-length w))
+    let i : tie.Else1 = search needs in
+    let w = programmed (i .before .before .before .args .workout) in
+    writes-no-room _ _ _
+    (draft-inside _ w (sym (i .before .within-limits .ensures) ∙ not-false _ (i .if1 .left)))
+    (omega (arith, contents-length w))
 
 contents-of-requires : tie.Need-contents-of-requires
 contents-of-requires c κs = search needs
