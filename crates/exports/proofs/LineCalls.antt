@@ -1,6 +1,6 @@
 -- Demand 3 of the exported calls: `csafe_feed` and `csafe_finish` in any order, known by nothing but what the contracts
 -- tell the portal. It has the number that is answered, the array, the number of the state and the count.
-use mathlib.Core.Path.{_≡_, sym, ap, ap₂, _∙_, subst}
+use mathlib.Core.Path.{_≡_, refl, sym, ap, ap₂, _∙_, subst}
 use mathlib.Core.List.{List, [], _∷_}
 use lib.ListN.{take}
 use Prim.Native.Nat.{ℕ}
