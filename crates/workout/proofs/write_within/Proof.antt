@@ -2,7 +2,7 @@ use borrow.Author.Needs.{needs}
 use mathlib.Core.Path.{sym, _∙_}
 use borrow.Author.Tests.{not-true, not-false}
 use Rattle.workout.specs.Private.{limitsOf}
-use Rattle.workout.specs.Workout.{programmed, workoutBytes}
+use Rattle.workout.specs.Workout.{programmed}
 use native.Mathlib.Omega.{arith}
 use Rattle.answer.proofs.Drafts.{writes-refusal, writes-no-room}
 use Rattle.workout.proofs.WriteLaws.{contents-length, draft-outside, draft-inside, write-done}
