@@ -1,6 +1,6 @@
 -- The form of a workout's contents and its limits, each rule by itself, and document 01's tables of reading and writing
--- over them. The workout that contents say is `workoutAs`, as
--- in the answer; which contents stand for which workout is said apart from it by `Encoded`.
+-- over them. The workout that contents say is `workoutAs`, as in the answer. `Encoded` says apart from it which contents
+-- stand for which workout.
 use Prim.Native.Nat.{ℕ, _*_, _≤_, _<_}
 use mathlib.Core.Path.{_≡_}
 use mathlib.Core.Logic.{_⊎_}
