@@ -33,16 +33,10 @@ pub(crate) fn nth(s: &[u8], k: usize) -> &[u8] {
 
 // How many groups a stroke parts.
 pub(crate) fn groups(s: &[u8]) -> usize {
-    let mut n = 1;
-    let mut i = 0;
-    while i < s.len() {
-        n = counted(n, s[i] == b'/');
-        i += 1;
-    }
-    n
+    std::num::wrapping_add_usize(count_of(s, b'/'), 1)
 }
 
-// One of them, without the space after the stroke.
+// The group after so many others, without the space after its stroke.
 pub(crate) fn group(s: &[u8], k: usize) -> &[u8] {
     unspaced(upto(after(s, b'/', k), b'/'))
 }
@@ -59,19 +53,18 @@ fn unspaced(s: &[u8]) -> &[u8] {
 
 // How many bytes are not 0.
 pub(crate) fn nonzero(s: &[u8]) -> usize {
+    std::num::wrapping_sub_usize(s.len(), count_of(s, 0))
+}
+
+// How many bytes have a value.
+fn count_of(s: &[u8], value: u8) -> usize {
     let mut n = 0;
     let mut i = 0;
     while i < s.len() {
-        n = counted(n, s[i] != 0);
+        if s[i] == value {
+            n = std::num::wrapping_add_usize(n, 1);
+        }
         i += 1;
-    }
-    n
-}
-
-// A number and one more, where something is to be counted.
-fn counted(n: usize, is_one: bool) -> usize {
-    if is_one {
-        return std::num::wrapping_add_usize(n, 1);
     }
     n
 }
