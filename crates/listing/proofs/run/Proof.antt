@@ -12,11 +12,11 @@ use Rattle.listing.proofs.run.Statement.{statement}
 use Rattle.listing.proofs.run.Tie as tie
 
 abbrev Inv-loop : tie.InvT-loop
-Inv-loop input₀ out₀ state₀ read₀ wrote₀ input out state read wrote =
+Inv-loop fd input₀ out₀ state₀ read₀ wrote₀ input out state read wrote =
     (length input ≡ length input₀) × (length out ≡ length out₀) × Reading state read wrote
 
 abbrev μ-loop : tie.MeasureT-loop
-μ-loop input₀ out₀ state₀ read₀ wrote₀ input out state read wrote = longest - read
+μ-loop fd input₀ out₀ state₀ read₀ wrote₀ input out state read wrote = longest - read
 
 new-requires : tie.Need-new-requires Inv-loop μ-loop
 new-requires c κs = tt
@@ -41,7 +41,7 @@ enum-told : tie.Need-enum-told Inv-loop μ-loop
 enum-told c = search needs
 
 same-length : tie.Need-same-length Inv-loop μ-loop
-same-length c = c .before .before .before .before .fetch .kept .0 ∙ c .before .before .before .before .before .before
+same-length c = c .before .before .before .before .fetch .kept .1 .0 ∙ c .before .before .before .before .before .before
     .before .loop .inv .0
 
 same-length-2 : tie.Need-same-length-2 Inv-loop μ-loop
@@ -74,7 +74,7 @@ close-requires c κs = omega (
 )
 
 same-length-3 : tie.Need-same-length-3 Inv-loop μ-loop
-same-length-3 c = c .before .before .before .before .before .before .before .before .before .before .fetch .kept .0 ∙
+same-length-3 c = c .before .before .before .before .before .before .before .before .before .before .fetch .kept .1 .0 ∙
     c .before .before .before .before .before .before .before .before .before .before .before .before .before .loop
     .inv .0
 
@@ -96,15 +96,15 @@ slice-reshare-prefix-pump c = omega (
   arith,
   bounds (c .before),
   c .before .before .before .before .before .before
-      .fetch .kept .0,
+      .fetch .kept .1 .0,
 )
 
 size : (c : tie.After-known-told Inv-loop μ-loop)
     → c .before .fetched .given .0 .0 ≡ length (take (c .before .fetched .given .0 .0) (c .before .before .before
-    .before .before .fetch .last .0))
+    .before .before .fetch .last .1 .0))
 size c =
-    sym (length-take-le (c .before .fetched .given .0 .0) (c .before .before .before .before .before .fetch .last .0)
-    (omega (arith, bounds c, c .before .before .before .before .before .fetch .kept .0)))
+    sym (length-take-le (c .before .fetched .given .0 .0) (c .before .before .before .before .before .fetch .last .1 .0)
+    (omega (arith, bounds c, c .before .before .before .before .before .fetch .kept .1 .0)))
 
 slice-aggregate-pump : tie.Need-slice-aggregate-pump Inv-loop μ-loop
 slice-aggregate-pump c = size (c .before .before)
@@ -126,7 +126,7 @@ wrapping-add-u64-requires c κs = tt
 
 same-length-5 : tie.Need-same-length-5 Inv-loop μ-loop
 same-length-5 c = c .before .before .before .before .before .before .before .before .before .before .before .before
-    .before .before .before .fetch .kept .0 ∙ c .before .before .before .before .before .before .before .before
+    .before .before .before .fetch .kept .1 .0 ∙ c .before .before .before .before .before .before .before .before
     .before .before .before .before .before .before .before .before .before .before .loop .inv .0
 
 same-length-6 : tie.Need-same-length-6 Inv-loop μ-loop
@@ -140,7 +140,7 @@ returns-3 c =
     let l = k .before .before .before .before .before .before .before .before .loop in
     let p = c .before .before .before .before .before .before .pump in
     write-failed (l .state) (l .read) (l .wrote) (l .inv .2) (take (k .before .fetched .given .0 .0) (k .before
-    .before .before .before .before .fetch .last .0))
+    .before .before .before .before .fetch .last .1 .0))
     (k .before .fetched .given .0 .0) (size k) (bounds k .1) (p .result) (p .ensures)
     (p .result .whole) (not-true _ (c .if2 .taken)) (p .last .1 .1 .0) (c .before .before .wrapping-add-u64 .result)
 
@@ -155,10 +155,10 @@ loop-again c =
     let l = k .before .before .before .before .before .before .before .before .loop in
     let p = c .before .before .before .before .before .before .pump in (
       c .before .before .before .before .before .before .before .before .before .before .before .before .before
-          .before .before .fetch .kept .0 ∙ l .inv .0,
+          .before .before .fetch .kept .1 .0 ∙ l .inv .0,
       p .kept .1 .1 .0 ∙ l .inv .1,
       reading-more (l .state) (l .read) (l .wrote) (l .inv .2) (take (k .before .fetched .given .0 .0) (k .before
-          .before .before .before .before .fetch .last .0))
+          .before .before .before .before .fetch .last .1 .0))
           (k .before .fetched .given .0 .0) (size k) (bounds k .1) (p .result) (p .ensures)
           (not-false _ (c .if2 .left)) (c .before .before .wrapping-add-u64 .result) (c .before .before
           .wrapping-add-u64 .ensures),

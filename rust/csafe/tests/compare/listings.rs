@@ -1,7 +1,10 @@
 //! The listing program against the independent listing, on whole traces.
 
-use std::fs;
-use std::io::{Cursor, Read, Write};
+mod arguments;
+
+use std::ffi::OsStr;
+use std::fs::{self, File};
+use std::io::{Cursor, Write};
 use std::path::{Path, PathBuf};
 use std::process::{Command, Output, Stdio};
 use std::sync::OnceLock;
@@ -42,6 +45,21 @@ fn ours(trace: &[u8], mut piece: impl FnMut(usize) -> usize) -> Output {
     })
 }
 
+/// What our program prints with these arguments.
+fn with_arguments(arguments: &[impl AsRef<OsStr>], input: impl Into<Stdio>) -> Output {
+    Command::new(program())
+        .args(arguments)
+        .stdin(input)
+        .output()
+        .expect("the program runs")
+}
+
+fn sample(name: &str) -> PathBuf {
+    Path::new(env!("CARGO_MANIFEST_DIR"))
+        .join("../../samples")
+        .join(name)
+}
+
 fn theirs(trace: &[u8]) -> Vec<u8> {
     let mut text = Vec::new();
     listing::list(&mut Cursor::new(trace), &mut text).expect("nothing fails in memory");
@@ -49,7 +67,10 @@ fn theirs(trace: &[u8]) -> Vec<u8> {
 }
 
 fn check(what: &str, trace: &[u8], piece: impl FnMut(usize) -> usize) {
-    let printed = ours(trace, piece);
+    check_printed(what, trace, &ours(trace, piece));
+}
+
+fn check_printed(what: &str, trace: &[u8], printed: &Output) {
     assert!(printed.status.success(), "{what}");
     assert!(printed.stderr.is_empty(), "{what}");
     let expected = theirs(trace);
@@ -60,6 +81,13 @@ fn check(what: &str, trace: &[u8], piece: impl FnMut(usize) -> usize) {
         .position(|(ours, theirs)| ours != theirs);
     assert_eq!(line, None, "{what}: the first line that differs");
     assert_eq!(printed.stdout.len(), expected.len(), "{what}");
+}
+
+/// Nothing is listed, not even totals, and standard error has the reason. The exit status is 0 all the same.
+fn check_told(what: &str, printed: &Output, told: &str) {
+    assert!(printed.stdout.is_empty(), "{what}");
+    assert_eq!(String::from_utf8_lossy(&printed.stderr), told, "{what}");
+    assert!(printed.status.success(), "{what}");
 }
 
 /// Frames with stops among them, damage and stray bytes.
@@ -131,13 +159,14 @@ fn long_traces_are_listed_alike_in_any_pieces() {
 
 #[test]
 fn the_samples_are_listed_alike() {
-    let samples = Path::new(env!("CARGO_MANIFEST_DIR")).join("../../samples");
     let mut count = 0;
-    for entry in fs::read_dir(samples).expect("the samples are there") {
+    for entry in fs::read_dir(sample("")).expect("the samples are there") {
         let path = entry.expect("a sample").path();
         if path.extension().is_some_and(|extension| extension == "bin") {
             let bytes = fs::read(&path).expect("a sample");
-            check(&path.display().to_string(), &bytes, |left| left);
+            let what = path.display().to_string();
+            check(&what, &bytes, |left| left);
+            check_printed(&what, &bytes, &with_arguments(&[&path], Stdio::null()));
             count += 1;
         }
     }
@@ -152,21 +181,24 @@ fn an_empty_trace_has_its_totals() {
 
 #[test]
 fn a_read_that_fails_is_told_without_totals() {
-    let directory = fs::File::open(env!("CARGO_MANIFEST_DIR")).expect("a directory");
-    let mut child = Command::new(program())
-        .stdin(directory)
-        .stdout(Stdio::piped())
-        .stderr(Stdio::piped())
-        .spawn()
-        .expect("the program starts");
-    child.wait().expect("the program ends");
-    let (mut printed, mut told) = (Vec::new(), Vec::new());
-    let mut stdout = child.stdout.expect("the output is a pipe");
-    let mut stderr = child.stderr.expect("the errors are a pipe");
-    stdout
-        .read_to_end(&mut printed)
-        .expect("the output is read");
-    stderr.read_to_end(&mut told).expect("the errors are read");
-    assert!(printed.is_empty());
-    assert!(!told.is_empty());
+    let directory = env!("CARGO_MANIFEST_DIR");
+    let opened = File::open(directory).expect("a directory");
+    let none: [&str; 0] = [];
+    let printed = with_arguments(&none, opened);
+    check_told("input", &printed, "standard input: Is a directory\n");
+    let printed = with_arguments(&[directory], Stdio::null());
+    let told = format!("{directory}: Is a directory\n");
+    check_told("a directory by name", &printed, &told);
+}
+
+#[test]
+fn a_write_that_fails_is_told() {
+    let full = File::create("/dev/full").expect("a full device");
+    let printed = Command::new(program())
+        .arg(sample("incident.bin"))
+        .stdout(full)
+        .output()
+        .expect("the program runs");
+    let told = "standard output: No space left on device\n";
+    check_told("a full device", &printed, told);
 }
