@@ -36,7 +36,10 @@ impl Frame<'_> {
     ///
     /// # Errors
     ///
-    /// Those of [`write_standard`] and [`write_extended`].
+    /// In this order, as [`write_standard`] and [`write_extended`]:
+    ///
+    /// 1. [`Error::TooLong`]: the frame would be over [`WIRE_LIMIT`] on the wire.
+    /// 2. [`Error::NoRoom`]: the output is shorter than the frame.
     ///
     /// ```
     /// use csafe::frame::{self, Frame, Kind};

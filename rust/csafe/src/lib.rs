@@ -1,9 +1,15 @@
 //! CSAFE frames, also from a live line, programmed workouts and machine leases for a portal's server.
 //!
 //! The work is done by functions that are proved: each takes any bytes and any numbers, returns, and answers a
-//! result or one numbered refusal, an [`Error`]. A refusal leaves every lent byte as it was, but
-//! that a line reader goes on. After a success the bytes of the output past the result are as they were.
-//! Nothing is allocated, and the standard library is not needed.
+//! result or one numbered refusal, an [`Error`]. A refusal leaves every lent byte as it was, but that a line reader
+//! goes on. After a success the bytes of the output past the result are as they were. This crate passes slices and
+//! numbers to these functions and takes their answers apart, which is tested. It allocates nothing and does without
+//! the standard library.
+//!
+//! - [`frame`] writes a frame, and reads one from a slice.
+//! - [`mod@line`] reads the frames of a live line, in whatever chunks its bytes arrive.
+//! - [`workout`] writes a programmed workout.
+//! - [`lease`] keeps who holds which machine, and writes the frame that stops it for the holder alone.
 //!
 //! A frame's checksum does not cover its addresses, so an accepted frame says nothing sure about who sent it.
 //!
@@ -19,8 +25,8 @@
 //! // A real token comes from a generator whose numbers are hard to guess.
 //! const TOKEN: u64 = 0x5EED_0001;
 //!
-//! /// Reads one chunk of the line and counts the machine's frames in it.
-//! fn replies(reader: &mut LineReader, chunk: &[u8]) -> usize {
+//! /// Reads one chunk of the line, prints what it tells, and counts the frames that name the machine as their source.
+//! fn read_chunk(reader: &mut LineReader, chunk: &[u8]) -> usize {
 //!     let mut count = 0;
 //!     let mut rest = chunk;
 //!     while !rest.is_empty() {
@@ -51,7 +57,7 @@
 //! let mut reader = LineReader::new();
 //! let mut count = 0;
 //! for chunk in chunks {
-//!     count += replies(&mut reader, chunk);
+//!     count += read_chunk(&mut reader, chunk);
 //! }
 //! reader.finish()?;
 //! assert_eq!(count, 2);

@@ -1,7 +1,7 @@
 //! Frames on a live line, whose bytes arrive in chunks of any length.
 //!
 //! [`LineReader`] owns its bytes. The functions of this module do the same on bytes and a number that stand
-//! elsewhere, as in memory that the caller has laid out.
+//! elsewhere. Nobody else may access those during a call; in shared memory that includes other processes.
 
 use core::fmt;
 
@@ -25,8 +25,9 @@ pub struct Fed<'a> {
 /// As [`LineReader::feed`], on lent bytes and the number that goes with them, which is 0 for a new reader. Any number
 /// and any bytes are a reader. The contents of a frame that is told are the first of the bytes.
 ///
-/// Nobody else may access the bytes or the number during the call, other processes included where they are in shared
-/// memory.
+/// # Errors
+///
+/// What is told is refused as by [`LineReader::feed`].
 ///
 /// ```
 /// use csafe::line::{self, HELD_LEN};
