@@ -37,7 +37,10 @@ const TOKENS: [u64; 8] = [
 ];
 
 /// Lengths of tables that are refused.
-const WRONG_LENS: [usize; 6] = [0, 1, 8, 2_047, 2_049, 4_096];
+const WRONG_LENS: [usize; 6] = [0, 1, 8, 2_047, 2_049, LONGEST];
+
+/// The longest table that is lent.
+pub const LONGEST: usize = 4_096;
 
 #[derive(Clone, Copy, Debug, PartialEq, Eq)]
 pub enum Action {
@@ -65,15 +68,21 @@ impl Call {
             2 => Action::Hold,
             _ => Action::Release,
         };
-        let wrong = random.below(24) == 0;
         Call {
             action,
-            address: ADDRESSES[random.below(ADDRESSES.len())],
+            address: match random.below(8) {
+                0 => random.below(0x120) as u32,
+                _ => ADDRESSES[random.below(ADDRESSES.len())],
+            },
             token: match random.below(40) {
                 0 => random.number(),
                 _ => TOKENS[random.below(TOKENS.len())],
             },
-            wrong_len: wrong.then(|| WRONG_LENS[random.below(WRONG_LENS.len())]),
+            wrong_len: match random.below(48) {
+                0 => Some(random.below(LONGEST + 1)).filter(|len| *len != TABLE_LEN),
+                1 => Some(WRONG_LENS[random.below(WRONG_LENS.len())]),
+                _ => None,
+            },
         }
     }
 }

@@ -6,6 +6,8 @@ pub const SEED: u64 = 0x5DEE_CE66_D2B7_9A31;
 /// Marsaglia's xorshift generator with a multiplied output.
 pub struct Xorshift(u64);
 
+// No program uses all of them.
+#[allow(dead_code)]
 impl Xorshift {
     pub fn new() -> Xorshift {
         Xorshift::seeded(SEED)
