@@ -5,8 +5,13 @@
  *
  * A slice is a pointer and a length. Every function takes any numbers and any slices, returns, and answers one
  * 64-bit number: a result or a refusal. A refusal changes no lent byte, but that a line reader goes on. After a result
- * the bytes of the output past it are as they were. The slices and numbers that are lent to one call must not overlap.
- * The pointer of an empty slice is not followed.
+ * the bytes of the output past it are as they were.
+ *
+ * The slices and numbers that are lent to one call must not overlap, and nobody else may access them during the call:
+ * no thread, and where they are in shared memory or a mapped file no other process. The functions take no lock. The
+ * pointer of an empty slice is not followed.
+ *
+ * Bytes and addresses of two digits, as F3, are hexadecimal in these comments.
  */
 #ifndef CSAFE_H
 #define CSAFE_H
@@ -18,30 +23,39 @@
 extern "C" {
 #endif
 
-/* The most bytes of a frame on the wire, and of its contents. */
+/* The most bytes of a frame on the wire, its flags and escapes included. */
 #define CSAFE_WIRE_LIMIT 120
+
+/* The most bytes of a frame's contents. An output of this length has room for every frame that is read. */
 #define CSAFE_CONTENTS_LIMIT 117
 
 /* The bytes of a line reader. */
 #define CSAFE_LINE_LEN 118
 
-/* The bytes of a workout's contents, of a stop on the wire at most, and of a lease table. */
+/* The bytes of a workout's contents. */
 #define CSAFE_WORKOUT_LEN 23
+
+/* The most bytes of a stop on the wire. */
 #define CSAFE_STOP_LIMIT 12
+
+/* The bytes of a lease table. */
 #define CSAFE_TABLE_LEN 2048
 
-/* The numbers of the refusals. The functions below give those that their comments name. */
+/*
+ * The numbers of the refusals that the functions below give. Each function's comment lists its own in order: the first
+ * that holds is given. Any other number than CSAFE_OK is a refusal too.
+ */
 enum {
     CSAFE_OK = 0,
     CSAFE_NO_ROOM = 1,        /* the output is shorter than the result */
     CSAFE_TOO_LONG = 2,       /* the frame is over 120 bytes on the wire */
     CSAFE_BAD_ESCAPE = 3,     /* F3 is not followed by 00 to 03 */
-    CSAFE_TOO_SHORT = 4,      /* too few bytes for the kind of frame */
+    CSAFE_TOO_SHORT = 4,      /* a checksum or an address is missing */
     CSAFE_BAD_CHECKSUM = 5,   /* the checksum is not the one that the contents have */
     CSAFE_TRUNCATED = 6,      /* not one frame from its start flag to its stop flag */
     CSAFE_BAD_ADDRESS = 9,    /* the address is not one of 01 to FC */
     CSAFE_ALREADY_HELD = 10,  /* the address is held already */
-    CSAFE_NOT_HOLDER = 11,    /* the token is not the holder's, or the address is free */
+    CSAFE_NOT_HOLDER = 11,    /* the token is 0 or not the holder's, or the address is free */
     CSAFE_OUT_OF_LIMITS = 12, /* a number of the workout is outside its limits */
     CSAFE_ZERO_TOKEN = 14,    /* the token is 0 */
     CSAFE_BAD_TABLE = 18      /* the lease table is not 2,048 bytes long */
@@ -66,89 +80,102 @@ enum {
  * A refusal has its number and is 0 otherwise. Kind, destination and source are 0 for all functions that read no frame,
  * and the length is 0 for hold and release.
  */
+
+/* The refusal's number, CSAFE_OK for a result. */
 static inline uint8_t csafe_number(uint64_t answer) { return (uint8_t)(answer & 0xFF); }
 
+/* The kind of the frame that was read. */
 static inline uint8_t csafe_kind(uint64_t answer) { return (uint8_t)((answer >> 8) & 0xFF); }
 
+/* The destination of the extended frame that was read. The checksum does not cover it. */
 static inline uint8_t csafe_to(uint64_t answer) { return (uint8_t)((answer >> 16) & 0xFF); }
 
+/* The source of the extended frame that was read. The checksum does not cover it. */
 static inline uint8_t csafe_from(uint64_t answer) { return (uint8_t)((answer >> 24) & 0xFF); }
 
+/* The length of the result. */
 static inline uint32_t csafe_length(uint64_t answer) { return (uint32_t)(answer >> 32); }
 
 /*
- * Writes a standard frame first in the output.
+ * Writes a standard frame first in the output and answers its length on the wire.
  * Refused, in this order: CSAFE_TOO_LONG, CSAFE_NO_ROOM.
  */
 uint64_t csafe_write_standard(const uint8_t *contents, size_t contents_len, uint8_t *out, size_t out_len);
 
 /*
- * Writes an extended frame first in the output. Any addresses are taken.
+ * Writes an extended frame first in the output and answers its length on the wire. Any addresses are taken. A frame
+ * that stops a workout goes through csafe_stop, which asks for the holder's token.
  * Refused, in this order: CSAFE_TOO_LONG, CSAFE_NO_ROOM.
  */
 uint64_t csafe_write_extended(uint8_t to, uint8_t from, const uint8_t *contents, size_t contents_len, uint8_t *out,
                               size_t out_len);
 
 /*
- * Reads a slice that has to be one frame and puts its contents first in the output. The checksum does not cover
- * the addresses.
+ * Reads a slice that has to be one frame, from its start flag to its stop flag. Puts its contents first in the output
+ * and answers its kind, its addresses and the length of its contents.
  * Refused, in this order: CSAFE_TRUNCATED, CSAFE_TOO_LONG, CSAFE_BAD_ESCAPE, CSAFE_TOO_SHORT, CSAFE_BAD_CHECKSUM,
  * CSAFE_NO_ROOM.
  */
 uint64_t csafe_read(const uint8_t *wire, size_t wire_len, uint8_t *out, size_t out_len);
 
 /*
- * A line reader is CSAFE_LINE_LEN bytes and a number that goes with them, its state. A new one has state 0. Any bytes
- * and any number are a reader.
+ * Feeds bytes of a line to a reader up to the first that is answered, and sets `taken` to how many were taken.
  *
- * Feeds bytes of a line up to the first that is answered and sets `taken` to how many were taken. With no answer, which
- * is kind CSAFE_NOTHING, all are taken. The next call starts right after the last byte taken. However a stream is cut
- * into calls, its answers are those of its bytes fed one by one. Contents are the first bytes of the reader.
- * Refused: CSAFE_TRUNCATED where a start flag comes before the stop flag; at the stop flag, in this order,
- * CSAFE_TOO_LONG, CSAFE_BAD_ESCAPE, CSAFE_TOO_SHORT, CSAFE_BAD_CHECKSUM.
+ * A reader is CSAFE_LINE_LEN bytes and a number that goes with them, its state. A new one has state 0. Any bytes and
+ * any number are a reader.
+ *
+ * A candidate for a frame begins at a start flag. At its stop flag it is answered as csafe_read answers a slice, its
+ * contents being the first bytes of the reader, or refused. Where nothing is told, the kind is CSAFE_NOTHING and all
+ * bytes were taken. The next call has to start right after the last byte taken. However a stream is cut into calls, its
+ * answers are those of its bytes fed one by one.
+ * Refused where a start flag comes before the stop flag: CSAFE_TRUNCATED, and the flag begins the next candidate.
+ * Refused at the stop flag, in this order: CSAFE_TOO_LONG, CSAFE_BAD_ESCAPE, CSAFE_TOO_SHORT, CSAFE_BAD_CHECKSUM.
  */
 uint64_t csafe_feed(uint8_t bytes[CSAFE_LINE_LEN], uint64_t *state, const uint8_t *input, size_t input_len,
                     uint64_t *taken);
 
 /*
- * Ends the input of a line reader, which is as new afterwards. Its bytes stay as they are.
- * Refused: CSAFE_TRUNCATED where a frame has begun and not ended. Else the kind is CSAFE_NOTHING.
+ * Ends the input of a reader, which is as new afterwards. Its bytes stay as they are. The kind is CSAFE_NOTHING.
+ * Refused: CSAFE_TRUNCATED where a candidate for a frame was open.
  */
 uint64_t csafe_finish(uint64_t *state);
 
 /*
- * Writes the contents of a workout over a distance, CSAFE_WORKOUT_LEN bytes, first in the output. The distance is
- * 100 to 50,000 m, the split at least 100 m and at most the distance, in at most 30 splits.
+ * Writes the contents of a workout over a distance first in the output and answers their length, CSAFE_WORKOUT_LEN.
+ * The distance is 100 to 50,000 m, the split at least 100 m and at most the distance. There are at most 30 splits, the
+ * last of which may be shorter. The power is any number.
  * Refused, in this order: CSAFE_OUT_OF_LIMITS, CSAFE_NO_ROOM.
  */
 uint64_t csafe_write_distance_workout(uint32_t metres, uint32_t split_metres, uint16_t watts, uint8_t *out,
                                       size_t out_len);
 
 /*
- * Writes the contents of a workout over a time, CSAFE_WORKOUT_LEN bytes, first in the output. The time is 20 to
- * 35,999 s, the split at least 2,000 hundredths of a second and at most the time, in at most 30 splits.
+ * Writes the contents of a workout over a time first in the output and answers their length, CSAFE_WORKOUT_LEN. The
+ * time is 20 to 35,999 s, the split at least 2,000 hundredths of a second and at most the time. There are at most 30
+ * splits, the last of which may be shorter. The power is any number.
  * Refused, in this order: CSAFE_OUT_OF_LIMITS, CSAFE_NO_ROOM.
  */
 uint64_t csafe_write_time_workout(uint32_t seconds, uint32_t split_hundredths, uint16_t watts, uint8_t *out,
                                   size_t out_len);
 
 /*
- * A lease table has eight bytes for each of 256 addresses in order, lowest byte first, all 0 where the address is
- * free. A new table is all 0. Hold and release change the eight bytes of their own address alone.
+ * Takes a free address on a lease table. Only its own eight bytes change.
  *
- * Takes a free address.
+ * A table has eight bytes for each of 256 addresses in order, lowest byte first, all 0 where the address is free. A new
+ * table is all 0. A token has to be hard to guess. Nothing is promised about how long a comparison of tokens takes.
  * Refused, in this order: CSAFE_BAD_TABLE, CSAFE_BAD_ADDRESS, CSAFE_ZERO_TOKEN, CSAFE_ALREADY_HELD.
  */
 uint64_t csafe_hold(uint8_t *table, size_t table_len, uint32_t address, uint64_t token);
 
 /*
- * Frees an address for its holder.
+ * Frees an address for its holder. Only its own eight bytes change.
  * Refused, in this order: CSAFE_BAD_TABLE, CSAFE_BAD_ADDRESS, CSAFE_NOT_HOLDER.
  */
 uint64_t csafe_release(uint8_t *table, size_t table_len, uint32_t address, uint64_t token);
 
 /*
- * Writes, for the holder, the frame that ends the machine's workout. The holder keeps the address.
+ * Writes, for the holder, the frame that ends the machine's workout first in the output and answers its length on the
+ * wire, which is at most CSAFE_STOP_LIMIT. The holder keeps the address.
  * Refused, in this order: CSAFE_BAD_TABLE, CSAFE_BAD_ADDRESS, CSAFE_NOT_HOLDER, CSAFE_NO_ROOM.
  */
 uint64_t csafe_stop(const uint8_t *table, size_t table_len, uint32_t address, uint64_t token, uint8_t *out,

@@ -1,19 +1,29 @@
-use std::fmt;
+use core::fmt;
 
 /// Why a call was refused: a variant for each number of the table of refusals.
 ///
-/// The functions of this crate answer 1 to 6, 9 to 12, 14 and 18. The others are given by the command, reply and
-/// workout readers, and stand here so that one table serves a portal's logs.
+/// The section "Errors" of each function lists what it can give, in order: the first that holds is given. The
+/// functions of this crate give 1 to 6, 9 to 12, 14 and 18. The others are those of the command, reply and workout
+/// readers, and stand here so that one table serves a portal's logs.
+///
+/// A static library of another version may answer a number that stands for nothing here. Any function tells that as
+/// [`Error::Unknown`], so that it is taken neither for a result nor for another refusal.
 ///
 /// ```
 /// use csafe::{frame, Error};
 ///
-/// let refused = frame::read(&[0xF1, 0x24, 0x02, 0x03, 0x00, 0x24, 0xF2], &mut [0; 8]);
-/// assert_eq!(refused, Err(Error::BadChecksum));
+/// let wire = [0xF1, 0x24, 0x02, 0x03, 0x00, 0x24, 0xF2];
+/// match frame::read(&wire, &mut [0; frame::CONTENTS_LIMIT]) {
+///     Ok(frame) => panic!("{frame:?}"),
+///     Err(Error::BadChecksum) => {}
+///     Err(error) => panic!("{error}"),
+/// }
+///
 /// assert_eq!(Error::BadChecksum.number(), 5);
 /// assert_eq!(Error::from_number(5), Some(Error::BadChecksum));
 /// ```
 #[derive(Clone, Copy, Debug, PartialEq, Eq, Hash)]
+#[non_exhaustive]
 #[repr(u8)]
 pub enum Error {
     /// The output is shorter than the result.
@@ -30,7 +40,7 @@ pub enum Error {
     Truncated = 6,
     /// A count is missing or runs beyond the end, or an item's data is over 255 bytes.
     BadCount = 7,
-    /// The status byte is one that no status has.
+    /// Bit 6 of the status byte is set, or its state is unknown.
     BadStatus = 8,
     /// The address is not one of 01 to FC.
     BadAddress = 9,
@@ -48,41 +58,80 @@ pub enum Error {
     Absent = 15,
     /// The lent lease table is not 2,048 bytes long.
     BadTable = 18,
+    /// The static library answered a number that no refusal of this version has.
+    #[non_exhaustive]
+    Unknown {
+        /// The number.
+        number: u8,
+    } = 0,
 }
 
 impl Error {
-    /// Every refusal, by its number.
-    pub const ALL: [Error; 16] = [
-        Error::NoRoom,
-        Error::TooLong,
-        Error::BadEscape,
-        Error::TooShort,
-        Error::BadChecksum,
-        Error::Truncated,
-        Error::BadCount,
-        Error::BadStatus,
-        Error::BadAddress,
-        Error::AlreadyHeld,
-        Error::NotHolder,
-        Error::OutOfLimits,
-        Error::NotWorkout,
-        Error::ZeroToken,
-        Error::Absent,
-        Error::BadTable,
-    ];
-
-    /// The number of the table.
+    /// The number of the table, or the unknown one.
     #[inline]
-    pub fn number(self) -> u8 {
-        self as u8
+    #[must_use]
+    pub const fn number(self) -> u8 {
+        match self {
+            Error::NoRoom => 1,
+            Error::TooLong => 2,
+            Error::BadEscape => 3,
+            Error::TooShort => 4,
+            Error::BadChecksum => 5,
+            Error::Truncated => 6,
+            Error::BadCount => 7,
+            Error::BadStatus => 8,
+            Error::BadAddress => 9,
+            Error::AlreadyHeld => 10,
+            Error::NotHolder => 11,
+            Error::OutOfLimits => 12,
+            Error::NotWorkout => 13,
+            Error::ZeroToken => 14,
+            Error::Absent => 15,
+            Error::BadTable => 18,
+            Error::Unknown { number } => number,
+        }
     }
 
-    /// The refusal with this number. There is none for 0, 16, 17 and anything above 18.
+    /// The refusal with this number, and none for 0, which stands for a result.
+    ///
+    /// ```
+    /// use csafe::Error;
+    ///
+    /// assert_eq!(Error::from_number(0), None);
+    /// assert_eq!(Error::from_number(6), Some(Error::Truncated));
+    /// assert!(matches!(Error::from_number(200), Some(Error::Unknown { number: 200, .. })));
+    /// ```
     #[inline]
-    pub fn from_number(number: u8) -> Option<Error> {
-        Error::ALL
-            .into_iter()
-            .find(|error| error.number() == number)
+    #[must_use]
+    pub const fn from_number(number: u8) -> Option<Error> {
+        match number {
+            0 => None,
+            _ => Some(Error::with_number(number)),
+        }
+    }
+
+    /// The refusal with this number, which is not 0.
+    #[inline]
+    pub(crate) const fn with_number(number: u8) -> Error {
+        match number {
+            1 => Error::NoRoom,
+            2 => Error::TooLong,
+            3 => Error::BadEscape,
+            4 => Error::TooShort,
+            5 => Error::BadChecksum,
+            6 => Error::Truncated,
+            7 => Error::BadCount,
+            8 => Error::BadStatus,
+            9 => Error::BadAddress,
+            10 => Error::AlreadyHeld,
+            11 => Error::NotHolder,
+            12 => Error::OutOfLimits,
+            13 => Error::NotWorkout,
+            14 => Error::ZeroToken,
+            15 => Error::Absent,
+            18 => Error::BadTable,
+            _ => Error::Unknown { number },
+        }
     }
 }
 
@@ -102,7 +151,7 @@ impl fmt::Display for Error {
             Error::BadCount => {
                 "a count is missing or runs beyond the end, or an item's data is over 255 bytes"
             }
-            Error::BadStatus => "the status byte is one that no status has",
+            Error::BadStatus => "bit 6 of the status byte is set, or its state is unknown",
             Error::BadAddress => "the address is not one of 01 to FC",
             Error::AlreadyHeld => "the address is held already",
             Error::NotHolder => "the token is not the holder's, or the address is free",
@@ -111,34 +160,48 @@ impl fmt::Display for Error {
             Error::ZeroToken => "the token is 0",
             Error::Absent => "there is no n-th command or item",
             Error::BadTable => "the lent lease table is not 2,048 bytes long",
+            Error::Unknown { number } => {
+                return write!(
+                    f,
+                    "the static library answered {number}, which no refusal of this version has"
+                )
+            }
         })
     }
 }
 
-impl std::error::Error for Error {}
+impl core::error::Error for Error {}
 
 #[cfg(test)]
 mod tests {
+    use std::collections::HashSet;
+    use std::string::ToString;
+
     use super::Error;
 
     #[test]
-    fn every_number_names_one_refusal() {
-        for number in 0..=u8::MAX {
-            let known = matches!(number, 1..=15 | 18);
-            let found = Error::from_number(number);
-            assert_eq!(found.is_some(), known, "number {number}");
-            if let Some(error) = found {
-                assert_eq!(error.number(), number);
-            }
+    fn every_number_but_0_is_a_refusal_with_that_number() {
+        assert_eq!(Error::from_number(0), None);
+        for number in 1..=u8::MAX {
+            let error = Error::from_number(number).expect("a refusal");
+            assert_eq!(error.number(), number);
+            let named = !matches!(error, Error::Unknown { .. });
+            assert_eq!(named, matches!(number, 1..=15 | 18), "number {number}");
         }
     }
 
     #[test]
     fn every_refusal_has_its_own_text() {
-        for (i, error) in Error::ALL.into_iter().enumerate() {
-            for other in &Error::ALL[..i] {
-                assert_ne!(error.to_string(), other.to_string());
-            }
-        }
+        let texts: HashSet<_> = (1..=u8::MAX)
+            .filter_map(Error::from_number)
+            .map(|error| error.to_string())
+            .collect();
+        assert_eq!(texts.len(), 255);
+    }
+
+    #[test]
+    fn an_unknown_number_is_shown() {
+        let unknown = Error::from_number(17).expect("a refusal");
+        assert!(unknown.to_string().contains("answered 17,"));
     }
 }

@@ -1,6 +1,11 @@
-//! The boundary to the static library. Nothing checks these declarations against the library's source, so they
-//! are kept in the order and with the names of `csafe.h`.
+//! The boundary to the static library, and the only module with unsafe code.
+//!
+//! The declarations stand in the order and with the names of `csafe.h`. The test `declarations` compares both with the
+//! exported functions of the Rattle source, name by name and type by type.
 
+use core::sync::atomic::{compiler_fence, Ordering};
+
+use crate::frame::{Frame, Kind};
 use crate::line::HELD_LEN;
 use crate::Error;
 
@@ -20,6 +25,10 @@ mod exported {
     }
 }
 
+/// The kind of an extended frame in an answer, and what stands for a kind where the line reader told nothing.
+const EXTENDED: u8 = 1;
+const NOTHING: u8 = 2;
+
 /// What each exported function answers: from the lowest byte on a refusal's number or 0, the kind, the two
 /// addresses, and in the upper half the length.
 #[derive(Clone, Copy)]
@@ -27,41 +36,50 @@ pub(crate) struct Answer(u64);
 
 impl Answer {
     /// The refusal that the answer tells, or the answer itself.
-    ///
-    /// The library's contracts allow no number outside the table. Should an archive of another version give one,
-    /// it is told as `Truncated`, so that it is never taken for a result.
     #[inline]
     pub(crate) fn accepted(self) -> Result<Answer, Error> {
         match self.byte(0) {
             0 => Ok(self),
-            number => Err(Error::from_number(number).unwrap_or(Error::Truncated)),
+            number => {
+                // Keeps the compiler from merging this match with the one on the number, after which a result would
+                // take a jump through a table as well.
+                compiler_fence(Ordering::SeqCst);
+                Err(Error::with_number(number))
+            }
         }
     }
 
     /// Whether the line reader told anything. All other functions always do.
     #[inline]
     pub(crate) fn is_told(self) -> bool {
-        self.byte(1) != 2
+        self.byte(1) != NOTHING
     }
 
-    #[inline]
-    pub(crate) fn is_extended(self) -> bool {
-        self.byte(1) == 1
-    }
-
-    #[inline]
-    pub(crate) fn to(self) -> u8 {
-        self.byte(2)
-    }
-
-    #[inline]
-    pub(crate) fn from(self) -> u8 {
-        self.byte(3)
-    }
-
+    /// The length of the result.
     #[inline]
     pub(crate) fn len(self) -> usize {
         (self.0 >> 32) as usize
+    }
+
+    /// The frame that was read, whose contents are the first of these bytes. The contracts of the library keep the
+    /// length within them.
+    #[inline]
+    pub(crate) fn frame_in(self, bytes: &[u8]) -> Frame<'_> {
+        Frame {
+            kind: self.kind(),
+            contents: &bytes[..self.len()],
+        }
+    }
+
+    #[inline]
+    fn kind(self) -> Kind {
+        if self.byte(1) == EXTENDED {
+            return Kind::Extended {
+                to: self.byte(2),
+                from: self.byte(3),
+            };
+        }
+        Kind::Standard
     }
 
     #[inline]
@@ -178,19 +196,29 @@ mod tests {
 
     #[test]
     fn an_answer_is_taken_apart() {
-        let answer = Answer(0x0000_0006_F105_0100);
-        assert!(answer.accepted().is_ok());
-        assert!(answer.is_extended());
-        assert_eq!((answer.to(), answer.from(), answer.len()), (0x05, 0xF1, 6));
-        assert!(!Answer(0).is_extended());
+        let bytes = [0x76, 0x04, 0x13, 0x02, 0x01, 0x02, 0x60];
+        let extended = Answer(0x0000_0006_F105_0100);
+        assert!(extended.accepted().is_ok());
+        assert!(extended.is_told());
+        assert_eq!(extended.len(), 6);
+        let kind = Kind::Extended {
+            to: 0x05,
+            from: 0xF1,
+        };
+        let contents = &bytes[..6];
+        assert_eq!(extended.frame_in(&bytes), Frame { kind, contents });
+        let empty = Answer(0);
+        assert!(empty.is_told());
+        let (kind, contents) = (Kind::Standard, &bytes[..0]);
+        assert_eq!(empty.frame_in(&bytes), Frame { kind, contents });
+        assert!(!Answer(0x200).is_told());
     }
 
     #[test]
     fn no_number_but_0_is_a_result() {
         for number in 1..=u8::MAX {
             let refused = Answer(u64::from(number)).accepted().err();
-            let expected = Error::from_number(number).unwrap_or(Error::Truncated);
-            assert_eq!(refused, Some(expected), "number {number}");
+            assert_eq!(refused.map(Error::number), Some(number));
         }
     }
 

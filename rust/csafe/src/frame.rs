@@ -8,42 +8,65 @@ pub const WIRE_LIMIT: usize = 120;
 /// The most bytes of contents that fit into a frame. An output of this length has room for every frame that is read.
 pub const CONTENTS_LIMIT: usize = 117;
 
-/// What a frame is, apart from its contents, which are the first `len` bytes of the output or of a line reader.
+/// What a frame is apart from its contents.
 #[derive(Clone, Copy, Debug, PartialEq, Eq, Hash)]
-pub enum Frame {
+pub enum Kind {
     /// A frame without addresses.
-    Standard { len: usize },
-    /// A frame with a destination and a source. The checksum does not cover them.
-    Extended { to: u8, from: u8, len: usize },
+    Standard,
+    /// A frame with addresses, which may be any. The checksum does not cover them.
+    Extended {
+        /// The destination.
+        to: u8,
+        /// The source.
+        from: u8,
+    },
 }
 
-impl Frame {
-    /// The number of bytes of contents.
-    #[inline]
-    pub fn contents_len(self) -> usize {
-        match self {
-            Frame::Standard { len } | Frame::Extended { len, .. } => len,
-        }
-    }
+/// A frame whose contents stand elsewhere: in the output of [`read`], in a line reader, or where the caller has them.
+#[derive(Clone, Copy, Debug, PartialEq, Eq, Hash)]
+pub struct Frame<'a> {
+    /// Whether it has addresses, and which.
+    pub kind: Kind,
+    /// Its contents, without escapes.
+    pub contents: &'a [u8],
+}
 
-    /// The frame that an answer tells, which is no refusal.
+impl Frame<'_> {
+    /// Writes the frame first in the output and answers its length on the wire.
+    ///
+    /// # Errors
+    ///
+    /// In this order, as [`write_standard`] and [`write_extended`]:
+    ///
+    /// 1. [`Error::TooLong`]: the frame would be over [`WIRE_LIMIT`] on the wire.
+    /// 2. [`Error::NoRoom`]: the output is shorter than the frame.
+    ///
+    /// ```
+    /// use csafe::frame::{self, Frame, Kind};
+    ///
+    /// let frame = Frame { kind: Kind::Extended { to: 0x05, from: 0x00 }, contents: &[0x80] };
+    /// let mut wire = [0; frame::WIRE_LIMIT];
+    /// let len = frame.write(&mut wire)?;
+    /// assert_eq!(frame::read(&wire[..len], &mut [0; frame::CONTENTS_LIMIT]), Ok(frame));
+    /// # Ok::<(), csafe::Error>(())
+    /// ```
     #[inline]
-    pub(crate) fn told(answer: ffi::Answer) -> Frame {
-        let len = answer.len();
-        if answer.is_extended() {
-            return Frame::Extended {
-                to: answer.to(),
-                from: answer.from(),
-                len,
-            };
+    pub fn write(&self, out: &mut [u8]) -> Result<usize, Error> {
+        match self.kind {
+            Kind::Standard => write_standard(self.contents, out),
+            Kind::Extended { to, from } => write_extended(to, from, self.contents, out),
         }
-        Frame::Standard { len }
     }
 }
 
 /// Writes a standard frame first in the output and answers its length on the wire.
 ///
-/// Refused, in this order, as [`Error::TooLong`] and [`Error::NoRoom`].
+/// # Errors
+///
+/// In this order:
+///
+/// 1. [`Error::TooLong`]: the frame would be over [`WIRE_LIMIT`] on the wire.
+/// 2. [`Error::NoRoom`]: the output is shorter than the frame.
 ///
 /// ```
 /// use csafe::frame;
@@ -63,7 +86,12 @@ pub fn write_standard(contents: &[u8], out: &mut [u8]) -> Result<usize, Error> {
 /// A frame that stops a workout goes through [`LeaseTable::stop`](crate::LeaseTable::stop), which asks for the
 /// holder's token.
 ///
-/// Refused, in this order, as [`Error::TooLong`] and [`Error::NoRoom`].
+/// # Errors
+///
+/// In this order:
+///
+/// 1. [`Error::TooLong`]: the frame would be over [`WIRE_LIMIT`] on the wire.
+/// 2. [`Error::NoRoom`]: the output is shorter than the frame.
 ///
 /// ```
 /// use csafe::frame;
@@ -80,24 +108,35 @@ pub fn write_extended(to: u8, from: u8, contents: &[u8], out: &mut [u8]) -> Resu
         .len())
 }
 
-/// Reads a slice that has to be one frame, from its start flag to its stop flag, and puts its contents first in the
-/// output.
+/// Reads a slice that has to be one frame, from its start flag to its stop flag. Its contents are put first in the
+/// output, and the frame that is answered borrows them there.
 ///
-/// Refused, in this order, as [`Error::Truncated`], [`Error::TooLong`], [`Error::BadEscape`], [`Error::TooShort`],
-/// [`Error::BadChecksum`] and [`Error::NoRoom`].
+/// # Errors
+///
+/// In this order:
+///
+/// 1. [`Error::Truncated`]: the slice does not begin with a start flag, does not end with a stop flag, or has a flag
+///    between them.
+/// 2. [`Error::TooLong`]: it is over [`WIRE_LIMIT`] long.
+/// 3. [`Error::BadEscape`]: F3 is not followed by 00 to 03.
+/// 4. [`Error::TooShort`]: a checksum or an address is missing.
+/// 5. [`Error::BadChecksum`]: the checksum is not the one that the contents have.
+/// 6. [`Error::NoRoom`]: the output is shorter than the contents.
 ///
 /// ```
-/// use csafe::{frame, Error, Frame};
+/// use csafe::frame::{self, Kind};
+/// use csafe::Error;
 ///
-/// let mut contents = [0; frame::CONTENTS_LIMIT];
-/// let read = frame::read(&[0xF1, 0x24, 0x02, 0x03, 0x00, 0x25, 0xF2], &mut contents)?;
-/// assert_eq!(read, Frame::Standard { len: 4 });
-/// assert_eq!(contents[..4], [0x24, 0x02, 0x03, 0x00]);
+/// let mut out = [0; frame::CONTENTS_LIMIT];
+/// let frame = frame::read(&[0xF1, 0x24, 0x02, 0x03, 0x00, 0x25, 0xF2], &mut out)?;
+/// assert_eq!(frame.kind, Kind::Standard);
+/// assert_eq!(frame.contents, [0x24, 0x02, 0x03, 0x00]);
 ///
-/// assert_eq!(frame::read(&[0xF1, 0xF3, 0x04, 0xF2], &mut contents), Err(Error::BadEscape));
-/// # Ok::<(), csafe::Error>(())
+/// assert_eq!(frame::read(&[0xF1, 0xF3, 0x04, 0xF2], &mut out), Err(Error::BadEscape));
+/// # Ok::<(), Error>(())
 /// ```
 #[inline]
-pub fn read(wire: &[u8], out: &mut [u8]) -> Result<Frame, Error> {
-    ffi::read(wire, out).accepted().map(Frame::told)
+pub fn read<'a>(wire: &[u8], out: &'a mut [u8]) -> Result<Frame<'a>, Error> {
+    let answer = ffi::read(wire, out).accepted()?;
+    Ok(answer.frame_in(out))
 }

@@ -1,12 +1,19 @@
 //! Who may stop which machine: a token for each address.
 //!
 //! [`LeaseTable`] owns its bytes. The functions of this module do the same on bytes that stand elsewhere, as in
-//! shared memory or a mapped file, and refuse any other length than [`TABLE_LEN`] as [`Error::BadTable`] first.
+//! shared memory or a mapped file. They take a table of any length and any number as an address, and refuse what is
+//! none.
+//!
+//! # What the caller has to see to
+//!
+//! Nobody else may access lent bytes during a call: no thread, and where they are in shared memory or a mapped file no
+//! other process. The functions take no lock. A mutex, or whatever keeps the others away, is the caller's.
 //!
 //! A token is as good as the caller's choice of it: it has to be hard to guess, and the line to the machine is not
-//! secret.
+//! secret. Nothing is promised about how long a comparison of tokens takes, so the time of a refusal may tell how much
+//! of a token was right.
 
-use std::fmt;
+use core::fmt;
 
 use crate::{ffi, Error};
 
@@ -16,27 +23,66 @@ pub const TABLE_LEN: usize = 2_048;
 /// The most bytes that a stop has on the wire.
 pub const STOP_LIMIT: usize = 12;
 
-/// As [`LeaseTable::hold`], on lent bytes.
+/// Takes a free address on a lent table. Only its own eight bytes change.
+///
+/// # Errors
+///
+/// In this order:
+///
+/// 1. [`Error::BadTable`]: the table is not [`TABLE_LEN`] long.
+/// 2. [`Error::BadAddress`]: the address is not one of 01 to FC.
+/// 3. [`Error::ZeroToken`]: the token is 0.
+/// 4. [`Error::AlreadyHeld`]: the address is held, with whatever token.
+///
+/// ```
+/// use csafe::{lease, Error};
+///
+/// let mut table = [0; lease::TABLE_LEN];
+/// lease::hold(&mut table, 0x05, 71)?;
+/// assert_eq!(table[8 * 0x05], 71);
+/// assert_eq!(lease::hold(&mut table[1..], 0x05, 71), Err(Error::BadTable));
+/// # Ok::<(), Error>(())
+/// ```
 #[inline]
 pub fn hold(table: &mut [u8], address: u32, token: u64) -> Result<(), Error> {
     ffi::hold(table, address, token).accepted()?;
     Ok(())
 }
 
-/// As [`LeaseTable::release`], on lent bytes.
+/// Frees an address on a lent table for its holder. Only its own eight bytes change.
+///
+/// # Errors
+///
+/// In this order:
+///
+/// 1. [`Error::BadTable`]: the table is not [`TABLE_LEN`] long.
+/// 2. [`Error::BadAddress`]: the address is not one of 01 to FC.
+/// 3. [`Error::NotHolder`]: the token is 0 or not the holder's, or the address is free.
 #[inline]
 pub fn release(table: &mut [u8], address: u32, token: u64) -> Result<(), Error> {
     ffi::release(table, address, token).accepted()?;
     Ok(())
 }
 
-/// As [`LeaseTable::stop`], on lent bytes.
+/// Writes, for the holder of an address on a lent table, the frame that ends the machine's workout, and answers its
+/// length, which is at most [`STOP_LIMIT`].
+///
+/// # Errors
+///
+/// In this order:
+///
+/// 1. [`Error::BadTable`]: the table is not [`TABLE_LEN`] long.
+/// 2. [`Error::BadAddress`]: the address is not one of 01 to FC.
+/// 3. [`Error::NotHolder`]: the token is 0 or not the holder's, or the address is free.
+/// 4. [`Error::NoRoom`]: the output is shorter than the frame.
 #[inline]
 pub fn stop(table: &[u8], address: u32, token: u64, out: &mut [u8]) -> Result<usize, Error> {
     Ok(ffi::stop(table, address, token, out).accepted()?.len())
 }
 
 /// A table of the tokens that hold the machines, one for each address.
+///
+/// It is [`TABLE_LEN`] bytes where it stands, and a move copies them.
 ///
 /// ```
 /// use csafe::{lease, Error, LeaseTable};
@@ -56,71 +102,102 @@ pub fn stop(table: &[u8], address: u32, token: u64, out: &mut [u8]) -> Result<us
 /// ```
 #[derive(Clone, PartialEq, Eq)]
 pub struct LeaseTable {
-    bytes: Box<[u8; TABLE_LEN]>,
+    bytes: [u8; TABLE_LEN],
 }
 
 impl LeaseTable {
     /// A table on which every address is free.
-    pub fn new() -> LeaseTable {
-        LeaseTable {
-            bytes: Box::new([0; TABLE_LEN]),
-        }
+    #[inline]
+    #[must_use]
+    pub const fn new() -> LeaseTable {
+        LeaseTable::from_bytes([0; TABLE_LEN])
     }
 
-    /// A table from bytes that were kept. Another length than [`TABLE_LEN`] is [`Error::BadTable`].
+    /// A table from bytes that were kept. Any bytes are a table. A slice is taken by [`TryFrom`].
     ///
     /// ```
     /// use csafe::{Error, LeaseTable};
     ///
     /// let mut leases = LeaseTable::new();
     /// leases.hold(0x05, 71)?;
-    /// let kept = leases.as_bytes().to_vec();
-    /// assert!(LeaseTable::from_bytes(kept)? == leases);
-    /// assert_eq!(LeaseTable::from_bytes(vec![0; 2_047]).err(), Some(Error::BadTable));
+    /// let kept = *leases.as_bytes();
+    /// assert!(LeaseTable::from_bytes(kept) == leases);
+    /// assert!(LeaseTable::try_from(&kept[..])? == leases);
+    /// assert_eq!(LeaseTable::try_from(&kept[1..]).err(), Some(Error::BadTable));
     /// # Ok::<(), Error>(())
     /// ```
-    pub fn from_bytes(bytes: impl Into<Box<[u8]>>) -> Result<LeaseTable, Error> {
-        match bytes.into().try_into() {
-            Ok(bytes) => Ok(LeaseTable { bytes }),
-            Err(_) => Err(Error::BadTable),
-        }
+    #[inline]
+    #[must_use]
+    pub const fn from_bytes(bytes: [u8; TABLE_LEN]) -> LeaseTable {
+        LeaseTable { bytes }
     }
 
     /// The table's bytes. They hold the tokens in the clear.
-    pub fn as_bytes(&self) -> &[u8; TABLE_LEN] {
+    #[inline]
+    #[must_use]
+    pub const fn as_bytes(&self) -> &[u8; TABLE_LEN] {
         &self.bytes
     }
 
     /// Takes a free address. Only its own eight bytes change.
     ///
-    /// Refused, in this order, as [`Error::BadAddress`], [`Error::ZeroToken`] and [`Error::AlreadyHeld`], the last
-    /// for the holder's own token too.
+    /// # Errors
+    ///
+    /// In this order:
+    ///
+    /// 1. [`Error::BadAddress`]: the address is not one of 01 to FC.
+    /// 2. [`Error::ZeroToken`]: the token is 0.
+    /// 3. [`Error::AlreadyHeld`]: the address is held, with whatever token.
     #[inline]
-    pub fn hold(&mut self, address: u32, token: u64) -> Result<(), Error> {
-        hold(self.bytes.as_mut_slice(), address, token)
+    pub fn hold(&mut self, address: u8, token: u64) -> Result<(), Error> {
+        hold(&mut self.bytes, address.into(), token)
     }
 
     /// Frees an address for its holder. Only its own eight bytes change.
     ///
-    /// Refused, in this order, as [`Error::BadAddress`] and [`Error::NotHolder`].
+    /// # Errors
+    ///
+    /// In this order:
+    ///
+    /// 1. [`Error::BadAddress`]: the address is not one of 01 to FC.
+    /// 2. [`Error::NotHolder`]: the token is 0 or not the holder's, or the address is free.
     #[inline]
-    pub fn release(&mut self, address: u32, token: u64) -> Result<(), Error> {
-        release(self.bytes.as_mut_slice(), address, token)
+    pub fn release(&mut self, address: u8, token: u64) -> Result<(), Error> {
+        release(&mut self.bytes, address.into(), token)
     }
 
-    /// Writes, for the holder, the frame that ends the machine's workout, and answers its length. The holder keeps
-    /// the address and may stop it again.
+    /// Writes, for the holder, the frame that ends the machine's workout, and answers its length, which is at most
+    /// [`STOP_LIMIT`]. The holder keeps the address and may stop it again.
     ///
-    /// Refused, in this order, as [`Error::BadAddress`], [`Error::NotHolder`] and [`Error::NoRoom`].
+    /// # Errors
+    ///
+    /// In this order:
+    ///
+    /// 1. [`Error::BadAddress`]: the address is not one of 01 to FC.
+    /// 2. [`Error::NotHolder`]: the token is 0 or not the holder's, or the address is free.
+    /// 3. [`Error::NoRoom`]: the output is shorter than the frame.
     #[inline]
-    pub fn stop(&self, address: u32, token: u64, out: &mut [u8]) -> Result<usize, Error> {
-        stop(self.bytes.as_slice(), address, token, out)
+    pub fn stop(&self, address: u8, token: u64, out: &mut [u8]) -> Result<usize, Error> {
+        stop(&self.bytes, address.into(), token, out)
     }
 }
 
 impl Default for LeaseTable {
+    #[inline]
     fn default() -> LeaseTable {
         LeaseTable::new()
+    }
+}
+
+/// Another length than [`TABLE_LEN`] is [`Error::BadTable`].
+impl TryFrom<&[u8]> for LeaseTable {
+    type Error = Error;
+
+    fn try_from(bytes: &[u8]) -> Result<LeaseTable, Error> {
+        match bytes.try_into() {
+            Ok(bytes) => Ok(LeaseTable::from_bytes(bytes)),
+            Err(_) => Err(Error::BadTable),
+        }
     }
 }
 
@@ -128,5 +205,34 @@ impl Default for LeaseTable {
 impl fmt::Debug for LeaseTable {
     fn fmt(&self, f: &mut fmt::Formatter<'_>) -> fmt::Result {
         f.debug_struct("LeaseTable").finish_non_exhaustive()
+    }
+}
+
+#[cfg(test)]
+mod tests {
+    use super::*;
+
+    /// Calls on every address by the holder and by others, on a table that is lent and on one that is owned.
+    #[test]
+    fn an_owned_table_answers_as_a_lent_one() {
+        let (mut lent, mut owned) = ([0; TABLE_LEN], LeaseTable::new());
+        for address in 0..=u8::MAX {
+            let number = u32::from(address);
+            for token in [0, 71, 72, 71] {
+                let (mut wire, mut owned_wire) = ([0; STOP_LIMIT], [0; STOP_LIMIT]);
+                let held = hold(&mut lent, number, token);
+                assert_eq!(owned.hold(address, token), held);
+                let stopped = stop(&lent, number, token, &mut wire);
+                assert_eq!(owned.stop(address, token, &mut owned_wire), stopped);
+                assert_eq!(owned_wire, wire);
+                assert_eq!(owned.as_bytes(), &lent);
+                assert_eq!(
+                    owned.release(address, 71),
+                    release(&mut lent, number, 71),
+                    "address {address:02X}"
+                );
+                assert_eq!(owned.as_bytes(), &lent);
+            }
+        }
     }
 }

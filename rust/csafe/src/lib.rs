@@ -1,27 +1,83 @@
 //! CSAFE frames, also from a live line, programmed workouts and machine leases for a portal's server.
 //!
 //! The work is done by functions that are proved: each takes any bytes and any numbers, returns, and answers a
-//! result or one numbered refusal, an [`Error`]. A refusal leaves every lent byte as it was, but
-//! that a line reader goes on. After a success the bytes of the output past the result are as they were.
+//! result or one numbered refusal, an [`Error`]. A refusal leaves every lent byte as it was, but that a line reader
+//! goes on. After a success the bytes of the output past the result are as they were. This crate passes slices and
+//! numbers to these functions and takes their answers apart, which is tested. It allocates nothing and does without
+//! the standard library.
+//!
+//! - [`frame`] writes a frame, and reads one from a slice.
+//! - [`mod@line`] reads the frames of a live line, in whatever chunks its bytes arrive.
+//! - [`workout`] writes a programmed workout.
+//! - [`lease`] keeps who holds which machine, and writes the frame that stops it for the holder alone.
 //!
 //! A frame's checksum does not cover its addresses, so an accepted frame says nothing sure about who sent it.
 //!
+//! # Example
+//!
+//! A portal holds machine 05, reads what the line hands over, and stops the machine.
+//!
 //! ```
-//! use csafe::{frame, Frame, LeaseTable};
+//! use csafe::frame::Kind;
+//! use csafe::{lease, Error, LeaseTable, LineReader};
+//!
+//! const MACHINE: u8 = 0x05;
+//! // A real token comes from a generator whose numbers are hard to guess.
+//! const TOKEN: u64 = 0x5EED_0001;
+//!
+//! /// Reads one chunk of the line, prints what it tells, and counts the frames that name the machine as their source.
+//! fn read_chunk(reader: &mut LineReader, chunk: &[u8]) -> usize {
+//!     let mut count = 0;
+//!     let mut rest = chunk;
+//!     while !rest.is_empty() {
+//!         let fed = reader.feed(rest);
+//!         rest = &rest[fed.taken..];
+//!         match fed.told {
+//!             Some(Ok(frame)) => {
+//!                 println!("{:?} {:02X?}", frame.kind, frame.contents);
+//!                 count += usize::from(frame.kind == Kind::Extended { to: 0x00, from: MACHINE });
+//!             }
+//!             Some(Err(refusal)) => println!("refused: {refusal}"),
+//!             None => {}
+//!         }
+//!     }
+//!     count
+//! }
 //!
 //! let mut leases = LeaseTable::new();
-//! leases.hold(0x05, 0x5EED_0001)?;
+//! leases.hold(MACHINE, TOKEN)?;
 //!
-//! let mut wire = [0; frame::WIRE_LIMIT];
-//! let len = leases.stop(0x05, 0x5EED_0001, &mut wire)?;
+//! // A stray byte, a frame cut short, and two frames of the machine, as they happen to arrive.
+//! let chunks: [&[u8]; 4] = [
+//!     &[0x55, 0xF1, 0x76],
+//!     &[0xF0, 0x00, 0x05, 0x81],
+//!     &[0x81, 0xF2, 0xF0, 0x00, 0x05, 0x01, 0xF3],
+//!     &[0x02, 0xF3, 0x03, 0xF2],
+//! ];
+//! let mut reader = LineReader::new();
+//! let mut count = 0;
+//! for chunk in chunks {
+//!     count += read_chunk(&mut reader, chunk);
+//! }
+//! reader.finish()?;
+//! assert_eq!(count, 2);
 //!
-//! let mut contents = [0; frame::CONTENTS_LIMIT];
-//! let read = frame::read(&wire[..len], &mut contents)?;
-//! assert_eq!(read, Frame::Extended { to: 0x05, from: 0x00, len: 6 });
-//! # Ok::<(), csafe::Error>(())
+//! let mut wire = [0; lease::STOP_LIMIT];
+//! assert_eq!(leases.stop(MACHINE, 1, &mut wire), Err(Error::NotHolder));
+//! let len = leases.stop(MACHINE, TOKEN, &mut wire)?;
+//! assert_eq!(wire[..len], [0xF0, 0x05, 0x00, 0x76, 0x04, 0x13, 0x02, 0x01, 0x02, 0x60, 0xF2]);
+//! # Ok::<(), Error>(())
 //! ```
 
+#![no_std]
+#![deny(missing_docs, missing_debug_implementations)]
+#![deny(unsafe_code, clippy::undocumented_unsafe_blocks)]
+
+#[cfg(test)]
+extern crate std;
+
 mod error;
+#[allow(unsafe_code)]
 mod ffi;
 pub mod frame;
 pub mod lease;
@@ -32,3 +88,4 @@ pub use error::Error;
 pub use frame::Frame;
 pub use lease::LeaseTable;
 pub use line::LineReader;
+pub use workout::Workout;

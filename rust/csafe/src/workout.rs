@@ -1,65 +1,131 @@
 //! Programmed workouts: the contents of the frame that sets one up.
-//!
-//! A distance has splits in metres and a time has splits in hundredths of a second, so each has its own function.
 
+use crate::frame::{Frame, Kind};
 use crate::{ffi, Error};
 
 /// The length of a workout's contents.
 pub const LEN: usize = 23;
 
-/// Writes a workout over a distance first in the output and answers its length, [`LEN`].
+/// Metres.
+#[derive(Clone, Copy, Debug, PartialEq, Eq, PartialOrd, Ord, Hash)]
+pub struct Metres(pub u32);
+
+/// Seconds.
+#[derive(Clone, Copy, Debug, PartialEq, Eq, PartialOrd, Ord, Hash)]
+pub struct Seconds(pub u32);
+
+/// Hundredths of a second.
+#[derive(Clone, Copy, Debug, PartialEq, Eq, PartialOrd, Ord, Hash)]
+pub struct Hundredths(pub u32);
+
+/// What is to be rowed, and how it is divided. There are at most 30 splits, the last of which may be shorter.
 ///
-/// The distance is 100 to 50,000 m, the split at least 100 m and at most the distance, and there are at most 30
-/// splits, the last of which may be shorter.
+/// The splits of a time are in hundredths of a second, so those of a distance are not taken for them:
 ///
-/// Refused, in this order, as [`Error::OutOfLimits`] and [`Error::NoRoom`].
+/// ```compile_fail,E0308
+/// use csafe::workout::{Goal, Metres, Seconds};
 ///
+/// let mixed = Goal::Time { time: Seconds(1_200), split: Metres(500) };
 /// ```
-/// use csafe::{workout, Error};
-///
-/// let mut contents = [0; workout::LEN];
-/// workout::write_distance(2_000, 500, 200, &mut contents)?;
-/// assert_eq!(contents[..5], [0x21, 0x03, 0x02, 0x00, 0x21]);
-///
-/// let too_many = workout::write_distance(50_000, 1_666, 200, &mut contents);
-/// assert_eq!(too_many, Err(Error::OutOfLimits));
-/// # Ok::<(), csafe::Error>(())
-/// ```
-#[inline]
-pub fn write_distance(
-    metres: u32,
-    split_metres: u32,
-    watts: u16,
-    out: &mut [u8],
-) -> Result<usize, Error> {
-    Ok(ffi::write_distance(metres, split_metres, watts, out)
-        .accepted()?
-        .len())
+#[derive(Clone, Copy, Debug, PartialEq, Eq, Hash)]
+pub enum Goal {
+    /// A distance of 100 to 50,000 m.
+    Distance {
+        /// The whole distance.
+        distance: Metres,
+        /// At least 100 m and at most the distance.
+        split: Metres,
+    },
+    /// A time of 20 to 35,999 s.
+    Time {
+        /// The whole time.
+        time: Seconds,
+        /// At least 2,000 hundredths of a second and at most the time.
+        split: Hundredths,
+    },
 }
 
-/// Writes a workout over a time first in the output and answers its length, [`LEN`].
-///
-/// The time is 20 to 35,999 s, the split at least 2,000 hundredths of a second and at most the time, and there are
-/// at most 30 splits, the last of which may be shorter.
-///
-/// Refused, in this order, as [`Error::OutOfLimits`] and [`Error::NoRoom`].
+/// A workout. Its numbers may be any; writing it refuses those outside the limits that stand with [`Goal`].
 ///
 /// ```
-/// use csafe::workout;
+/// use csafe::frame::{self, Kind};
+/// use csafe::workout::{Goal, Hundredths, Metres, Seconds};
+/// use csafe::{Error, Workout};
 ///
-/// let mut contents = [0; workout::LEN];
-/// workout::write_time(20 * 60, 4 * 60 * 100, 100, &mut contents)?;
-/// assert_eq!(contents[..5], [0x20, 0x03, 0, 20, 0]);
-/// # Ok::<(), csafe::Error>(())
+/// let rowed = Workout {
+///     goal: Goal::Distance { distance: Metres(2_000), split: Metres(500) },
+///     watts: 200,
+/// };
+/// assert_eq!(rowed.to_contents()?[..5], [0x21, 0x03, 0x02, 0x00, 0x21]);
+///
+/// let timed = Workout {
+///     goal: Goal::Time { time: Seconds(20 * 60), split: Hundredths(4 * 60 * 100) },
+///     watts: 100,
+/// };
+/// let mut wire = [0; frame::WIRE_LIMIT];
+/// let len = timed.write_frame(Kind::Extended { to: 0x05, from: 0x00 }, &mut wire)?;
+/// assert_eq!(wire[..8], [0xF0, 0x05, 0x00, 0x20, 0x03, 0x00, 0x14, 0x00]);
+/// assert_eq!(len, 28);
+///
+/// let too_many_splits = Workout {
+///     goal: Goal::Distance { distance: Metres(50_000), split: Metres(1_666) },
+///     watts: 200,
+/// };
+/// assert_eq!(too_many_splits.to_contents(), Err(Error::OutOfLimits));
+/// # Ok::<(), Error>(())
 /// ```
-#[inline]
-pub fn write_time(
-    seconds: u32,
-    split_hundredths: u32,
-    watts: u16,
-    out: &mut [u8],
-) -> Result<usize, Error> {
-    Ok(ffi::write_time(seconds, split_hundredths, watts, out)
-        .accepted()?
-        .len())
+#[derive(Clone, Copy, Debug, PartialEq, Eq, Hash)]
+pub struct Workout {
+    /// What is to be rowed.
+    pub goal: Goal,
+    /// The power to aim at, which may be any number.
+    pub watts: u16,
+}
+
+impl Workout {
+    /// Writes the workout's contents first in the output and answers their length, [`LEN`].
+    ///
+    /// # Errors
+    ///
+    /// In this order:
+    ///
+    /// 1. [`Error::OutOfLimits`]: the goal, the split or the number of splits is outside its limits.
+    /// 2. [`Error::NoRoom`]: the output is shorter than [`LEN`].
+    #[inline]
+    pub fn write(&self, out: &mut [u8]) -> Result<usize, Error> {
+        let answer = match self.goal {
+            Goal::Distance { distance, split } => {
+                ffi::write_distance(distance.0, split.0, self.watts, out)
+            }
+            Goal::Time { time, split } => ffi::write_time(time.0, split.0, self.watts, out),
+        };
+        Ok(answer.accepted()?.len())
+    }
+
+    /// The workout's contents.
+    ///
+    /// # Errors
+    ///
+    /// [`Error::OutOfLimits`]: the goal, the split or the number of splits is outside its limits.
+    #[inline]
+    pub fn to_contents(&self) -> Result<[u8; LEN], Error> {
+        let mut contents = [0; LEN];
+        self.write(&mut contents)?;
+        Ok(contents)
+    }
+
+    /// Writes a frame of this kind with the workout's contents first in the output and answers its length on the
+    /// wire. It is [`to_contents`](Workout::to_contents) and then [`Frame::write`]; any addresses are taken.
+    ///
+    /// # Errors
+    ///
+    /// In this order:
+    ///
+    /// 1. [`Error::OutOfLimits`]: the goal, the split or the number of splits is outside its limits.
+    /// 2. [`Error::NoRoom`]: the output is shorter than the frame.
+    #[inline]
+    pub fn write_frame(&self, kind: Kind, out: &mut [u8]) -> Result<usize, Error> {
+        let contents = &self.to_contents()?;
+        Frame { kind, contents }.write(out)
+    }
 }

@@ -1,76 +1,129 @@
-//! The C header, as a C program sees it: `portal.c` is compiled against `csafe.h` and the archive, and run.
+//! The C header, as programs in C and C++ see it: `portal.c` is compiled against `csafe.h` and the archive, and run.
 
+use std::collections::BTreeSet;
 use std::path::{Path, PathBuf};
 use std::process::Command;
 
+const HEADER: &str = include_str!("../csafe.h");
+const PROGRAM: &str = include_str!("portal.c");
+
 const EXPECTED: &str = "\
-write_standard number=0 kind=0 to=00 from=00 len=7 bytes=F1 24 02 03 00 25 F2
-read number=0 kind=0 to=00 from=00 len=4 bytes=24 02 03 00
-write_extended number=0 kind=0 to=00 from=00 len=10 bytes=F0 F3 01 00 24 02 03 00 25 F2
-read number=0 kind=1 to=F1 from=00 len=4 bytes=24 02 03 00
-write_standard number=1 kind=0 to=00 from=00 len=0
-write_extended number=2 kind=0 to=00 from=00 len=0
-read number=5 kind=0 to=00 from=00 len=0
-feed number=6 kind=0 to=00 from=00 len=0
-taken=5 state=2
-feed number=0 kind=1 to=F1 from=00 len=1 bytes=41
-taken=6 state=0
-feed number=0 kind=2 to=00 from=00 len=0
-taken=1 state=1
-finish number=6 kind=0 to=00 from=00 len=0
-finish number=0 kind=2 to=00 from=00 len=0
-write_distance_workout number=0 kind=0 to=00 from=00 len=23 bytes=21 03 D1 07 24 1A 07 05 05 80 F4 01 00 00 34 03 C8 00 58 24 02 00 00
-write_distance_workout number=12 kind=0 to=00 from=00 len=0
-write_time_workout number=0 kind=0 to=00 from=00 len=23 bytes=20 03 00 14 00 1A 07 05 05 00 C0 5D 00 00 34 03 64 00 58 24 02 00 00
-write_time_workout number=1 kind=0 to=00 from=00 len=0
-hold number=0 kind=0 to=00 from=00 len=0
-hold number=10 kind=0 to=00 from=00 len=0
-stop number=0 kind=0 to=00 from=00 len=12 bytes=F0 F3 01 00 76 04 13 02 01 02 60 F2
-stop number=11 kind=0 to=00 from=00 len=0
-release number=0 kind=0 to=00 from=00 len=0
-release number=18 kind=0 to=00 from=00 len=0
+write_standard: 0 ok to=00 from=00 len=7 F1 24 02 03 00 25 F2
+write_standard: 2 too long to=00 from=00 len=0
+write_standard: 1 no room to=00 from=00 len=0
+write_extended: 0 ok to=00 from=00 len=10 F0 F3 01 05 24 02 03 00 25 F2
+write_extended: 2 too long to=00 from=00 len=0
+write_extended: 1 no room to=00 from=00 len=0
+read: 0 ok to=00 from=00 len=4 24 02 03 00
+read: 0 ok extended to=F1 from=05 len=1 41
+read: 6 truncated to=00 from=00 len=0
+read: 2 too long to=00 from=00 len=0
+read: 3 bad escape to=00 from=00 len=0
+read: 4 too short to=00 from=00 len=0
+read: 5 bad checksum to=00 from=00 len=0
+read: 1 no room to=00 from=00 len=0
+feed: 6 truncated to=00 from=00 len=0
+taken 5, state 2
+feed: 0 ok extended to=F1 from=05 len=1 41
+taken 6, state 0
+feed: 0 ok nothing to=00 from=00 len=0
+taken 2, state 5
+feed: 3 bad escape to=00 from=00 len=0
+taken 2, state 0
+feed: 4 too short to=00 from=00 len=0
+taken 2, state 0
+feed: 5 bad checksum to=00 from=00 len=0
+taken 4, state 0
+feed: 0 ok nothing to=00 from=00 len=0
+taken 1, state 1
+feed: 2 too long to=00 from=00 len=0
+taken 120, state 0
+feed: 0 ok nothing to=00 from=00 len=0
+taken 3, state 5
+finish: 6 truncated to=00 from=00 len=0
+finish: 0 ok nothing to=00 from=00 len=0
+write_distance_workout: 0 ok to=00 from=00 len=23 21 03 D1 07 24 1A 07 05 05 80 F4 01 00 00 34 03 C8 00 58 24 02 00 00
+write_distance_workout: 12 out of limits to=00 from=00 len=0
+write_distance_workout: 1 no room to=00 from=00 len=0
+write_time_workout: 0 ok to=00 from=00 len=23 20 03 00 14 00 1A 07 05 05 00 C0 5D 00 00 34 03 64 00 58 24 02 00 00
+write_time_workout: 12 out of limits to=00 from=00 len=0
+write_time_workout: 1 no room to=00 from=00 len=0
+hold: 0 ok to=00 from=00 len=0
+hold: 18 bad table to=00 from=00 len=0
+hold: 9 bad address to=00 from=00 len=0
+hold: 14 zero token to=00 from=00 len=0
+hold: 10 already held to=00 from=00 len=0
+stop: 0 ok to=00 from=00 len=12 F0 F3 01 00 76 04 13 02 01 02 60 F2
+stop: 18 bad table to=00 from=00 len=0
+stop: 9 bad address to=00 from=00 len=0
+stop: 11 not holder to=00 from=00 len=0
+stop: 1 no room to=00 from=00 len=0
+release: 18 bad table to=00 from=00 len=0
+release: 9 bad address to=00 from=00 len=0
+release: 11 not holder to=00 from=00 len=0
+release: 0 ok to=00 from=00 len=0
 ";
 
+/// The names of the functions that a source declares or calls, each without the prefix of all of them.
+fn functions(source: &str) -> BTreeSet<&str> {
+    let is_name = |character: char| character.is_ascii_lowercase() || character == '_';
+    let names = source.split("csafe_").skip(1).filter_map(|rest| {
+        let (name, _) = rest.split_once('(')?;
+        name.chars().all(is_name).then_some(name)
+    });
+    names.collect()
+}
+
 #[test]
-fn a_c_program_gets_the_same_answers() {
-    let program = compiled();
-    let run = Command::new(&program)
+fn the_program_calls_every_function_of_the_header() {
+    let declared = functions(HEADER);
+    // Ten of the archive, and five that take an answer apart.
+    assert_eq!(declared.len(), 15);
+    assert_eq!(functions(PROGRAM), declared);
+}
+
+#[test]
+fn a_c_program_gets_the_expected_answers() {
+    check(&compiled("cc", "-std=c99", "c"));
+}
+
+#[test]
+fn a_cpp_program_gets_the_expected_answers() {
+    check(&compiled("c++", "-std=c++11", "c++"));
+}
+
+fn check(program: &Path) {
+    let run = Command::new(program)
         .output()
         .unwrap_or_else(|error| panic!("{} did not start: {error}", program.display()));
-    assert!(
-        run.status.success(),
-        "the C program ended with {}",
-        run.status
-    );
+    assert!(run.status.success(), "it ended with {}", run.status);
     assert_eq!(String::from_utf8_lossy(&run.stdout), EXPECTED);
 }
 
-fn compiled() -> PathBuf {
+/// `portal.c`, compiled in one of the languages that it is written in.
+fn compiled(compiler: &str, standard: &str, language: &str) -> PathBuf {
     let package = Path::new(env!("CARGO_MANIFEST_DIR"));
-    let program = Path::new(env!("CARGO_TARGET_TMPDIR")).join("portal");
-    let compiler = Command::new("cc")
-        .args([
-            "-std=c99",
-            "-O2",
-            "-Wall",
-            "-Wextra",
-            "-Wpedantic",
-            "-Werror",
-        ])
+    let program = Path::new(env!("CARGO_TARGET_TMPDIR")).join(format!("portal-{language}"));
+    let run = Command::new(compiler)
+        .args([standard, "-O2", "-Wall", "-Wextra", "-Wpedantic", "-Werror"])
         .arg("-I")
         .arg(package)
+        .args(["-x", language])
         .arg(package.join("tests").join("portal.c"))
+        .args(["-x", "none"])
         .arg(env!("CSAFE_ARCHIVE"))
         .arg("-o")
         .arg(&program)
         .output()
         .unwrap_or_else(|error| {
-            panic!("the C compiler `cc` could not be run ({error}); install one to run this test")
+            panic!(
+                "the compiler `{compiler}` could not be run ({error}); install it to run this test"
+            )
         });
     assert!(
-        compiler.status.success(),
-        "`cc` refused portal.c:\n{}",
-        String::from_utf8_lossy(&compiler.stderr)
+        run.status.success(),
+        "`{compiler}` refused portal.c:\n{}",
+        String::from_utf8_lossy(&run.stderr)
     );
     program
 }

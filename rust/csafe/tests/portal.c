@@ -1,81 +1,154 @@
-/* Calls each function of csafe.h once with a result and once with a refusal, and prints the answers. */
+/* Calls each function of csafe.h with a result and with each of its refusals, and prints the answers. */
 #include "csafe.h"
 
 #include <stdio.h>
 
-static void print_answer(const char *call, uint64_t answer)
+static const char *name_of(uint8_t number)
 {
-    printf("%s number=%u kind=%u to=%02X from=%02X len=%u", call, csafe_number(answer), csafe_kind(answer),
-           csafe_to(answer), csafe_from(answer), (unsigned)csafe_length(answer));
+    switch (number) {
+    case CSAFE_OK: return "ok";
+    case CSAFE_NO_ROOM: return "no room";
+    case CSAFE_TOO_LONG: return "too long";
+    case CSAFE_BAD_ESCAPE: return "bad escape";
+    case CSAFE_TOO_SHORT: return "too short";
+    case CSAFE_BAD_CHECKSUM: return "bad checksum";
+    case CSAFE_TRUNCATED: return "truncated";
+    case CSAFE_BAD_ADDRESS: return "bad address";
+    case CSAFE_ALREADY_HELD: return "already held";
+    case CSAFE_NOT_HOLDER: return "not holder";
+    case CSAFE_OUT_OF_LIMITS: return "out of limits";
+    case CSAFE_ZERO_TOKEN: return "zero token";
+    case CSAFE_BAD_TABLE: return "bad table";
+    default: return "unknown";
+    }
 }
 
-static void print_written(const char *call, uint64_t answer, const uint8_t *out)
+static const char *kind_of(uint8_t kind)
 {
-    print_answer(call, answer);
+    switch (kind) {
+    case CSAFE_STANDARD: return "";
+    case CSAFE_EXTENDED: return " extended";
+    case CSAFE_NOTHING: return " nothing";
+    default: return " unknown";
+    }
+}
+
+static void print_answer(const char *call, uint64_t answer, const uint8_t *out)
+{
+    printf("%s: %u %s%s to=%02X from=%02X len=%u", call, csafe_number(answer), name_of(csafe_number(answer)),
+           kind_of(csafe_kind(answer)), csafe_to(answer), csafe_from(answer), (unsigned)csafe_length(answer));
     for (uint32_t i = 0; i < csafe_length(answer); i++) {
-        printf("%s%02X", i == 0 ? " bytes=" : " ", out[i]);
+        printf(" %02X", out[i]);
     }
     printf("\n");
 }
 
-static void frames(void)
+static void write_frames(void)
 {
     static const uint8_t contents[] = {0x24, 0x02, 0x03, 0x00};
     static const uint8_t long_contents[CSAFE_CONTENTS_LIMIT + 1] = {0};
-    static const uint8_t damaged[] = {0xF1, 0x24, 0x02, 0x03, 0x00, 0x24, 0xF2};
     uint8_t wire[CSAFE_WIRE_LIMIT];
-    uint8_t read[CSAFE_CONTENTS_LIMIT];
     uint64_t answer = csafe_write_standard(contents, sizeof contents, wire, sizeof wire);
-    print_written("write_standard", answer, wire);
-    print_written("read", csafe_read(wire, csafe_length(answer), read, sizeof read), read);
-    answer = csafe_write_extended(0xF1, 0x00, contents, sizeof contents, wire, sizeof wire);
-    print_written("write_extended", answer, wire);
-    print_written("read", csafe_read(wire, csafe_length(answer), read, sizeof read), read);
-    print_written("write_standard", csafe_write_standard(contents, sizeof contents, wire, 6), wire);
-    answer = csafe_write_extended(0x05, 0x00, long_contents, sizeof long_contents, read, sizeof read);
-    print_written("write_extended", answer, read);
-    print_written("read", csafe_read(damaged, sizeof damaged, read, sizeof read), read);
+    print_answer("write_standard", answer, wire);
+    answer = csafe_write_standard(long_contents, sizeof long_contents, wire, sizeof wire);
+    print_answer("write_standard", answer, wire);
+    print_answer("write_standard", csafe_write_standard(contents, sizeof contents, wire, 6), wire);
+    answer = csafe_write_extended(0xF1, 0x05, contents, sizeof contents, wire, sizeof wire);
+    print_answer("write_extended", answer, wire);
+    answer = csafe_write_extended(0xF1, 0x05, long_contents, sizeof long_contents, wire, sizeof wire);
+    print_answer("write_extended", answer, wire);
+    print_answer("write_extended", csafe_write_extended(0xF1, 0x05, contents, sizeof contents, wire, 9), wire);
 }
 
-static void line(void)
+static void read_and_print(const uint8_t *wire, size_t wire_len, size_t room)
 {
-    static const uint8_t input[] = {0x55, 0xF1, 0x76, 0x04, 0xF0, 0xF3, 0x01, 0x00, 0x41, 0x41, 0xF2, 0xF1};
+    uint8_t contents[CSAFE_CONTENTS_LIMIT];
+    print_answer("read", csafe_read(wire, wire_len, contents, room), contents);
+}
+
+static void read_frames(void)
+{
+    static const uint8_t standard[] = {0xF1, 0x24, 0x02, 0x03, 0x00, 0x25, 0xF2};
+    static const uint8_t extended[] = {0xF0, 0xF3, 0x01, 0x05, 0x41, 0x41, 0xF2};
+    static const uint8_t bad_escape[] = {0xF1, 0xF3, 0x04, 0xF2};
+    static const uint8_t too_short[] = {0xF0, 0x05, 0x00, 0xF2};
+    static const uint8_t bad_checksum[] = {0xF1, 0x24, 0x02, 0x03, 0x00, 0x24, 0xF2};
+    uint8_t too_long[CSAFE_WIRE_LIMIT + 1] = {0};
+    too_long[0] = 0xF1;
+    too_long[CSAFE_WIRE_LIMIT] = 0xF2;
+    read_and_print(standard, sizeof standard, CSAFE_CONTENTS_LIMIT);
+    read_and_print(extended, sizeof extended, CSAFE_CONTENTS_LIMIT);
+    read_and_print(standard, sizeof standard - 1, CSAFE_CONTENTS_LIMIT);
+    read_and_print(too_long, sizeof too_long, CSAFE_CONTENTS_LIMIT);
+    read_and_print(bad_escape, sizeof bad_escape, CSAFE_CONTENTS_LIMIT);
+    read_and_print(too_short, sizeof too_short, CSAFE_CONTENTS_LIMIT);
+    read_and_print(bad_checksum, sizeof bad_checksum, CSAFE_CONTENTS_LIMIT);
+    read_and_print(standard, sizeof standard, 3);
+}
+
+static void feed_and_print(uint8_t *bytes, uint64_t *state, const uint8_t *input, size_t input_len)
+{
+    uint64_t taken = 0;
+    for (size_t at = 0; at < input_len; at += (size_t)taken) {
+        uint64_t answer = csafe_feed(bytes, state, input + at, input_len - at, &taken);
+        print_answer("feed", answer, bytes);
+        printf("taken %u, state %u\n", (unsigned)taken, (unsigned)*state);
+    }
+}
+
+static void read_line(void)
+{
+    static const uint8_t first[] = {0x55, 0xF1, 0x76, 0x04, 0xF0, 0xF3, 0x01, 0x05, 0x41, 0x41, 0xF2, 0xF1, 0xF3};
+    static const uint8_t second[] = {0x04, 0xF2, 0xF1, 0xF2, 0xF1, 0x41, 0x42, 0xF2, 0xF1};
+    uint8_t too_long[CSAFE_LINE_LEN + 2] = {0};
     uint8_t bytes[CSAFE_LINE_LEN] = {0};
     uint64_t state = 0;
-    uint64_t taken = 0;
-    for (size_t at = 0; at < sizeof input; at += taken) {
-        print_written("feed", csafe_feed(bytes, &state, input + at, sizeof input - at, &taken), bytes);
-        printf("taken=%u state=%u\n", (unsigned)taken, (unsigned)state);
-    }
-    print_written("finish", csafe_finish(&state), bytes);
-    print_written("finish", csafe_finish(&state), bytes);
+    too_long[CSAFE_LINE_LEN + 1] = 0xF2;
+    feed_and_print(bytes, &state, first, sizeof first);
+    feed_and_print(bytes, &state, second, sizeof second);
+    feed_and_print(bytes, &state, too_long, sizeof too_long);
+    feed_and_print(bytes, &state, first, 3);
+    print_answer("finish", csafe_finish(&state), bytes);
+    print_answer("finish", csafe_finish(&state), bytes);
 }
 
 static void workouts(void)
 {
     uint8_t out[CSAFE_WORKOUT_LEN];
-    print_written("write_distance_workout", csafe_write_distance_workout(2001, 500, 200, out, sizeof out), out);
-    print_written("write_distance_workout", csafe_write_distance_workout(50000, 1666, 200, out, sizeof out), out);
-    print_written("write_time_workout", csafe_write_time_workout(1200, 24000, 100, out, sizeof out), out);
-    print_written("write_time_workout", csafe_write_time_workout(1200, 24000, 100, out, 22), out);
+    print_answer("write_distance_workout", csafe_write_distance_workout(2001, 500, 200, out, sizeof out), out);
+    print_answer("write_distance_workout", csafe_write_distance_workout(50000, 1666, 200, out, sizeof out), out);
+    print_answer("write_distance_workout", csafe_write_distance_workout(2001, 500, 200, out, 22), out);
+    print_answer("write_time_workout", csafe_write_time_workout(1200, 24000, 100, out, sizeof out), out);
+    print_answer("write_time_workout", csafe_write_time_workout(1200, 3999, 100, out, sizeof out), out);
+    print_answer("write_time_workout", csafe_write_time_workout(1200, 24000, 100, out, 22), out);
 }
 
 static void leases(void)
 {
     static uint8_t table[CSAFE_TABLE_LEN];
+    const size_t len = sizeof table;
     uint8_t wire[CSAFE_STOP_LIMIT];
-    print_written("hold", csafe_hold(table, sizeof table, 0xF1, 71), wire);
-    print_written("hold", csafe_hold(table, sizeof table, 0xF1, 72), wire);
-    print_written("stop", csafe_stop(table, sizeof table, 0xF1, 71, wire, sizeof wire), wire);
-    print_written("stop", csafe_stop(table, sizeof table, 0xF1, 72, wire, sizeof wire), wire);
-    print_written("release", csafe_release(table, sizeof table, 0xF1, 71), wire);
-    print_written("release", csafe_release(table, sizeof table - 1, 0xF1, 71), wire);
+    print_answer("hold", csafe_hold(table, len, 0xF1, 71), wire);
+    print_answer("hold", csafe_hold(table, len - 1, 0xF1, 71), wire);
+    print_answer("hold", csafe_hold(table, len, 0xFD, 71), wire);
+    print_answer("hold", csafe_hold(table, len, 0x01, 0), wire);
+    print_answer("hold", csafe_hold(table, len, 0xF1, 72), wire);
+    print_answer("stop", csafe_stop(table, len, 0xF1, 71, wire, sizeof wire), wire);
+    print_answer("stop", csafe_stop(table, len - 1, 0xF1, 71, wire, sizeof wire), wire);
+    print_answer("stop", csafe_stop(table, len, 0x1F1, 71, wire, sizeof wire), wire);
+    print_answer("stop", csafe_stop(table, len, 0xF1, 72, wire, sizeof wire), wire);
+    print_answer("stop", csafe_stop(table, len, 0xF1, 71, wire, 11), wire);
+    print_answer("release", csafe_release(table, len - 1, 0xF1, 71), wire);
+    print_answer("release", csafe_release(table, len, 0x00, 71), wire);
+    print_answer("release", csafe_release(table, len, 0xF1, 0), wire);
+    print_answer("release", csafe_release(table, len, 0xF1, 71), wire);
 }
 
 int main(void)
 {
-    frames();
-    line();
+    write_frames();
+    read_frames();
+    read_line();
     workouts();
     leases();
     return 0;

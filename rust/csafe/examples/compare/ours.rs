@@ -1,7 +1,9 @@
 //! Every call of the package, with its answer as plain data.
 
-use csafe::line::HELD_LEN;
-use csafe::{frame, lease, line, workout, Error, Frame};
+use csafe::frame::{self, Kind};
+use csafe::line::{self, HELD_LEN};
+use csafe::workout::{Goal, Hundredths, Metres, Seconds};
+use csafe::{lease, Error, Frame, Workout};
 
 use crate::answer::Answer;
 
@@ -18,8 +20,8 @@ pub fn read(wire: &[u8], out: &mut [u8]) -> Answer {
 }
 
 pub fn feed(bytes: &mut [u8; HELD_LEN], state: &mut u64, input: &[u8]) -> (usize, Answer) {
-    let (taken, answer) = line::feed(bytes, state, input);
-    (taken, answer.map_or_else(Answer::nothing, told))
+    let fed = line::feed(bytes, state, input);
+    (fed.taken, fed.told.map_or_else(Answer::nothing, told))
 }
 
 pub fn finish(state: &mut u64) -> Answer {
@@ -30,11 +32,19 @@ pub fn finish(state: &mut u64) -> Answer {
 }
 
 pub fn write_distance(metres: u32, split: u32, watts: u16, out: &mut [u8]) -> Answer {
-    written(workout::write_distance(metres, split, watts, out))
+    let goal = Goal::Distance {
+        distance: Metres(metres),
+        split: Metres(split),
+    };
+    written(Workout { goal, watts }.write(out))
 }
 
 pub fn write_time(seconds: u32, split: u32, watts: u16, out: &mut [u8]) -> Answer {
-    written(workout::write_time(seconds, split, watts, out))
+    let goal = Goal::Time {
+        time: Seconds(seconds),
+        split: Hundredths(split),
+    };
+    written(Workout { goal, watts }.write(out))
 }
 
 pub fn hold(table: &mut [u8], address: u32, token: u64) -> Answer {
@@ -57,9 +67,13 @@ fn written(result: Result<usize, Error>) -> Answer {
 }
 
 fn told(result: Result<Frame, Error>) -> Answer {
-    match result {
-        Ok(Frame::Standard { len }) => Answer::standard(len),
-        Ok(Frame::Extended { to, from, len }) => Answer::extended(to, from, len),
-        Err(error) => Answer::refused(error.number()),
+    let frame = match result {
+        Ok(frame) => frame,
+        Err(error) => return Answer::refused(error.number()),
+    };
+    let len = frame.contents.len();
+    match frame.kind {
+        Kind::Standard => Answer::standard(len),
+        Kind::Extended { to, from } => Answer::extended(to, from, len),
     }
 }

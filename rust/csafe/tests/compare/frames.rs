@@ -1,7 +1,8 @@
 //! Frames written and read on both sides.
 
-use csafe::{frame, Error, Frame};
-use plain::frame as plain_rust;
+use csafe::frame::{self, Frame, Kind};
+use csafe::Error;
+use plain::frame::{self as plain_rust, Read};
 
 use crate::common::Xorshift;
 use crate::frame_damage::{damage, damage_with_checksum, Plain, STANDARD_START, STOP};
@@ -12,39 +13,54 @@ use crate::traces::ALPHABET;
 /// Room for every frame and every contents.
 const AMPLE: usize = 256;
 
+/// What the independent side answers for a frame.
+pub fn as_read(frame: Frame<'_>) -> Read {
+    let len = frame.contents.len();
+    match frame.kind {
+        Kind::Standard => Read::Standard { len },
+        Kind::Extended { to, from } => Read::Extended { to, from, len },
+    }
+}
+
+fn contents_len(read: &Read) -> usize {
+    match read {
+        Read::Standard { len } | Read::Extended { len, .. } => *len,
+    }
+}
+
 /// Reads a slice on both sides and answers what both said.
-fn read_on_both(wire: &[u8], room: usize) -> Result<Frame, u8> {
+fn read_on_both(wire: &[u8], room: usize) -> Result<Read, u8> {
     let (mut our_output, mut their_output) = (Output::new(room), Output::new(room));
-    let ours = frame::read(wire, our_output.lent()).map_err(Error::number);
-    let theirs = plain_rust::read(wire, their_output.lent()).map(|read| match read {
-        plain_rust::Read::Standard { len } => Frame::Standard { len },
-        plain_rust::Read::Extended { to, from, len } => Frame::Extended { to, from, len },
-    });
     let input = || format!("reading {} with room {room}", hex(wire));
-    same(
-        (&ours, &our_output),
-        (&theirs, &their_output),
-        |read| read.contents_len(),
-        &input,
-    );
-    if let Ok(read) = ours {
-        let contents = our_output.result(read.contents_len());
+    let first = our_output.lent().as_ptr();
+    let frame = frame::read(wire, our_output.lent());
+    if let Ok(frame) = frame {
         assert!(
-            written_again(read, contents) == wire,
+            frame.contents.as_ptr() == first,
+            "the contents are not first in the output: {}",
+            told(&input)
+        );
+        assert!(
+            written_again(frame) == wire,
             "written again it differs: {}",
             told(&input)
         );
     }
+    let ours = frame.map(as_read).map_err(Error::number);
+    let theirs = plain_rust::read(wire, their_output.lent());
+    same(
+        (&ours, &our_output),
+        (&theirs, &their_output),
+        contents_len,
+        &input,
+    );
     ours
 }
 
-fn written_again(read: Frame, contents: &[u8]) -> Vec<u8> {
+fn written_again(frame: Frame<'_>) -> Vec<u8> {
     let mut out = vec![0; AMPLE];
-    let written = match read {
-        Frame::Standard { .. } => frame::write_standard(contents, &mut out),
-        Frame::Extended { to, from, .. } => frame::write_extended(to, from, contents, &mut out),
-    };
-    out.truncate(written.unwrap_or(0));
+    let len = frame.write(&mut out).unwrap_or(0);
+    out.truncate(len);
     out
 }
 
@@ -200,7 +216,7 @@ fn random_contents_are_written_alike() {
         if let Ok(written) = written {
             assert_eq!(hex(&written), hex(&wire));
             let read = read_on_both(&written, plain.contents.len());
-            assert_eq!(read.map(Frame::contents_len), Ok(plain.contents.len()));
+            assert_eq!(read.as_ref().map(contents_len), Ok(plain.contents.len()));
         }
     }
     tally.has_each(&[0, 1, 2], 1_000);

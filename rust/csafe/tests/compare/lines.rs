@@ -1,12 +1,12 @@
 //! Lines fed to both readers: to ours in chunks of any length, to the independent one byte by byte.
 
-use csafe::line::{self, Told, HELD_LEN};
-use csafe::{Error, Frame, LineReader};
-use plain::frame::Read;
+use csafe::line::{self, Fed, HELD_LEN};
+use csafe::LineReader;
 use plain::line::{Answer, Line};
 
 use crate::common::Xorshift;
 use crate::frame_damage::{EXTENDED_START, STANDARD_START, STOP};
+use crate::frames::as_read;
 use crate::held::Held;
 use crate::output::{hex, told, Output};
 use crate::tally::Tally;
@@ -47,66 +47,67 @@ impl Readers {
     }
 
     fn feed_chunk(&mut self, chunk: &[u8], input: &dyn Fn() -> String) -> usize {
+        let (taken, answer) = self.feed_singly(chunk);
+        let contents = match answer {
+            Answer::Frame(_) => self.theirs.contents(),
+            _ => &[],
+        };
         let bytes = self
             .lent
             .lent()
             .try_into()
             .expect("the room is that of a reader");
-        let ours = line::feed(bytes, &mut self.state, chunk);
-        assert_eq!(
-            ours,
-            self.owned.feed(chunk),
-            "lent (left) and owned bytes (right) differ: {}",
-            told(input)
-        );
-        let theirs = self.feed_singly(chunk);
-        assert_eq!(
-            ours,
-            theirs,
-            "ours (left) and the independent answer (right) differ: {}",
-            told(input)
-        );
-        let contents = match ours.1 {
-            Some(Ok(_)) => self.theirs.contents(),
-            _ => &[],
-        };
-        assert!(
-            self.owned.contents() == contents,
-            "the contents differ: ours {}, independent {}: {}",
-            hex(self.owned.contents()),
-            hex(contents),
-            told(input)
-        );
-        self.check_held(input);
-        if let Some(told) = ours.1 {
-            self.tally.add(&told.map_err(Error::number));
+        let lent = line::feed(bytes, &mut self.state, chunk);
+        let owned = self.owned.feed(chunk);
+        for (ours, which) in [(lent, "lent"), (owned, "owned")] {
+            assert_eq!(
+                (ours.taken, as_answer(ours)),
+                (taken, answer),
+                "ours (left, on {which} bytes) and the independent answer (right) differ: {}",
+                told(input)
+            );
+            assert!(
+                contents_of(ours) == contents,
+                "the contents differ: ours {}, on {which} bytes, independent {}: {}",
+                hex(contents_of(ours)),
+                hex(contents),
+                told(input)
+            );
         }
-        ours.0
+        self.check_held(input);
+        match answer {
+            Answer::Nothing => {}
+            Answer::Frame(_) => self.tally.add(&Ok(())),
+            Answer::Refused(number) => self.tally.add::<()>(&Err(number)),
+        }
+        taken
     }
 
     /// The independent reader is fed up to its first answer.
-    fn feed_singly(&mut self, chunk: &[u8]) -> (usize, Told) {
+    fn feed_singly(&mut self, chunk: &[u8]) -> (usize, Answer) {
         for (at, byte) in chunk.iter().enumerate() {
-            let told = as_told(self.theirs.feed(*byte));
-            let contents = match told {
-                Some(Ok(_)) => self.theirs.contents(),
+            let answer = self.theirs.feed(*byte);
+            let contents = match answer {
+                Answer::Frame(_) => self.theirs.contents(),
                 _ => &[],
             };
             self.held.take(*byte, contents);
-            if told.is_some() {
-                return (at + 1, told);
+            if answer != Answer::Nothing {
+                return (at + 1, answer);
             }
         }
-        (chunk.len(), None)
+        (chunk.len(), Answer::Nothing)
     }
 
     fn finish(&mut self, input: &dyn Fn() -> String) {
         let ours = line::finish(&mut self.state);
-        let theirs = as_told(self.theirs.finish());
         self.held.finish();
         assert_eq!(ours, self.owned.finish(), "{}", told(input));
-        assert_eq!(ours.err().map(Err), theirs, "{}", told(input));
-        assert!(self.owned.contents().is_empty(), "{}", told(input));
+        let answer = match ours {
+            Ok(()) => Answer::Nothing,
+            Err(error) => Answer::Refused(error.number()),
+        };
+        assert_eq!(answer, self.theirs.finish(), "{}", told(input));
         self.check_held(input);
     }
 
@@ -127,16 +128,19 @@ impl Readers {
     }
 }
 
-fn as_told(answer: Answer) -> Told {
-    match answer {
-        Answer::Nothing => None,
-        Answer::Frame(Read::Standard { len }) => Some(Ok(Frame::Standard { len })),
-        Answer::Frame(Read::Extended { to, from, len }) => {
-            Some(Ok(Frame::Extended { to, from, len }))
-        }
-        Answer::Refused(number) => Some(Err(
-            Error::from_number(number).expect("a number of the table")
-        )),
+/// What the independent reader answers where ours answers this.
+fn as_answer(fed: Fed<'_>) -> Answer {
+    match fed.told {
+        None => Answer::Nothing,
+        Some(Ok(frame)) => Answer::Frame(as_read(frame)),
+        Some(Err(error)) => Answer::Refused(error.number()),
+    }
+}
+
+fn contents_of(fed: Fed<'_>) -> &[u8] {
+    match fed.told {
+        Some(Ok(frame)) => frame.contents,
+        _ => &[],
     }
 }
 

@@ -1,7 +1,9 @@
 //! Workouts written on both sides, and read back by the independent one.
 
-use csafe::{workout, Error};
-use plain::workout::{self as plain_rust, Goal, Workout};
+use csafe::frame::Kind;
+use csafe::workout::{Goal, Hundredths, Metres, Seconds, Workout, LEN};
+use csafe::Error;
+use plain::workout as plain_rust;
 
 use crate::common::Xorshift;
 use crate::output::{same, told, Output};
@@ -14,46 +16,62 @@ const ROOMS: [usize; 6] = [0, 1, 22, 23, 24, 64];
 const MOST_SPLITS: u32 = 30;
 
 fn distance(metres: u32, split: u32, watts: u16) -> Workout {
-    Workout {
-        goal: Goal::Distance { metres, split },
-        watts,
-    }
+    let goal = Goal::Distance {
+        distance: Metres(metres),
+        split: Metres(split),
+    };
+    Workout { goal, watts }
 }
 
 fn time(seconds: u32, split: u32, watts: u16) -> Workout {
-    Workout {
-        goal: Goal::Time { seconds, split },
-        watts,
+    let goal = Goal::Time {
+        time: Seconds(seconds),
+        split: Hundredths(split),
+    };
+    Workout { goal, watts }
+}
+
+/// The same workout on the independent side.
+fn theirs(workout: Workout) -> plain_rust::Workout {
+    let goal = match workout.goal {
+        Goal::Distance { distance, split } => plain_rust::Goal::Distance {
+            metres: distance.0,
+            split: split.0,
+        },
+        Goal::Time { time, split } => plain_rust::Goal::Time {
+            seconds: time.0,
+            split: split.0,
+        },
+    };
+    plain_rust::Workout {
+        goal,
+        watts: workout.watts,
     }
 }
 
 fn write_on_both(workout: Workout, room: usize) -> Result<usize, u8> {
     let (mut our_output, mut their_output) = (Output::new(room), Output::new(room));
-    let watts = workout.watts;
-    let (ours, asked) = match workout.goal {
-        Goal::Distance { metres, split } => (
-            workout::write_distance(metres, split, watts, our_output.lent()),
-            format!("{metres} m, split {split} m, {watts} W"),
-        ),
-        Goal::Time { seconds, split } => (
-            workout::write_time(seconds, split, watts, our_output.lent()),
-            format!("{seconds} s, split {split} hundredths, {watts} W"),
-        ),
-    };
-    let ours = ours.map_err(Error::number);
-    let input = || format!("writing {asked} with room {room}");
-    let theirs = plain_rust::write(workout, their_output.lent());
+    let input = || format!("writing {workout:?} with room {room}");
+    let ours = workout.write(our_output.lent()).map_err(Error::number);
+    let their_answer = plain_rust::write(theirs(workout), their_output.lent());
     same(
         (&ours, &our_output),
-        (&theirs, &their_output),
+        (&their_answer, &their_output),
         |len| *len,
         &input,
     );
     if let Ok(len) = ours {
-        let read = plain_rust::read(our_output.result(len));
+        let written = our_output.result(len);
         assert!(
-            read == Ok(workout),
+            plain_rust::read(written) == Ok(theirs(workout)),
             "it reads back otherwise: {}",
+            told(&input)
+        );
+        assert!(
+            workout
+                .to_contents()
+                .is_ok_and(|contents| contents == written),
+            "the contents differ from those written: {}",
             told(&input)
         );
     }
@@ -147,7 +165,7 @@ fn times_at_every_edge_are_written_alike() {
 fn every_distance_is_written_alike_at_its_edges() {
     for metres in 90..=50_010 {
         for split in about(&[100, metres, metres.div_ceil(MOST_SPLITS)]) {
-            let _ = write_on_both(distance(metres, split, 200), workout::LEN);
+            let _ = write_on_both(distance(metres, split, 200), LEN);
         }
     }
 }
@@ -157,7 +175,7 @@ fn every_time_is_written_alike_at_its_edges() {
     for seconds in 10..=36_010 {
         let goal = 100 * seconds;
         for split in about(&[2_000, goal, goal.div_ceil(MOST_SPLITS)]) {
-            let _ = write_on_both(time(seconds, split, 200), workout::LEN);
+            let _ = write_on_both(time(seconds, split, 200), LEN);
         }
     }
 }
@@ -191,4 +209,43 @@ fn random_workouts_are_written_alike() {
 fn the_papers_thirty_splits() {
     assert_eq!(write_on_both(distance(50_000, 1_667, 200), 23), Ok(23));
     assert_eq!(write_on_both(distance(50_000, 1_666, 200), 23), Err(12));
+}
+
+/// A workout in a frame is the frame of its contents, and the room counts after the limits.
+#[test]
+fn workouts_are_framed_as_their_contents_are() {
+    let kinds = [
+        Kind::Standard,
+        Kind::Extended {
+            to: 0xF1,
+            from: 0xF3,
+        },
+    ];
+    for kind in kinds {
+        for workout in [distance(2_000, 500, 0xF2F3), time(1_200, 24_000, 100)] {
+            let contents = workout.to_contents().expect("within the limits");
+            let (mut framed, mut expected) = (Output::new(64), Output::new(64));
+            let written = match kind {
+                Kind::Standard => plain::frame::write_standard(&contents, expected.lent()),
+                Kind::Extended { to, from } => {
+                    plain::frame::write_extended(to, from, &contents, expected.lent())
+                }
+            };
+            let len = written.expect("the frame is short enough");
+            let ours = workout.write_frame(kind, framed.lent());
+            let input = || format!("framing {workout:?} as {kind:?}");
+            same(
+                (&ours.map_err(Error::number), &framed),
+                (&Ok(len), &expected),
+                |len| *len,
+                &input,
+            );
+            let mut short = Output::new(len - 1);
+            let refused = workout.write_frame(kind, short.lent());
+            assert_eq!(refused, Err(Error::NoRoom));
+            assert!(short.kept_past(0));
+        }
+        let refused = distance(99, 99, 0).write_frame(kind, &mut []);
+        assert_eq!(refused, Err(Error::OutOfLimits));
+    }
 }
