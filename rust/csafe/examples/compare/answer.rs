@@ -9,7 +9,7 @@ pub const NOTHING: u8 = 2;
 
 /// What a call answered: a refusal's number or 0, and of a result its kind, addresses and length, which are 0 where
 /// it has none.
-#[derive(Clone, Copy, Default, PartialEq, Eq)]
+#[derive(Clone, Copy, Debug, Default, PartialEq, Eq)]
 pub struct Answer {
     pub number: u8,
     pub kind: u8,

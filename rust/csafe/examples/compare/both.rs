@@ -5,8 +5,8 @@ use crate::lent_output::Output;
 
 /// What both sides answered and left in their outputs.
 pub struct Made {
-    pub ours: Answer,
-    pub theirs: Answer,
+    ours: Answer,
+    theirs: Answer,
     room: usize,
     our_output: Output,
     their_output: Output,
@@ -32,7 +32,7 @@ pub fn make(
 impl Made {
     /// Whether the answers are the same, the results are, and everything else is as it was.
     #[inline]
-    pub fn agrees(&self) -> bool {
+    fn agrees(&self) -> bool {
         let len = self.ours.len;
         self.ours == self.theirs
             && len <= self.room
@@ -77,4 +77,69 @@ impl Made {
 pub fn literal(bytes: &[u8]) -> String {
     let digits: Vec<String> = bytes.iter().map(|byte| format!("0x{byte:02X}")).collect();
     format!("[{}]", digits.join(", "))
+}
+
+#[cfg(test)]
+mod tests {
+    use super::*;
+
+    /// Both sides have an output of four bytes. The independent one writes 41 and answers so.
+    fn checked(ours: impl FnOnce(&mut [u8]) -> Answer) -> Result<Answer, String> {
+        let theirs = |out: &mut [u8]| {
+            out[0] = 0x41;
+            Answer::done(1)
+        };
+        make(4, ours, theirs).check(Function::Stop, || "token 0x5\n".to_string())
+    }
+
+    #[test]
+    fn the_same_result_is_taken() {
+        let answer = checked(|out| {
+            out[0] = 0x41;
+            Answer::done(1)
+        });
+        assert_eq!(answer, Ok(Answer::done(1)));
+    }
+
+    #[test]
+    fn another_answer_is_told_with_the_arguments() {
+        let told = checked(|_| Answer::refused(1)).expect_err("the answers differ");
+        for part in [
+            "csafe_stop",
+            "token 0x5",
+            "output of 4 bytes",
+            "ours:  number 1",
+            "plain: number 0",
+        ] {
+            assert!(told.contains(part), "{told}");
+        }
+    }
+
+    #[test]
+    fn another_result_and_a_byte_past_it_are_told() {
+        for place in 0..4 {
+            let told = checked(|out| {
+                out[0] = 0x41;
+                out[place] = 0x42;
+                Answer::done(1)
+            });
+            assert!(told.expect_err("the outputs differ").contains("0x42"));
+        }
+    }
+
+    #[test]
+    fn a_refusal_that_writes_is_told() {
+        let refused = |out: &mut [u8]| {
+            out[3] = 0x42;
+            Answer::refused(1)
+        };
+        let made = make(4, refused, |_| Answer::refused(1));
+        assert!(made.check(Function::Read, String::new).is_err());
+    }
+
+    #[test]
+    fn a_result_longer_than_the_output_is_told() {
+        let made = make(4, |_| Answer::done(5), |_| Answer::done(5));
+        assert!(made.check(Function::Read, String::new).is_err());
+    }
 }

@@ -17,10 +17,15 @@ const ROOM_LIMIT: usize = 512;
 /// How many bytes a slice has that is much too long.
 const VERY_LONG: usize = 5_000;
 
+/// The bytes before a slice that is lent, at most, and after it. They are flags, so that reading one of them would
+/// change an answer.
+const AROUND: usize = 32;
+
 #[derive(Default)]
 pub struct Frames {
     plain: Plain,
     wire: Vec<u8>,
+    placed: Vec<u8>,
 }
 
 impl Comparison for Frames {
@@ -43,8 +48,8 @@ impl Comparison for Frames {
 }
 
 impl Frames {
-    fn write(&self, random: &mut Xorshift, tally: &mut Tally) -> Result<(), String> {
-        let contents = &self.plain.contents[..];
+    fn write(&mut self, random: &mut Xorshift, tally: &mut Tally) -> Result<(), String> {
+        let contents = place(&mut self.placed, &self.plain.contents, random);
         let room = any_room(random, self.wire.len());
         let (function, made) = match self.plain.addresses {
             None => (
@@ -75,8 +80,8 @@ impl Frames {
         Ok(())
     }
 
-    fn read(&self, random: &mut Xorshift, tally: &mut Tally) -> Result<(), String> {
-        let wire = &self.wire[..];
+    fn read(&mut self, random: &mut Xorshift, tally: &mut Tally) -> Result<(), String> {
+        let wire = place(&mut self.placed, &self.wire, random);
         let room = any_room(random, self.plain.contents.len());
         let made = make(
             room,
@@ -118,6 +123,17 @@ impl Frames {
             }
         }
     }
+}
+
+/// Puts bytes at a place of any alignment, between flags.
+fn place<'a>(placed: &'a mut Vec<u8>, bytes: &[u8], random: &mut Xorshift) -> &'a [u8] {
+    let start = random.below(AROUND);
+    placed.clear();
+    placed.resize(start, STOP);
+    placed.extend(bytes);
+    let end = placed.len();
+    placed.resize(end + AROUND, STOP);
+    &placed[start..end]
 }
 
 /// The length of an output: any, about that of the result, or ample.

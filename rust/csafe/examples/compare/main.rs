@@ -6,6 +6,8 @@
 //! traces of many frames. Answers are compared and so are outputs, tables and readers, whole, with the bytes around
 //! them. The first difference ends the program with exit status 1 and the input that shows it. At the end stands a
 //! table of what each function answered, so that one sees that each refusal was met.
+//!
+//! The listing program is made with `rt check listing`, unless `CSAFE_LISTING` names a ready one.
 
 mod answer;
 mod both;
@@ -150,4 +152,34 @@ fn compare(
         }
     }
     Ok(())
+}
+
+#[cfg(test)]
+mod tests {
+    use super::*;
+
+    fn asked_in(arguments: &[&str]) -> Result<(u64, u64), String> {
+        let arguments: Vec<String> = arguments.iter().map(|text| text.to_string()).collect();
+        asked(&arguments)
+    }
+
+    #[test]
+    fn numbers_are_taken() {
+        assert_eq!(asked_in(&[]), Ok((CALLS, SEED)));
+        assert_eq!(asked_in(&["5"]), Ok((5, SEED)));
+        assert_eq!(asked_in(&["100,000,000", "0x7F"]), Ok((100_000_000, 0x7F)));
+    }
+
+    #[test]
+    fn anything_else_is_refused() {
+        for arguments in [
+            &["many"][..],
+            &["-1"],
+            &["0"],
+            &["1", "0"],
+            &["1", "2", "3"],
+        ] {
+            assert!(asked_in(arguments).is_err(), "{arguments:?}");
+        }
+    }
 }

@@ -131,3 +131,62 @@ pub fn grouped(number: u64) -> String {
     }
     text
 }
+
+#[cfg(test)]
+mod tests {
+    use super::*;
+
+    /// Each function has given every answer that it can give.
+    fn full() -> Tally {
+        let mut tally = Tally::new();
+        for (function, _, outcomes) in FUNCTIONS {
+            tally.add_call(function);
+            for outcome in outcomes {
+                tally.add_answer(function, *outcome);
+            }
+        }
+        tally
+    }
+
+    #[test]
+    fn a_full_tally_has_no_gap() {
+        assert_eq!(full().gaps(true), Vec::<String>::new());
+        assert_eq!(full().strangers(), Vec::<String>::new());
+        assert_eq!(full().calls(), 11);
+    }
+
+    #[test]
+    fn a_function_that_was_not_called_is_told() {
+        let mut tally = full();
+        tally.counts[Function::Hold as usize].calls = 0;
+        assert_eq!(tally.gaps(false), ["csafe_hold was not called"]);
+    }
+
+    #[test]
+    fn a_refusal_that_was_not_met_is_told_where_all_are_asked_for() {
+        let mut tally = full();
+        tally.counts[Function::Read as usize].answers[4] = 0;
+        assert_eq!(tally.gaps(true), ["csafe_read never gave refusal 4"]);
+        assert_eq!(tally.gaps(false), Vec::<String>::new());
+    }
+
+    #[test]
+    fn an_answer_that_a_function_cannot_give_is_told() {
+        let mut tally = full();
+        tally.add(Function::Stop, Answer::refused(13));
+        assert_eq!(tally.strangers().len(), 1);
+    }
+
+    #[test]
+    fn the_functions_stand_at_their_places() {
+        for (place, (function, _, _)) in FUNCTIONS.into_iter().enumerate() {
+            assert_eq!(function as usize, place);
+        }
+    }
+
+    #[test]
+    fn digits_are_grouped() {
+        let texts = [0, 999, 1_000, 1_234_567].map(grouped);
+        assert_eq!(texts, ["0", "999", "1,000", "1,234,567"]);
+    }
+}
