@@ -2,6 +2,8 @@
 
 use std::fmt;
 
+use Outcome::{Accepted, Nothing, Refused};
+
 /// The kinds of a result. A line reader that told nothing has a kind of its own.
 pub const STANDARD: u8 = 0;
 pub const EXTENDED: u8 = 1;
@@ -59,9 +61,9 @@ impl Answer {
 
     pub fn outcome(self) -> Outcome {
         match (self.number, self.kind) {
-            (0, NOTHING) => Outcome::Nothing,
-            (0, _) => Outcome::Accepted,
-            (number, _) => Outcome::Refused(number),
+            (0, NOTHING) => Nothing,
+            (0, _) => Accepted,
+            (number, _) => Refused(number),
         }
     }
 }
@@ -83,7 +85,7 @@ impl fmt::Display for Answer {
 }
 
 /// What is counted of an answer.
-#[derive(Clone, Copy, Debug, PartialEq, Eq)]
+#[derive(Clone, Copy)]
 pub enum Outcome {
     Accepted,
     Nothing,
@@ -91,7 +93,7 @@ pub enum Outcome {
 }
 
 /// The exported functions, in the order of `csafe.h`, and the listing program.
-#[derive(Clone, Copy, Debug)]
+#[derive(Clone, Copy)]
 pub enum Function {
     WriteStandard,
     WriteExtended,
@@ -105,8 +107,6 @@ pub enum Function {
     Stop,
     Listing,
 }
-
-use Outcome::{Accepted, Nothing, Refused};
 
 /// Each function with its name and every answer that it can give.
 #[rustfmt::skip]

@@ -50,7 +50,7 @@ impl Comparison for Listings {
         });
         let theirs = theirs(&self.trace);
         if ours != theirs {
-            return Err(difference(&self.program, &self.trace));
+            return Err(difference(&self.program, &self.trace, most));
         }
         tally.add_call(Function::Listing);
         count_lines(&theirs, tally);
@@ -91,8 +91,9 @@ fn count_lines(text: &str, tally: &mut Tally) {
     }
 }
 
-/// Tells a difference by a trace that is cut as short as cutting pieces out makes it.
-fn difference(program: &Path, trace: &[u8]) -> String {
+/// Tells a difference by a trace that is cut as short as cutting pieces out makes it. That one is listed in one piece,
+/// and the first one in pieces of up to `most` bytes.
+fn difference(program: &Path, trace: &[u8], most: usize) -> String {
     let mut trace = trace.to_vec();
     let mut len = trace.len().div_ceil(2);
     while len > 0 && trace.len() / len <= PIECES {
@@ -103,7 +104,7 @@ fn difference(program: &Path, trace: &[u8]) -> String {
     let mut lines = ours.lines().zip(theirs.lines());
     let line = lines.find(|(ours, theirs)| ours != theirs);
     format!(
-        "listing\ntrace {}\nthe first lines that differ, ours and plain: {line:?}\nlengths of the texts: {} and {}",
+        "listing, in pieces of up to {most} bytes\ntrace {}\nthe first lines that differ, ours and plain: {line:?}\nlengths of the texts: {} and {}",
         literal(&trace),
         ours.len(),
         theirs.len()

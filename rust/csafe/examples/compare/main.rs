@@ -109,9 +109,10 @@ fn number(text: &str) -> Result<u64, String> {
 }
 
 fn run(calls: u64, seed: u64) -> Result<(), String> {
+    let mut comparisons = comparisons(calls);
     let mut tally = Tally::new();
     let mut progress = Progress::new(calls);
-    let compared = compare(calls, seed, &mut tally, &mut progress);
+    let compared = compare(calls, seed, &mut comparisons, &mut tally, &mut progress);
     let seconds = progress.end().as_secs_f64();
     let made = grouped(tally.calls());
     compared.map_err(|difference| {
@@ -127,29 +128,57 @@ fn run(calls: u64, seed: u64) -> Result<(), String> {
     }
 }
 
-fn compare(
-    calls: u64,
-    seed: u64,
-    tally: &mut Tally,
-    progress: &mut Progress,
-) -> Result<(), String> {
+/// Each kind with the calls that are made in turn.
+type Shares = [(u64, Box<dyn Comparison>); 5];
+
+fn comparisons(calls: u64) -> Shares {
     let share = (calls / 100).clamp(100, 20_000);
-    let mut comparisons: [(u64, Box<dyn Comparison>); 5] = [
+    [
         (share, Box::new(Frames::default())),
         (share, Box::new(Lines::new())),
         (share, Box::new(Workouts)),
         (share, Box::new(Leases::new())),
         (1, Box::new(Listings::new())),
-    ];
+    ]
+}
+
+/// Makes at least so many calls, or ends with the first difference.
+fn compare(
+    calls: u64,
+    seed: u64,
+    comparisons: &mut Shares,
+    tally: &mut Tally,
+    progress: &mut Progress,
+) -> Result<(), String> {
     let mut random = Xorshift::seeded(seed);
     while tally.calls() < calls {
-        for (share, comparison) in &mut comparisons {
-            let until = tally.calls() + *share;
-            while tally.calls() < until {
-                comparison.step(&mut random, tally)?;
-            }
-            progress.tell(tally.calls(), comparison.kind());
-        }
+        take_turns(comparisons, &mut random, tally, progress)?;
+    }
+    Ok(())
+}
+
+fn take_turns(
+    comparisons: &mut Shares,
+    random: &mut Xorshift,
+    tally: &mut Tally,
+    progress: &mut Progress,
+) -> Result<(), String> {
+    for (share, comparison) in comparisons {
+        let until = tally.calls() + *share;
+        take_turn(comparison.as_mut(), until, random, tally)?;
+        progress.tell(tally.calls(), comparison.kind());
+    }
+    Ok(())
+}
+
+fn take_turn(
+    comparison: &mut dyn Comparison,
+    until: u64,
+    random: &mut Xorshift,
+    tally: &mut Tally,
+) -> Result<(), String> {
+    while tally.calls() < until {
+        comparison.step(random, tally)?;
     }
     Ok(())
 }
