@@ -6,15 +6,15 @@ use crate::{ffi, Error};
 /// The length of a workout's contents.
 pub const LEN: usize = 23;
 
-/// Metres.
+/// A distance in metres.
 #[derive(Clone, Copy, Debug, PartialEq, Eq, PartialOrd, Ord, Hash)]
 pub struct Metres(pub u32);
 
-/// Seconds.
+/// A time in seconds.
 #[derive(Clone, Copy, Debug, PartialEq, Eq, PartialOrd, Ord, Hash)]
 pub struct Seconds(pub u32);
 
-/// Hundredths of a second.
+/// A time in hundredths of a second.
 #[derive(Clone, Copy, Debug, PartialEq, Eq, PartialOrd, Ord, Hash)]
 pub struct Hundredths(pub u32);
 
