@@ -4,18 +4,20 @@
 
 use std::env;
 use std::fs;
-use std::io::ErrorKind;
+use std::io::{ErrorKind, Write};
 use std::path::{Path, PathBuf};
-use std::process::{exit, Command};
+use std::process::{exit, Command, Stdio};
 
 const ARCHIVE: &str = "libexports.a";
 const READY_ARCHIVE: &str = "CSAFE_STATICLIB";
 
+/// The target that the kit compiles for: processor, system and the bits of a pointer.
+const ARCHIVE_TARGET: [&str; 3] = ["x86_64", "linux", "64"];
+
 fn main() {
     println!("cargo:rerun-if-changed=build.rs");
-    println!("cargo:rerun-if-changed=../../crates");
-    println!("cargo:rerun-if-changed=../../crates.txt");
     println!("cargo:rerun-if-env-changed={READY_ARCHIVE}");
+    check_target();
     let made = match env::var_os(READY_ARCHIVE) {
         Some(directory) => ready_archive(Path::new(&directory)),
         None => proved_archive(&package_directory().join("../..")),
@@ -36,8 +38,32 @@ fn variable(name: &str) -> String {
     }
 }
 
+/// The linker's messages about an archive of another target don't tell what is wrong.
+fn check_target() {
+    let target =
+        ["ARCH", "OS", "POINTER_WIDTH"].map(|part| variable(&format!("CARGO_CFG_TARGET_{part}")));
+    if target != ARCHIVE_TARGET {
+        let described =
+            |[arch, os, width]: [&str; 3]| format!("{arch} {os} with {width}-bit pointers");
+        stop(&format!(
+            "the static library is for {}, and this build is for {}.",
+            described(ARCHIVE_TARGET),
+            described(target.each_ref().map(String::as_str))
+        ));
+    }
+}
+
 /// The archive that the caller has made.
+///
+/// Cargo runs this program in the package's directory and does not tell where it was called itself: `PWD` is that of
+/// the last shell, which `make -C` and `env -C` leave as it was. So a relative path has no sure meaning here.
 fn ready_archive(directory: &Path) -> PathBuf {
+    if !directory.is_absolute() {
+        stop(&format!(
+            "{READY_ARCHIVE} is the relative path `{0}`, and an absolute one is needed. In a shell, {READY_ARCHIVE}=\"$PWD/{0}\" starts from the current directory.",
+            directory.display()
+        ));
+    }
     let archive = directory.join(ARCHIVE);
     println!("cargo:rerun-if-changed={}", archive.display());
     if !archive.is_file() {
@@ -51,10 +77,18 @@ fn ready_archive(directory: &Path) -> PathBuf {
 
 /// The archive that `rt` proves and compiles in the repository's root.
 fn proved_archive(root: &Path) -> PathBuf {
+    println!("cargo:rerun-if-changed=../../crates");
+    println!("cargo:rerun-if-changed=../../crates.txt");
     let run = Command::new("rt")
         .args(["staticlib", "exports"])
         .current_dir(root)
-        .output();
+        .stdout(Stdio::piped())
+        .stderr(Stdio::piped())
+        .spawn()
+        .and_then(|proving| {
+            tell("`rt staticlib exports` proves and compiles the static library. This takes about 20 seconds, and 2 to 4 minutes where nothing is proved yet.");
+            proving.wait_with_output()
+        });
     let output = match run {
         Ok(output) => output,
         Err(error) if error.kind() == ErrorKind::NotFound => stop(&format!(
@@ -71,6 +105,16 @@ fn proved_archive(root: &Path) -> PathBuf {
         ));
     }
     root.join("target").join("staticlib").join(ARCHIVE)
+}
+
+/// Tells the user at once what takes long. Cargo shows standard error after a failure or with `-vv` only, and it
+/// shows a `cargo:warning` after the work and again with each later build. So the terminal gets the line itself.
+fn tell(message: &str) {
+    eprintln!("csafe: {message}");
+    if let Ok(mut terminal) = fs::OpenOptions::new().write(true).open("/dev/tty") {
+        // The first characters clear the line on which Cargo shows its progress.
+        let _ = writeln!(terminal, "\r\x1b[Kcsafe: {message}");
+    }
 }
 
 /// Links a copy of the archive. `rt ci` removes the repository's `target`, and the copy outlasts that.

@@ -6,9 +6,16 @@ pub const SEED: u64 = 0x5DEE_CE66_D2B7_9A31;
 /// Marsaglia's xorshift generator with a multiplied output.
 pub struct Xorshift(u64);
 
+// No program uses all of them.
+#[allow(dead_code)]
 impl Xorshift {
     pub fn new() -> Xorshift {
-        Xorshift(SEED)
+        Xorshift::seeded(SEED)
+    }
+
+    /// The seed is not 0.
+    pub fn seeded(seed: u64) -> Xorshift {
+        Xorshift(seed)
     }
 
     pub fn number(&mut self) -> u64 {
@@ -25,14 +32,19 @@ impl Xorshift {
 
     /// Bytes of which about `percent` of a hundred are F0 to F3, and the others any.
     pub fn bytes(&mut self, len: usize, percent: usize) -> Vec<u8> {
-        (0..len)
-            .map(|_| {
-                if self.below(100) < percent {
-                    0xF0 + self.below(4) as u8
-                } else {
-                    self.below(256) as u8
-                }
-            })
-            .collect()
+        let mut bytes = Vec::new();
+        self.push_bytes(&mut bytes, len, percent);
+        bytes
+    }
+
+    /// Appends such bytes.
+    pub fn push_bytes(&mut self, bytes: &mut Vec<u8>, len: usize, percent: usize) {
+        bytes.extend((0..len).map(|_| {
+            if self.below(100) < percent {
+                0xF0 + self.below(4) as u8
+            } else {
+                self.below(256) as u8
+            }
+        }));
     }
 }

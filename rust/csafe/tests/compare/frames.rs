@@ -8,12 +8,10 @@ use crate::common::Xorshift;
 use crate::frame_damage::{damage, damage_with_checksum, Plain, STANDARD_START, STOP};
 use crate::output::{hex, same, told, Output};
 use crate::tally::Tally;
+use crate::traces::ALPHABET;
 
 /// Room for every frame and every contents.
 const AMPLE: usize = 256;
-
-/// The bytes that decide what a frame is, and some that don't.
-const ALPHABET: [u8; 7] = [0xF0, 0xF1, 0xF2, 0xF3, 0x00, 0x01, 0x41];
 
 /// What the independent side answers for a frame.
 pub fn as_read(frame: Frame<'_>) -> Read {
@@ -132,12 +130,13 @@ fn every_pair_between_flags_is_read_alike() {
 fn random_and_damaged_frames_are_read_alike() {
     let mut random = Xorshift::new();
     let mut tally = Tally::default();
+    let (mut plain, mut wire) = (Plain::default(), Vec::new());
     for _ in 0..400_000 {
-        let plain = Plain::any(&mut random);
-        let mut wire = match written_on_both(&plain, AMPLE) {
-            Ok(wire) => wire,
-            Err(_) => plain.wire(),
-        };
+        plain.renew(&mut random);
+        plain.put_wire(&mut wire);
+        if let Ok(written) = written_on_both(&plain, AMPLE) {
+            assert_eq!(hex(&written), hex(&wire));
+        }
         match random.below(4) {
             0 => {}
             1 => damage_with_checksum(&mut wire, &mut random),
@@ -172,6 +171,7 @@ fn random_bytes_between_flags_are_read_alike() {
 #[test]
 fn frames_about_the_limit_are_treated_alike() {
     let mut tally = Tally::default();
+    let mut wire = Vec::new();
     for addresses in [None, Some((0x05, 0x00)), Some((0xF1, 0xF3))] {
         for len in 100..=122 {
             for escapes in 0..=6 {
@@ -183,7 +183,7 @@ fn frames_about_the_limit_are_treated_alike() {
                 };
                 let written = written_on_both(&plain, AMPLE);
                 tally.add(&written);
-                let wire = plain.wire();
+                plain.put_wire(&mut wire);
                 assert_eq!(written.is_ok(), wire.len() <= frame::WIRE_LIMIT);
                 assert_eq!(read_on_both(&wire, AMPLE).is_ok(), written.is_ok());
             }
@@ -196,14 +196,16 @@ fn frames_about_the_limit_are_treated_alike() {
 fn random_contents_are_written_alike() {
     let mut random = Xorshift::new();
     let mut tally = Tally::default();
+    let (mut plain, mut wire) = (Plain::default(), Vec::new());
     for _ in 0..200_000 {
-        let mut plain = Plain::any(&mut random);
+        plain.renew(&mut random);
         let share = [0, 5, 50][random.below(3)];
         let len = random.below(201);
         if random.below(2) == 0 {
             plain.contents = random.bytes(len, share);
         }
-        let exact = plain.wire().len();
+        plain.put_wire(&mut wire);
+        let exact = wire.len();
         let room = match random.below(3) {
             0 => random.below(AMPLE),
             1 => exact + 1 - random.below(3),
@@ -211,9 +213,9 @@ fn random_contents_are_written_alike() {
         };
         let written = written_on_both(&plain, room);
         tally.add(&written);
-        if let Ok(wire) = written {
-            assert_eq!(hex(&wire), hex(&plain.wire()));
-            let read = read_on_both(&wire, plain.contents.len());
+        if let Ok(written) = written {
+            assert_eq!(hex(&written), hex(&wire));
+            let read = read_on_both(&written, plain.contents.len());
             assert_eq!(read.as_ref().map(contents_len), Ok(plain.contents.len()));
         }
     }

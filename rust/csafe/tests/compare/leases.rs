@@ -4,84 +4,11 @@ use csafe::{lease, Error};
 use plain::lease as plain_rust;
 
 use crate::common::Xorshift;
+use crate::lease_calls::{any_table, Action, Call, ADDRESSES};
 use crate::output::{hex, same, told, Output};
-
-const ADDRESSES: [u32; 18] = [
-    0x00,
-    0x01,
-    0x02,
-    0x05,
-    0x7F,
-    0x80,
-    0xEF,
-    0xF0,
-    0xF2,
-    0xF3,
-    0xFB,
-    0xFC,
-    0xFD,
-    0xFF,
-    0x100,
-    0x105,
-    0x1FC,
-    u32::MAX,
-];
-
-const TOKENS: [u64; 8] = [
-    0,
-    1,
-    2,
-    0x0100,
-    0x0102_0304_0506_0708,
-    0x8000_0000_0000_0000,
-    0xFF00_0000_0000_0001,
-    u64::MAX,
-];
-
-/// Lengths of tables that are refused.
-const WRONG_LENS: [usize; 6] = [0, 1, 8, 2_047, 2_049, 4_096];
 
 /// The frame that a stop writes is this long where its address needs no escape.
 const STOP_LEN: usize = 11;
-
-#[derive(Clone, Copy, Debug, PartialEq, Eq)]
-enum Action {
-    Hold,
-    Release,
-    Stop { room: usize },
-}
-
-#[derive(Clone, Copy, Debug)]
-struct Call {
-    action: Action,
-    address: u32,
-    token: u64,
-    /// The length of a table to lend in place of the true one.
-    wrong_len: Option<usize>,
-}
-
-impl Call {
-    /// Few tokens on few addresses, so that the holder's token is often met.
-    fn any(random: &mut Xorshift) -> Call {
-        let action = match random.below(4) {
-            0 | 1 => Action::Stop {
-                room: random.below(16),
-            },
-            2 => Action::Hold,
-            _ => Action::Release,
-        };
-        let wrong = random.below(24) == 0;
-        Call {
-            action,
-            address: ADDRESSES[random.below(ADDRESSES.len())],
-            token: match random.below(40) {
-                0 => random.number(),
-                _ => TOKENS[random.below(TOKENS.len())],
-            },
-            wrong_len: wrong.then(|| WRONG_LENS[random.below(WRONG_LENS.len())]),
-        }
-    }
-}
 
 /// A refusal's number, or the bytes that were written.
 type Answer = Result<Vec<u8>, u8>;
@@ -222,28 +149,14 @@ fn stop_frame(address: u8, room: usize) -> Answer {
     Ok(wire)
 }
 
-/// A table that is new, or, one time in three, one on which two addresses in three have a token of the test, which may be 0.
-fn table_of(random: &mut Xorshift) -> Vec<u8> {
-    let mut table = vec![0; lease::TABLE_LEN];
-    if random.below(3) > 0 {
-        return table;
-    }
-    for token in table.chunks_exact_mut(8) {
-        if random.below(3) > 0 {
-            token.copy_from_slice(&TOKENS[random.below(TOKENS.len())].to_le_bytes());
-        }
-    }
-    table
-}
-
 #[test]
 fn random_calls_are_answered_alike_and_as_the_history_says() {
     let mut random = Xorshift::new();
     let (mut accepted, mut stops) = (0, 0);
     for _ in 0..3_000 {
-        let start = table_of(&mut random);
+        let start = any_table(&mut random);
         let mut history = History::of(&start);
-        let (mut ours, mut theirs) = (start.clone(), start);
+        let (mut ours, mut theirs) = (start, start);
         let mut list = Vec::new();
         for _ in 0..200 {
             let call = Call::any(&mut random);

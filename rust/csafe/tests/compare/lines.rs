@@ -5,53 +5,12 @@ use csafe::LineReader;
 use plain::line::{Answer, Line};
 
 use crate::common::Xorshift;
-use crate::frame_damage::{
-    damage, damage_with_checksum, Plain, EXTENDED_START, STANDARD_START, STOP,
-};
+use crate::frame_damage::{EXTENDED_START, STANDARD_START, STOP};
 use crate::frames::as_read;
+use crate::held::Held;
 use crate::output::{hex, told, Output};
 use crate::tally::Tally;
-
-/// The bytes that decide what becomes of a line, and some that don't.
-const ALPHABET: [u8; 7] = [0xF0, 0xF1, 0xF2, 0xF3, 0x00, 0x01, 0x41];
-
-/// The modes of a reader, as its state counts them.
-const OUTSIDE: u64 = 0;
-const IN_STANDARD: u64 = 1;
-const IN_EXTENDED: u64 = 2;
-const OVERLONG: u64 = 3;
-
-/// What a reader's bytes and state have to be: each byte of an open candidate where it belongs, a frame's contents
-/// first once it is told, and all others as they were.
-struct Held {
-    bytes: Vec<u8>,
-    len: usize,
-    mode: u64,
-}
-
-impl Held {
-    fn take(&mut self, byte: u8, contents: &[u8]) {
-        let start = |mode| (0, mode);
-        (self.len, self.mode) = match byte {
-            EXTENDED_START => start(IN_EXTENDED),
-            STANDARD_START => start(IN_STANDARD),
-            STOP => {
-                self.bytes[..contents.len()].copy_from_slice(contents);
-                (0, OUTSIDE)
-            }
-            _ if self.mode == OUTSIDE || self.mode == OVERLONG => (self.len, self.mode),
-            _ if self.len == HELD_LEN => (0, OVERLONG),
-            _ => {
-                self.bytes[self.len] = byte;
-                (self.len + 1, self.mode)
-            }
-        };
-    }
-
-    fn state(&self) -> u64 {
-        self.mode + 4 * self.len as u64
-    }
-}
+use crate::traces::{Stretches, ALPHABET};
 
 /// Both readers. Ours stands twice: on lent bytes between two margins, and as the type that owns its bytes.
 struct Readers {
@@ -66,17 +25,13 @@ struct Readers {
 impl Readers {
     fn new() -> Readers {
         let lent = Output::new(HELD_LEN);
-        let bytes = lent.result(HELD_LEN).to_vec();
+        let bytes = lent.result(HELD_LEN).try_into();
         Readers {
             lent,
             state: 0,
             owned: LineReader::new(),
             theirs: Line::new(),
-            held: Held {
-                bytes,
-                len: 0,
-                mode: OUTSIDE,
-            },
+            held: Held::new(bytes.expect("the room is that of a reader")),
             tally: Tally::default(),
         }
     }
@@ -146,8 +101,7 @@ impl Readers {
 
     fn finish(&mut self, input: &dyn Fn() -> String) {
         let ours = line::finish(&mut self.state);
-        self.held.len = 0;
-        self.held.mode = OUTSIDE;
+        self.held.finish();
         assert_eq!(ours, self.owned.finish(), "{}", told(input));
         let answer = match ours {
             Ok(()) => Answer::Nothing,
@@ -159,10 +113,10 @@ impl Readers {
 
     fn check_held(&self, input: &dyn Fn() -> String) {
         assert!(
-            self.lent.result(HELD_LEN) == self.held.bytes,
+            self.lent.result(HELD_LEN) == self.held.bytes(),
             "the reader's bytes are {}, not {}: {}",
             hex(self.lent.result(HELD_LEN)),
-            hex(&self.held.bytes),
+            hex(self.held.bytes()),
             told(input)
         );
         assert_eq!(self.state, self.held.state(), "the state: {}", told(input));
@@ -187,32 +141,6 @@ fn contents_of(fed: Fed<'_>) -> &[u8] {
     match fed.told {
         Some(Ok(frame)) => frame.contents,
         _ => &[],
-    }
-}
-
-/// A stretch of a line: a sound frame, a damaged one, stray bytes, or bytes that are mostly flags.
-pub fn stretch(random: &mut Xorshift) -> Vec<u8> {
-    match random.below(8) {
-        0..=2 => Plain::any(random).wire(),
-        3..=4 => {
-            let mut wire = Plain::any(random).wire();
-            for _ in 0..=random.below(3) {
-                damage(&mut wire, random);
-            }
-            wire
-        }
-        5 => {
-            let mut wire = Plain::any(random).wire();
-            damage_with_checksum(&mut wire, random);
-            wire
-        }
-        6 => {
-            let len = random.below(40);
-            random.bytes(len, 5)
-        }
-        _ => (0..random.below(12))
-            .map(|_| ALPHABET[random.below(ALPHABET.len())])
-            .collect(),
     }
 }
 
@@ -248,10 +176,11 @@ fn every_short_line_is_read_alike() {
 fn random_and_damaged_lines_are_read_alike() {
     let mut random = Xorshift::new();
     let mut readers = Readers::new();
+    let mut stretches = Stretches::default();
     for number in 0..300_000 {
         let mut line = Vec::new();
         for _ in 0..=random.below(4) {
-            line.extend(stretch(&mut random));
+            line.extend(stretches.any(&mut random));
         }
         if random.below(4) == 0 {
             line.truncate(random.below(line.len() + 1));
@@ -285,9 +214,10 @@ fn candidates_about_the_limit_are_read_alike() {
 #[test]
 fn long_chunks_are_read_alike() {
     let mut random = Xorshift::new();
+    let mut stretches = Stretches::default();
     let mut line = Vec::new();
     while line.len() < 1_000_000 {
-        line.extend(stretch(&mut random));
+        line.extend(stretches.any(&mut random));
     }
     for limit in [65_535, 65_536, 65_537, line.len()] {
         Readers::new().feed(&line, |left| limit.min(left));

@@ -4,19 +4,17 @@ mod arguments;
 
 use std::ffi::OsStr;
 use std::fs::{self, File};
-use std::io::{Cursor, Write};
+use std::io::Cursor;
 use std::path::{Path, PathBuf};
 use std::process::{Command, Output, Stdio};
 use std::sync::OnceLock;
-use std::thread;
 
 use plain::listing;
 
 use crate::common::{Xorshift, SEED};
-use crate::lines::stretch;
+use crate::listed::listed;
 use crate::program;
-
-const TERMINATE: [u8; 6] = [0x76, 0x04, 0x13, 0x02, 0x01, 0x02];
+use crate::traces::Stretches;
 
 fn program() -> &'static Path {
     static PROGRAM: OnceLock<PathBuf> = OnceLock::new();
@@ -24,25 +22,8 @@ fn program() -> &'static Path {
 }
 
 /// What our program prints of a trace that arrives in pieces whose lengths `piece` chooses.
-fn ours(trace: &[u8], mut piece: impl FnMut(usize) -> usize) -> Output {
-    let mut child = Command::new(program())
-        .stdin(Stdio::piped())
-        .stdout(Stdio::piped())
-        .stderr(Stdio::piped())
-        .spawn()
-        .expect("the program starts");
-    let mut input = child.stdin.take().expect("the input is a pipe");
-    thread::scope(|scope| {
-        let reading = scope.spawn(|| child.wait_with_output().expect("the program ends"));
-        let mut rest = trace;
-        while !rest.is_empty() {
-            let (now, later) = rest.split_at(piece(rest.len()));
-            input.write_all(now).expect("the program reads");
-            rest = later;
-        }
-        drop(input);
-        reading.join().expect("the program's output is read")
-    })
+fn ours(trace: &[u8], piece: impl FnMut(usize) -> usize) -> Output {
+    listed(program(), trace, piece).expect("the program runs")
 }
 
 /// What our program prints with these arguments.
@@ -90,52 +71,14 @@ fn check_told(what: &str, printed: &Output, told: &str) {
     assert!(printed.status.success(), "{what}");
 }
 
-/// Frames with stops among them, damage and stray bytes.
-fn trace(random: &mut Xorshift, len: usize) -> Vec<u8> {
-    let mut trace = Vec::new();
-    while trace.len() < len {
-        match random.below(10) {
-            0 => trace.extend(command_frame(random)),
-            _ => trace.extend(stretch(random)),
-        }
-    }
-    trace
-}
-
-/// A sound frame whose contents are commands about the one that ends a workout, changed in places.
-fn command_frame(random: &mut Xorshift) -> Vec<u8> {
-    let mut contents = Vec::new();
-    for _ in 0..=random.below(3) {
-        let mut part = match random.below(3) {
-            0 => vec![0x80 + random.below(0x40) as u8],
-            1 => vec![
-                [0x1A, 0x77, 0x7E, 0x7F, 0x13][random.below(5)],
-                0x04,
-                0x13,
-                0x02,
-                0x01,
-                0x02,
-            ],
-            _ => TERMINATE.to_vec(),
-        };
-        if random.below(4) == 0 {
-            let at = random.below(part.len());
-            part[at] = random.below(8) as u8;
-        }
-        contents.extend(part);
-    }
-    let mut wire = [0; 128];
-    let len = plain::frame::write_extended(0x05, random.below(256) as u8, &contents, &mut wire)
-        .expect("the frame is short enough");
-    wire[..len].to_vec()
-}
-
 #[test]
 fn many_short_traces_are_listed_alike() {
     let mut random = Xorshift::new();
+    let mut stretches = Stretches::default();
+    let mut bytes = Vec::new();
     for number in 0..400 {
         let len = random.below(400);
-        let mut bytes = trace(&mut random, len);
+        stretches.put_trace(&mut random, len, &mut bytes);
         bytes.truncate(len);
         let what = format!("trace {number} of seed {SEED:#X}");
         check(&what, &bytes, |left| 1 + random.below(left));
@@ -145,7 +88,8 @@ fn many_short_traces_are_listed_alike() {
 #[test]
 fn long_traces_are_listed_alike_in_any_pieces() {
     let mut random = Xorshift::new();
-    let bytes = trace(&mut random, 4_000_000);
+    let mut bytes = Vec::new();
+    Stretches::default().put_trace(&mut random, 4_000_000, &mut bytes);
     let stops = theirs(&bytes)
         .windows(8)
         .filter(|text| text == b"stop=yes")

@@ -6,13 +6,24 @@
 
 #[path = "../common/mod.rs"]
 mod common;
+#[path = "../common/frame_damage.rs"]
 mod frame_damage;
 mod frames;
+#[path = "../common/held.rs"]
+mod held;
+#[path = "../common/lease_calls.rs"]
+mod lease_calls;
 mod leases;
+#[path = "../common/output.rs"]
+mod lent_output;
 mod lines;
+#[path = "../common/listed.rs"]
+mod listed;
 mod listings;
 mod output;
 #[path = "../common/program.rs"]
 mod program;
 mod tally;
+#[path = "../common/traces.rs"]
+mod traces;
 mod workouts;

@@ -1,44 +1,7 @@
-//! Outputs filled with a pattern, and what a call has to leave in them.
+//! What both sides answered and left in their outputs.
 
 use crate::common::SEED;
-
-/// Bytes around the slice that is lent, which no call may change.
-const MARGIN: usize = 16;
-
-/// An output of a given length that stands between two margins.
-pub struct Output {
-    bytes: Vec<u8>,
-}
-
-impl Output {
-    pub fn new(room: usize) -> Output {
-        Output {
-            bytes: (0..room + 2 * MARGIN).map(pattern).collect(),
-        }
-    }
-
-    pub fn lent(&mut self) -> &mut [u8] {
-        let end = self.bytes.len() - MARGIN;
-        &mut self.bytes[MARGIN..end]
-    }
-
-    /// The first bytes of the lent slice.
-    pub fn result(&self, len: usize) -> &[u8] {
-        &self.bytes[MARGIN..MARGIN + len]
-    }
-
-    /// Whether all but the first `len` bytes of the lent slice are as they were.
-    pub fn kept_past(&self, len: usize) -> bool {
-        self.bytes
-            .iter()
-            .enumerate()
-            .all(|(at, byte)| (MARGIN..MARGIN + len).contains(&at) || *byte == pattern(at))
-    }
-}
-
-fn pattern(at: usize) -> u8 {
-    (at as u8).wrapping_mul(37) ^ 0xA5
-}
+pub use crate::lent_output::Output;
 
 /// Compares what both sides answered and left in their outputs. `len` tells the length of the result.
 pub fn same<T: PartialEq + std::fmt::Debug>(

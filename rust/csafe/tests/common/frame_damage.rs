@@ -8,13 +8,15 @@ pub const STOP: u8 = 0xF2;
 pub const ESCAPE: u8 = 0xF3;
 
 /// A header and contents, as they stand before stuffing.
+#[derive(Default)]
 pub struct Plain {
     pub addresses: Option<(u8, u8)>,
     pub contents: Vec<u8>,
 }
 
 impl Plain {
-    pub fn any(random: &mut Xorshift) -> Plain {
+    /// Takes another header and other contents.
+    pub fn renew(&mut self, random: &mut Xorshift) {
         let len = match random.below(4) {
             0 => random.below(4),
             1 => random.below(24),
@@ -22,37 +24,37 @@ impl Plain {
             _ => random.below(160),
         };
         let share = [0, 0, 20, 50, 100][random.below(5)];
-        let addresses = match random.below(2) {
+        self.addresses = match random.below(2) {
             0 => None,
             _ => Some((address(random), address(random))),
         };
-        Plain {
-            addresses,
-            contents: random.bytes(len, share),
-        }
+        self.contents.clear();
+        random.push_bytes(&mut self.contents, len, share);
     }
 
-    /// The bytes on the wire, with no limit to their number.
-    pub fn wire(&self) -> Vec<u8> {
-        let mut body = Vec::new();
-        if let Some((to, from)) = self.addresses {
-            body.extend([to, from]);
-        }
-        body.extend(&self.contents);
-        body.push(self.contents.iter().fold(0, |sum, byte| sum ^ byte));
-        let start = match self.addresses {
-            None => STANDARD_START,
-            Some(_) => EXTENDED_START,
-        };
-        let mut wire = vec![start];
-        for byte in body {
-            match byte {
-                EXTENDED_START..=ESCAPE => wire.extend([ESCAPE, byte - EXTENDED_START]),
-                _ => wire.push(byte),
+    /// Puts the bytes on the wire in place of what `wire` has, with no limit to their number.
+    pub fn put_wire(&self, wire: &mut Vec<u8>) {
+        wire.clear();
+        match self.addresses {
+            None => wire.push(STANDARD_START),
+            Some((to, from)) => {
+                wire.push(EXTENDED_START);
+                push_stuffed(wire, &[to, from]);
             }
         }
+        push_stuffed(wire, &self.contents);
+        let checksum = self.contents.iter().fold(0, |sum, byte| sum ^ byte);
+        push_stuffed(wire, &[checksum]);
         wire.push(STOP);
-        wire
+    }
+}
+
+fn push_stuffed(wire: &mut Vec<u8>, bytes: &[u8]) {
+    for byte in bytes {
+        match byte {
+            EXTENDED_START..=ESCAPE => wire.extend([ESCAPE, byte - EXTENDED_START]),
+            _ => wire.push(*byte),
+        }
     }
 }
 

@@ -1,0 +1,132 @@
+//! Answers as plain data, and what each function can answer.
+
+use std::fmt;
+
+use Outcome::{Accepted, Nothing, Refused};
+
+/// The kinds of a result. A line reader that told nothing has a kind of its own.
+pub const STANDARD: u8 = 0;
+pub const EXTENDED: u8 = 1;
+pub const NOTHING: u8 = 2;
+
+/// What a call answered: a refusal's number or 0, and of a result its kind, addresses and length, which are 0 where
+/// it has none.
+#[derive(Clone, Copy, Debug, Default, PartialEq, Eq)]
+pub struct Answer {
+    pub number: u8,
+    pub kind: u8,
+    pub to: u8,
+    pub from: u8,
+    pub len: usize,
+}
+
+impl Answer {
+    pub fn refused(number: u8) -> Answer {
+        Answer {
+            number,
+            ..Answer::default()
+        }
+    }
+
+    /// A result of this length that is no frame read.
+    pub fn done(len: usize) -> Answer {
+        Answer {
+            len,
+            ..Answer::default()
+        }
+    }
+
+    pub fn standard(len: usize) -> Answer {
+        Answer {
+            kind: STANDARD,
+            ..Answer::done(len)
+        }
+    }
+
+    pub fn extended(to: u8, from: u8, len: usize) -> Answer {
+        Answer {
+            kind: EXTENDED,
+            to,
+            from,
+            ..Answer::done(len)
+        }
+    }
+
+    pub fn nothing() -> Answer {
+        Answer {
+            kind: NOTHING,
+            ..Answer::default()
+        }
+    }
+
+    pub fn outcome(self) -> Outcome {
+        match (self.number, self.kind) {
+            (0, NOTHING) => Nothing,
+            (0, _) => Accepted,
+            (number, _) => Refused(number),
+        }
+    }
+}
+
+impl fmt::Display for Answer {
+    fn fmt(&self, f: &mut fmt::Formatter<'_>) -> fmt::Result {
+        let Answer {
+            number,
+            kind,
+            to,
+            from,
+            len,
+        } = self;
+        write!(
+            f,
+            "number {number}, kind {kind}, to 0x{to:02X}, from 0x{from:02X}, length {len}"
+        )
+    }
+}
+
+/// What is counted of an answer.
+#[derive(Clone, Copy)]
+pub enum Outcome {
+    Accepted,
+    Nothing,
+    Refused(u8),
+}
+
+/// The exported functions, in the order of `csafe.h`, and the listing program.
+#[derive(Clone, Copy)]
+pub enum Function {
+    WriteStandard,
+    WriteExtended,
+    Read,
+    Feed,
+    Finish,
+    WriteDistanceWorkout,
+    WriteTimeWorkout,
+    Hold,
+    Release,
+    Stop,
+    Listing,
+}
+
+/// Each function with its name and every answer that it can give.
+#[rustfmt::skip]
+pub const FUNCTIONS: [(Function, &str, &[Outcome]); 11] = [
+    (Function::WriteStandard, "csafe_write_standard", &[Accepted, Refused(2), Refused(1)]),
+    (Function::WriteExtended, "csafe_write_extended", &[Accepted, Refused(2), Refused(1)]),
+    (Function::Read, "csafe_read",
+        &[Accepted, Refused(6), Refused(2), Refused(3), Refused(4), Refused(5), Refused(1)]),
+    (Function::Feed, "csafe_feed", &[Accepted, Nothing, Refused(6), Refused(2), Refused(3), Refused(4), Refused(5)]),
+    (Function::Finish, "csafe_finish", &[Nothing, Refused(6)]),
+    (Function::WriteDistanceWorkout, "csafe_write_distance_workout", &[Accepted, Refused(12), Refused(1)]),
+    (Function::WriteTimeWorkout, "csafe_write_time_workout", &[Accepted, Refused(12), Refused(1)]),
+    (Function::Hold, "csafe_hold", &[Accepted, Refused(18), Refused(9), Refused(14), Refused(10)]),
+    (Function::Release, "csafe_release", &[Accepted, Refused(18), Refused(9), Refused(11)]),
+    (Function::Stop, "csafe_stop", &[Accepted, Refused(18), Refused(9), Refused(11), Refused(1)]),
+    (Function::Listing, "listing", &[Accepted, Refused(6), Refused(2), Refused(3), Refused(4), Refused(5)]),
+];
+
+impl Function {
+    pub fn name(self) -> &'static str {
+        FUNCTIONS[self as usize].1
+    }
+}

@@ -1,0 +1,147 @@
+//! Frames that are written, read, damaged and read again.
+
+use crate::answer::Function;
+use crate::both::{literal, make};
+use crate::common::Xorshift;
+use crate::frame_damage::{damage, damage_with_checksum, Plain, STANDARD_START, STOP};
+use crate::tally::Tally;
+use crate::traces::ALPHABET;
+use crate::{ours, theirs, Comparison};
+
+/// Room for every result.
+const AMPLE: usize = 256;
+
+/// The longest output.
+const ROOM_LIMIT: usize = 512;
+
+/// How many bytes a slice has that is much too long.
+const VERY_LONG: usize = 5_000;
+
+/// The bytes before a slice that is lent, at most, and after it. They are flags, so that reading one of them would
+/// change an answer.
+const AROUND: usize = 32;
+
+#[derive(Default)]
+pub struct Frames {
+    plain: Plain,
+    wire: Vec<u8>,
+    placed: Vec<u8>,
+}
+
+impl Comparison for Frames {
+    fn kind(&self) -> &'static str {
+        "frames"
+    }
+
+    fn step(&mut self, random: &mut Xorshift, tally: &mut Tally) -> Result<(), String> {
+        self.plain.renew(random);
+        if random.below(512) == 0 {
+            let len = random.below(VERY_LONG);
+            random.push_bytes(&mut self.plain.contents, len, 0);
+        }
+        self.plain.put_wire(&mut self.wire);
+        self.write(random, tally)?;
+        self.read(random, tally)?;
+        self.spoil(random);
+        self.read(random, tally)
+    }
+}
+
+impl Frames {
+    fn write(&mut self, random: &mut Xorshift, tally: &mut Tally) -> Result<(), String> {
+        let contents = place(&mut self.placed, &self.plain.contents, random);
+        let room = any_room(random, self.wire.len());
+        let (function, made) = match self.plain.addresses {
+            None => (
+                Function::WriteStandard,
+                make(
+                    room,
+                    |out| ours::write_standard(contents, out),
+                    |out| theirs::write_standard(contents, out),
+                ),
+            ),
+            Some((to, from)) => (
+                Function::WriteExtended,
+                make(
+                    room,
+                    |out| ours::write_extended(to, from, contents, out),
+                    |out| theirs::write_extended(to, from, contents, out),
+                ),
+            ),
+        };
+        let answer = made.check(function, || {
+            let addresses = match self.plain.addresses {
+                None => String::new(),
+                Some((to, from)) => format!("to 0x{to:02X}\nfrom 0x{from:02X}\n"),
+            };
+            format!("{addresses}contents {}\n", literal(contents))
+        })?;
+        tally.add(function, answer);
+        Ok(())
+    }
+
+    fn read(&mut self, random: &mut Xorshift, tally: &mut Tally) -> Result<(), String> {
+        let wire = place(&mut self.placed, &self.wire, random);
+        let room = any_room(random, self.plain.contents.len());
+        let made = make(
+            room,
+            |out| ours::read(wire, out),
+            |out| theirs::read(wire, out),
+        );
+        let answer = made.check(Function::Read, || format!("wire {}\n", literal(wire)))?;
+        tally.add(Function::Read, answer);
+        Ok(())
+    }
+
+    /// Damages the frame, or puts something else in its place.
+    fn spoil(&mut self, random: &mut Xorshift) {
+        match random.below(8) {
+            0 => damage_with_checksum(&mut self.wire, random),
+            1..=4 => {
+                for _ in 0..=random.below(3) {
+                    damage(&mut self.wire, random);
+                }
+            }
+            5 => {
+                let len = random.below(125);
+                let percent = [0, 2, 20][random.below(3)];
+                self.wire.clear();
+                self.wire.push(STANDARD_START - random.below(2) as u8);
+                random.push_bytes(&mut self.wire, len, percent);
+                self.wire.push(STOP);
+            }
+            6 => {
+                let len = random.below(9);
+                self.wire.clear();
+                self.wire
+                    .extend((0..len).map(|_| ALPHABET[random.below(ALPHABET.len())]));
+            }
+            _ => {
+                let len = random.below(130);
+                self.wire.clear();
+                random.push_bytes(&mut self.wire, len, 5);
+            }
+        }
+    }
+}
+
+/// Puts bytes at a place of any alignment, between flags.
+fn place<'a>(placed: &'a mut Vec<u8>, bytes: &[u8], random: &mut Xorshift) -> &'a [u8] {
+    let start = random.below(AROUND);
+    placed.clear();
+    placed.resize(start, STOP);
+    placed.extend(bytes);
+    let end = placed.len();
+    placed.resize(end + AROUND, STOP);
+    &placed[start..end]
+}
+
+/// The length of an output: any, about that of the result, or ample.
+fn any_room(random: &mut Xorshift, exact: usize) -> usize {
+    let room = match random.below(4) {
+        0 => random.below(130),
+        1 => (exact + 1).saturating_sub(random.below(3)),
+        _ => AMPLE,
+    };
+    room.min(ROOM_LIMIT)
+}

@@ -1,0 +1,184 @@
+//! Line readers: ours is fed chunks of any length, the independent one the same bytes singly.
+
+use csafe::line::HELD_LEN;
+use plain::line::Line;
+
+use crate::answer::{Answer, Function, Outcome};
+use crate::both::literal;
+use crate::common::Xorshift;
+use crate::held::Held;
+use crate::lent_output::Output;
+use crate::tally::Tally;
+use crate::traces::Stretches;
+use crate::{ours, theirs, Comparison};
+
+/// How many readers are kept to go on from later.
+const KEPT: usize = 4;
+
+/// A reader on both sides, and what ours has to hold.
+#[derive(Clone)]
+struct Reader {
+    lent: Output,
+    state: u64,
+    theirs: Line,
+    held: Held,
+}
+
+impl Reader {
+    fn new() -> Reader {
+        let lent = Output::new(HELD_LEN);
+        let held = Held::new(held_bytes(&lent));
+        Reader {
+            lent,
+            state: 0,
+            theirs: Line::new(),
+            held,
+        }
+    }
+
+    fn feed(&mut self, chunk: &[u8]) -> (usize, Answer) {
+        match self.lent.lent().try_into() {
+            Ok(bytes) => ours::feed(bytes, &mut self.state, chunk),
+            Err(_) => unreachable!("the room is that of a reader"),
+        }
+    }
+
+    /// Feeds the independent reader up to its first answer.
+    fn feed_singly(&mut self, chunk: &[u8]) -> (usize, Answer) {
+        for (at, byte) in chunk.iter().enumerate() {
+            let answer = theirs::feed(&mut self.theirs, *byte);
+            let contents = match answer.outcome() {
+                Outcome::Accepted => self.theirs.contents(),
+                _ => &[],
+            };
+            self.held.take(*byte, contents);
+            if answer != Answer::nothing() {
+                return (at + 1, answer);
+            }
+        }
+        (chunk.len(), Answer::nothing())
+    }
+
+    fn is_as_held(&self) -> bool {
+        self.lent.result(HELD_LEN) == self.held.bytes()
+            && self.state == self.held.state()
+            && self.lent.kept_past(HELD_LEN)
+    }
+}
+
+fn held_bytes(lent: &Output) -> [u8; HELD_LEN] {
+    let mut bytes = [0; HELD_LEN];
+    bytes.copy_from_slice(lent.result(HELD_LEN));
+    bytes
+}
+
+pub struct Lines {
+    reader: Reader,
+    /// Our reader's bytes and state before the last call.
+    before: ([u8; HELD_LEN], u64),
+    kept: [Reader; KEPT],
+    stretches: Stretches,
+    line: Vec<u8>,
+}
+
+impl Comparison for Lines {
+    fn kind(&self) -> &'static str {
+        "lines"
+    }
+
+    fn step(&mut self, random: &mut Xorshift, tally: &mut Tally) -> Result<(), String> {
+        self.put_line(random);
+        let mut at = 0;
+        while at < self.line.len() {
+            let len = any_chunk(random, self.line.len() - at);
+            at += self.feed(at, len, tally)?;
+        }
+        if random.below(3) == 0 {
+            self.finish(tally)?;
+        }
+        let place = random.below(KEPT);
+        match random.below(16) {
+            0 => self.kept[place].clone_from(&self.reader),
+            1 => self.reader.clone_from(&self.kept[place]),
+            _ => {}
+        }
+        Ok(())
+    }
+}
+
+impl Lines {
+    pub fn new() -> Lines {
+        Lines {
+            reader: Reader::new(),
+            before: ([0; HELD_LEN], 0),
+            kept: std::array::from_fn(|_| Reader::new()),
+            stretches: Stretches::default(),
+            line: Vec::new(),
+        }
+    }
+
+    fn put_line(&mut self, random: &mut Xorshift) {
+        self.line.clear();
+        for _ in 0..=random.below(4) {
+            self.line.extend(self.stretches.any(random));
+        }
+        if random.below(4) == 0 {
+            self.line.truncate(random.below(self.line.len() + 1));
+        }
+    }
+
+    fn feed(&mut self, at: usize, len: usize, tally: &mut Tally) -> Result<usize, String> {
+        self.before = (held_bytes(&self.reader.lent), self.reader.state);
+        let chunk = &self.line[at..at + len];
+        let (taken, ours) = self.reader.feed(chunk);
+        let (their_taken, theirs) = self.reader.feed_singly(chunk);
+        if taken != their_taken || ours != theirs || !self.reader.is_as_held() {
+            let input = format!("input {}\n", literal(chunk));
+            let answers = [(taken, ours), (their_taken, theirs)];
+            return Err(self.difference(Function::Feed, &input, answers));
+        }
+        tally.add(Function::Feed, ours);
+        Ok(taken)
+    }
+
+    fn finish(&mut self, tally: &mut Tally) -> Result<(), String> {
+        self.before = (held_bytes(&self.reader.lent), self.reader.state);
+        let ours = ours::finish(&mut self.reader.state);
+        let theirs = theirs::finish(&mut self.reader.theirs);
+        self.reader.held.finish();
+        if ours != theirs || !self.reader.is_as_held() {
+            return Err(self.difference(Function::Finish, "", [(0, ours), (0, theirs)]));
+        }
+        tally.add(Function::Finish, ours);
+        Ok(())
+    }
+
+    fn difference(&self, function: Function, input: &str, answers: [(usize, Answer); 2]) -> String {
+        let reader = &self.reader;
+        let [(taken, ours), (their_taken, theirs)] = answers;
+        let (bytes, state) = &self.before;
+        let around = match reader.lent.kept_past(HELD_LEN) {
+            true => "",
+            false => "\n       bytes around the reader changed",
+        };
+        format!(
+            "{}\nbytes {}\nstate {state:#X}\n{input}ours:  taken {taken}, {ours}\n       state {:#X}, bytes {}{around}\nplain: taken {their_taken}, {theirs}\n       state {:#X}, bytes {}",
+            function.name(),
+            literal(bytes),
+            reader.state,
+            literal(reader.lent.result(HELD_LEN)),
+            reader.held.state(),
+            literal(reader.held.bytes()),
+        )
+    }
+}
+
+/// The length of a chunk, often 1 and often all.
+fn any_chunk(random: &mut Xorshift, left: usize) -> usize {
+    match random.below(4) {
+        0 => 1,
+        1 => random.below(8).min(left),
+        2 => random.below(left + 1),
+        _ => left,
+    }
+}

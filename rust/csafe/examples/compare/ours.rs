@@ -1,0 +1,79 @@
+//! Every call of the package, with its answer as plain data.
+
+use csafe::frame::{self, Kind};
+use csafe::line::{self, HELD_LEN};
+use csafe::workout::{Goal, Hundredths, Metres, Seconds};
+use csafe::{lease, Error, Frame, Workout};
+
+use crate::answer::Answer;
+
+pub fn write_standard(contents: &[u8], out: &mut [u8]) -> Answer {
+    written(frame::write_standard(contents, out))
+}
+
+pub fn write_extended(to: u8, from: u8, contents: &[u8], out: &mut [u8]) -> Answer {
+    written(frame::write_extended(to, from, contents, out))
+}
+
+pub fn read(wire: &[u8], out: &mut [u8]) -> Answer {
+    told(frame::read(wire, out))
+}
+
+pub fn feed(bytes: &mut [u8; HELD_LEN], state: &mut u64, input: &[u8]) -> (usize, Answer) {
+    let fed = line::feed(bytes, state, input);
+    (fed.taken, fed.told.map_or_else(Answer::nothing, told))
+}
+
+pub fn finish(state: &mut u64) -> Answer {
+    match line::finish(state) {
+        Ok(()) => Answer::nothing(),
+        Err(error) => Answer::refused(error.number()),
+    }
+}
+
+pub fn write_distance(metres: u32, split: u32, watts: u16, out: &mut [u8]) -> Answer {
+    let goal = Goal::Distance {
+        distance: Metres(metres),
+        split: Metres(split),
+    };
+    written(Workout { goal, watts }.write(out))
+}
+
+pub fn write_time(seconds: u32, split: u32, watts: u16, out: &mut [u8]) -> Answer {
+    let goal = Goal::Time {
+        time: Seconds(seconds),
+        split: Hundredths(split),
+    };
+    written(Workout { goal, watts }.write(out))
+}
+
+pub fn hold(table: &mut [u8], address: u32, token: u64) -> Answer {
+    written(lease::hold(table, address, token).map(|()| 0))
+}
+
+pub fn release(table: &mut [u8], address: u32, token: u64) -> Answer {
+    written(lease::release(table, address, token).map(|()| 0))
+}
+
+pub fn stop(table: &[u8], address: u32, token: u64, out: &mut [u8]) -> Answer {
+    written(lease::stop(table, address, token, out))
+}
+
+fn written(result: Result<usize, Error>) -> Answer {
+    match result {
+        Ok(len) => Answer::done(len),
+        Err(error) => Answer::refused(error.number()),
+    }
+}
+
+fn told(result: Result<Frame, Error>) -> Answer {
+    let frame = match result {
+        Ok(frame) => frame,
+        Err(error) => return Answer::refused(error.number()),
+    };
+    let len = frame.contents.len();
+    match frame.kind {
+        Kind::Standard => Answer::standard(len),
+        Kind::Extended { to, from } => Answer::extended(to, from, len),
+    }
+}

@@ -1,0 +1,73 @@
+//! The same calls of the independent implementation.
+
+use plain::frame::{self, Read};
+use plain::lease;
+use plain::line::{self, Line};
+use plain::workout::{self, Goal, Workout};
+
+use crate::answer::Answer;
+
+pub fn write_standard(contents: &[u8], out: &mut [u8]) -> Answer {
+    written(frame::write_standard(contents, out))
+}
+
+pub fn write_extended(to: u8, from: u8, contents: &[u8], out: &mut [u8]) -> Answer {
+    written(frame::write_extended(to, from, contents, out))
+}
+
+pub fn read(wire: &[u8], out: &mut [u8]) -> Answer {
+    match frame::read(wire, out) {
+        Ok(read) => frame_answer(read),
+        Err(number) => Answer::refused(number),
+    }
+}
+
+/// Feeds one byte.
+pub fn feed(line: &mut Line, byte: u8) -> Answer {
+    line_answer(line.feed(byte))
+}
+
+pub fn finish(line: &mut Line) -> Answer {
+    line_answer(line.finish())
+}
+
+pub fn write_distance(metres: u32, split: u32, watts: u16, out: &mut [u8]) -> Answer {
+    let goal = Goal::Distance { metres, split };
+    written(workout::write(Workout { goal, watts }, out))
+}
+
+pub fn write_time(seconds: u32, split: u32, watts: u16, out: &mut [u8]) -> Answer {
+    let goal = Goal::Time { seconds, split };
+    written(workout::write(Workout { goal, watts }, out))
+}
+
+pub fn hold(table: &mut [u8], address: u32, token: u64) -> Answer {
+    written(lease::hold(table, address, token).map(|()| 0))
+}
+
+pub fn release(table: &mut [u8], address: u32, token: u64) -> Answer {
+    written(lease::release(table, address, token).map(|()| 0))
+}
+
+pub fn stop(table: &[u8], address: u32, token: u64, out: &mut [u8]) -> Answer {
+    written(lease::stop(table, address, token, out))
+}
+
+fn written(result: Result<usize, u8>) -> Answer {
+    result.map_or_else(Answer::refused, Answer::done)
+}
+
+fn frame_answer(read: Read) -> Answer {
+    match read {
+        Read::Standard { len } => Answer::standard(len),
+        Read::Extended { to, from, len } => Answer::extended(to, from, len),
+    }
+}
+
+fn line_answer(answer: line::Answer) -> Answer {
+    match answer {
+        line::Answer::Nothing => Answer::nothing(),
+        line::Answer::Frame(read) => frame_answer(read),
+        line::Answer::Refused(number) => Answer::refused(number),
+    }
+}

@@ -1,0 +1,62 @@
+//! What a line reader has to hold.
+
+use csafe::line::HELD_LEN;
+
+use crate::frame_damage::{EXTENDED_START, STANDARD_START, STOP};
+
+/// The modes of a reader, as its state counts them.
+const OUTSIDE: u64 = 0;
+const IN_STANDARD: u64 = 1;
+const IN_EXTENDED: u64 = 2;
+const OVERLONG: u64 = 3;
+
+/// What a reader's bytes and state have to be: each byte of an open candidate where it belongs, a frame's contents
+/// first once it is told, and all others as they were.
+#[derive(Clone)]
+pub struct Held {
+    bytes: [u8; HELD_LEN],
+    len: usize,
+    mode: u64,
+}
+
+impl Held {
+    /// A new reader with these bytes.
+    pub fn new(bytes: [u8; HELD_LEN]) -> Held {
+        Held {
+            bytes,
+            len: 0,
+            mode: OUTSIDE,
+        }
+    }
+
+    pub fn take(&mut self, byte: u8, contents: &[u8]) {
+        let start = |mode| (0, mode);
+        (self.len, self.mode) = match byte {
+            EXTENDED_START => start(IN_EXTENDED),
+            STANDARD_START => start(IN_STANDARD),
+            STOP => {
+                self.bytes[..contents.len()].copy_from_slice(contents);
+                (0, OUTSIDE)
+            }
+            _ if self.mode == OUTSIDE || self.mode == OVERLONG => (self.len, self.mode),
+            _ if self.len == HELD_LEN => (0, OVERLONG),
+            _ => {
+                self.bytes[self.len] = byte;
+                (self.len + 1, self.mode)
+            }
+        };
+    }
+
+    pub fn finish(&mut self) {
+        self.len = 0;
+        self.mode = OUTSIDE;
+    }
+
+    pub fn bytes(&self) -> &[u8; HELD_LEN] {
+        &self.bytes
+    }
+
+    pub fn state(&self) -> u64 {
+        self.mode + 4 * self.len as u64
+    }
+}

@@ -1,0 +1,126 @@
+//! The declarations of the exported functions, in `src/ffi.rs` and in `csafe.h`, against the Rattle source: name by
+//! name, parameter by parameter, type by type, in order and both ways.
+//!
+//! The readers of the three files know what stands there and nothing else. Anything else fails the tests.
+
+mod changes;
+mod extern_block;
+mod header;
+mod rattle;
+mod signature;
+mod tokens;
+
+use std::fs;
+use std::path::{Path, PathBuf};
+
+use csafe::{frame, lease, line, workout, Error};
+
+use header::Header;
+use signature::{compare, without_array_lengths};
+
+/// The refusals that the exported functions give.
+const GIVEN: [u8; 12] = [1, 2, 3, 4, 5, 6, 9, 10, 11, 12, 14, 18];
+
+/// The three files.
+struct Texts {
+    source: String,
+    ffi: String,
+    header: String,
+}
+
+impl Texts {
+    fn read() -> Texts {
+        Texts {
+            source: text(&exports().join("lib.rt")),
+            ffi: text(&package().join("src/ffi.rs")),
+            header: text(&package().join("csafe.h")),
+        }
+    }
+
+    /// Answers the first difference. The block in Rust has a plain pointer where the others have an array.
+    fn check(&self) -> Result<(), String> {
+        let source = rattle::exported(&self.source)?;
+        let declared = extern_block::declared(&self.ffi)?;
+        let header = Header::read(&self.header)?.functions;
+        compare(&without_array_lengths(&source), &declared)
+            .map_err(|difference| format!("src/ffi.rs and the source: {difference}"))?;
+        compare(&source, &header)
+            .map_err(|difference| format!("csafe.h and the source: {difference}"))?;
+        compare(&without_array_lengths(&header), &declared)
+            .map_err(|difference| format!("src/ffi.rs and csafe.h: {difference}"))
+    }
+}
+
+fn package() -> &'static Path {
+    Path::new(env!("CARGO_MANIFEST_DIR"))
+}
+
+fn exports() -> PathBuf {
+    package().join("../../crates/exports/src")
+}
+
+fn text(path: &Path) -> String {
+    fs::read_to_string(path).unwrap_or_else(|error| panic!("{}: {error}", path.display()))
+}
+
+#[test]
+fn the_declarations_are_those_of_the_source() {
+    let texts = Texts::read();
+    assert_eq!(texts.check(), Ok(()));
+    let functions = rattle::exported(&texts.source).expect("it was read before");
+    assert!(functions.len() >= 10, "{} functions", functions.len());
+}
+
+#[test]
+fn no_other_file_of_the_source_exports() {
+    for entry in fs::read_dir(exports()).expect("the source is there") {
+        let path = entry.expect("a file of the source").path();
+        if path.file_name().is_some_and(|name| name != "lib.rt") {
+            let exported = rattle::exported(&text(&path));
+            assert_eq!(exported, Ok(Vec::new()), "{}", path.display());
+        }
+    }
+}
+
+#[test]
+fn the_headers_lengths_are_those_of_the_package() {
+    let header = Header::read(&Texts::read().header).expect("the header is read");
+    let lengths: Vec<(&str, usize)> = header
+        .defines
+        .iter()
+        .map(|(name, number)| (name.as_str(), *number))
+        .collect();
+    let expected = [
+        ("CSAFE_WIRE_LIMIT", frame::WIRE_LIMIT),
+        ("CSAFE_CONTENTS_LIMIT", frame::CONTENTS_LIMIT),
+        ("CSAFE_LINE_LEN", line::HELD_LEN),
+        ("CSAFE_WORKOUT_LEN", workout::LEN),
+        ("CSAFE_STOP_LIMIT", lease::STOP_LIMIT),
+        ("CSAFE_TABLE_LEN", lease::TABLE_LEN),
+    ];
+    assert_eq!(lengths, expected);
+}
+
+#[test]
+fn the_headers_numbers_are_those_of_the_package() {
+    let header = Header::read(&Texts::read().header).expect("the header is read");
+    let mut expected = vec![("CSAFE_OK".to_string(), 0)];
+    expected.extend(GIVEN.map(|number| (refusal_name(number), usize::from(number))));
+    for (kind, number) in [("STANDARD", 0), ("EXTENDED", 1), ("NOTHING", 2)] {
+        expected.push((format!("CSAFE_{kind}"), number));
+    }
+    assert_eq!(header.enumerators, expected);
+}
+
+/// The name in C of a refusal, as `CSAFE_NO_ROOM` of `NoRoom`.
+fn refusal_name(number: u8) -> String {
+    let error = Error::from_number(number).expect("a number of the table");
+    let mut name = String::from("CSAFE");
+    for letter in format!("{error:?}").chars() {
+        if letter.is_uppercase() {
+            name.push('_');
+        }
+        name.extend(letter.to_uppercase());
+    }
+    name
+}
