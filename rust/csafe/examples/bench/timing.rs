@@ -1,0 +1,64 @@
+//! Times of both sides, taken in turn.
+
+use std::hint::black_box;
+use std::time::Instant;
+
+use crate::sides::{Ours, Plain, Side};
+use crate::work::Work;
+
+/// Slices of each side, and about how many seconds one lasts at least: so short that most of them run undisturbed, and
+/// so long that reading the clock does not count.
+const SLICES: usize = 41;
+const SLICE: f64 = 100e-6;
+
+/// Seconds that each side takes for its calls on one input, in its fastest slice. Whatever disturbs a slice makes it
+/// slower, and on a busy machine the fastest ones differ less from run to run than the medians do.
+pub struct Times {
+    pub ours: f64,
+    pub plain: f64,
+}
+
+impl Times {
+    /// How many times as fast as plain Rust ours is.
+    pub fn ratio(&self) -> f64 {
+        self.plain / self.ours
+    }
+}
+
+/// Checks that both sides answer and write alike, and then times them in turn.
+pub fn compare(work: &mut impl Work) -> Times {
+    assert!(
+        shown::<Ours>(work) == shown::<Plain>(work),
+        "the two sides differ"
+    );
+    let runs = 1 + (SLICE / slice::<Plain>(work, 1)) as usize;
+    let mut times = Times {
+        ours: f64::INFINITY,
+        plain: f64::INFINITY,
+    };
+    for _ in 0..SLICES {
+        times.ours = times.ours.min(slice::<Ours>(work, runs));
+        times.plain = times.plain.min(slice::<Plain>(work, runs));
+    }
+    times
+}
+
+/// All answers of one side, each with the bytes that it is about.
+fn shown<S: Side>(work: &mut impl Work) -> Vec<(u64, Vec<u8>)> {
+    let mut all = Vec::new();
+    work.run::<S>(|answer, bytes| all.push((answer, bytes.to_vec())));
+    all
+}
+
+/// Seconds that one of so many runs takes.
+#[inline(never)]
+fn slice<S: Side>(work: &mut impl Work, runs: usize) -> f64 {
+    let start = Instant::now();
+    for _ in 0..runs {
+        work.run::<S>(|answer, bytes| {
+            black_box(answer);
+            black_box(bytes.as_ptr());
+        });
+    }
+    start.elapsed().as_secs_f64() / runs as f64
+}
