@@ -17,6 +17,7 @@ mod inputs;
 mod rows;
 mod sides;
 mod sweep;
+mod table;
 mod timing;
 mod work;
 

@@ -1,12 +1,22 @@
 //! Every length of contents, each measured by itself.
 
 use crate::inputs::{self, Frames, Kind, CONTENTS_LIMIT};
+use crate::table::Table;
 use crate::timing;
 use crate::work::{Feeding, Reading, Writing};
 use crate::Choice;
 
-/// Lengths between two rows of the table by length.
-const STEP: usize = 6;
+/// Slices of each side for a length.
+const SLICES: usize = 41;
+
+const COLUMNS: [&str; 6] = [
+    "every length of contents",
+    "geometric mean",
+    "worst",
+    "at length",
+    "below 1.0",
+    "lengths",
+];
 
 #[derive(Clone, Copy)]
 enum Does {
@@ -58,57 +68,64 @@ pub struct Swept {
 }
 
 pub fn print(choice: &Choice) -> Vec<Swept> {
-    println!();
-    println!(
-        "| every length of contents | geometric mean | worst | at length | below 1.0 | lengths |"
-    );
-    println!("|---|---|---|---|---|---|");
+    let mut table = Table::new(&COLUMNS);
     let chosen = SWEEPS.iter().filter(|sweep| choice.has(sweep.name));
-    chosen.map(measured_and_printed).collect()
-}
-
-fn measured_and_printed(sweep: &Sweep) -> Swept {
-    let lengths = 0..=CONTENTS_LIMIT;
-    let swept = Swept {
-        name: sweep.name,
-        ratios: lengths.map_while(|len| ratio(sweep, len)).collect(),
-    };
-    swept.print();
-    swept
+    let measured = chosen.map(|sweep| {
+        let swept = Swept::new(sweep);
+        table.row(&swept.row());
+        swept
+    });
+    measured.collect()
 }
 
 impl Swept {
-    fn print(&self) {
-        let (name, count) = (self.name, self.ratios.len());
+    fn new(sweep: &Sweep) -> Swept {
+        let lengths = 0..=CONTENTS_LIMIT;
+        Swept {
+            name: sweep.name,
+            ratios: lengths.map_while(|len| ratio(sweep, len)).collect(),
+        }
+    }
+
+    fn row(&self) -> [String; COLUMNS.len()] {
+        let count = self.ratios.len();
         let sum: f64 = self.ratios.iter().map(|ratio| ratio.ln()).sum();
-        let mean = (sum / count as f64).exp();
         let below = self.ratios.iter().filter(|ratio| **ratio < 1.0).count();
-        let pairs = self.ratios.iter().enumerate();
-        let worst = pairs.min_by(|a, b| a.1.total_cmp(b.1));
-        let (at, worst) = worst.expect("every sweep has length 0");
-        println!("| {name} | {mean:.2} | {worst:.2} | {at} | {below} | {count} |");
+        let lengths = self.ratios.iter().enumerate();
+        let worst = lengths.min_by(|a, b| a.1.total_cmp(b.1));
+        let (len, worst) = worst.expect("every sweep has length 0");
+        [
+            self.name.to_string(),
+            format!("{:.2}", (sum / count as f64).exp()),
+            format!("{worst:.2}"),
+            len.to_string(),
+            below.to_string(),
+            count.to_string(),
+        ]
     }
 }
 
 /// The ratio at a length, if the sweep has it.
 fn ratio(sweep: &Sweep, len: usize) -> Option<f64> {
     let frames = Frames::of_length(sweep.kind, len, sweep.percent)?;
+    let (wires, contents) = (&frames.wires, &frames.contents);
     let times = match sweep.does {
-        Does::Read => timing::compare(&mut Reading(&frames.wires)),
-        Does::Write => timing::compare(&mut Writing(sweep.kind, &frames.contents)),
-        Does::Line => timing::compare(&mut Feeding(&inputs::line_of(&frames.wires))),
+        Does::Read => timing::compare(&mut Reading(wires), SLICES),
+        Does::Write => timing::compare(&mut Writing(sweep.kind, contents), SLICES),
+        Does::Line => timing::compare(&mut Feeding(&inputs::line_of(wires)), SLICES),
     };
     Some(times.ratio())
 }
 
+/// The ratios of every sixth length.
 pub fn print_lengths(swept: &[Swept]) {
-    let names: Vec<&str> = swept.iter().map(|swept| swept.name).collect();
-    println!();
-    println!("| length | {} |", names.join(" | "));
-    println!("|{}", "---|".repeat(1 + names.len()));
-    for len in (0..=CONTENTS_LIMIT).step_by(STEP) {
-        let cells: Vec<String> = swept.iter().map(|swept| cell(swept, len)).collect();
-        println!("| {len} | {} |", cells.join(" | "));
+    let mut columns = vec!["length"];
+    columns.extend(swept.iter().map(|swept| swept.name));
+    let mut table = Table::new(&columns);
+    for len in (0..=CONTENTS_LIMIT).step_by(6) {
+        let mut row = vec![len.to_string()];
+        row.extend(swept.iter().map(|swept| cell(swept, len)));
+        table.row(&row);
     }
 }
 

@@ -6,9 +6,8 @@ use std::time::Instant;
 use crate::sides::{Ours, Plain, Side};
 use crate::work::Work;
 
-/// Slices of each side, and about how many seconds one lasts at least: so short that most of them run undisturbed, and
-/// so long that reading the clock does not count.
-const SLICES: usize = 41;
+/// About how many seconds a slice lasts at least: so short that most of them run undisturbed, and so long that reading
+/// the clock does not count.
 const SLICE: f64 = 100e-6;
 
 /// Seconds that each side takes for its calls on one input, in its fastest slice. Whatever disturbs a slice makes it
@@ -25,8 +24,8 @@ impl Times {
     }
 }
 
-/// Checks that both sides answer and write alike, and then times them in turn.
-pub fn compare(work: &mut impl Work) -> Times {
+/// Checks that both sides answer and write alike, and then times so many slices of each in turn.
+pub fn compare(work: &mut impl Work, slices: usize) -> Times {
     assert!(
         shown::<Ours>(work) == shown::<Plain>(work),
         "the two sides differ"
@@ -36,7 +35,7 @@ pub fn compare(work: &mut impl Work) -> Times {
         ours: f64::INFINITY,
         plain: f64::INFINITY,
     };
-    for _ in 0..SLICES {
+    for _ in 0..slices {
         times.ours = times.ours.min(slice::<Ours>(work, runs));
         times.plain = times.plain.min(slice::<Plain>(work, runs));
     }

@@ -67,7 +67,7 @@ impl Work for Feeding<'_> {
 }
 
 /// Each address is held and then freed, after which the table is as it was.
-pub struct Holding<'a>(pub Table, pub &'a [(u32, u64)]);
+pub struct Holding<'a>(pub Leases, pub &'a [(u32, u64)]);
 
 impl Work for Holding<'_> {
     #[inline(always)]
@@ -83,7 +83,7 @@ impl Work for Holding<'_> {
     }
 }
 
-pub struct Stopping<'a>(pub Table, pub &'a [(u32, u64)]);
+pub struct Stopping<'a>(pub Leases, pub &'a [(u32, u64)]);
 
 impl Work for Stopping<'_> {
     #[inline(always)]
@@ -97,12 +97,13 @@ impl Work for Stopping<'_> {
     }
 }
 
-pub type Table = [u8; TABLE_LEN];
+/// The bytes of a lease table.
+pub type Leases = [u8; TABLE_LEN];
 
-pub const FREE: Table = [0; TABLE_LEN];
+pub const FREE: Leases = [0; TABLE_LEN];
 
 /// A table on which each of the addresses is held.
-pub fn held<S: Side>(leases: &[(u32, u64)]) -> Table {
+pub fn held<S: Side>(leases: &[(u32, u64)]) -> Leases {
     let mut table = FREE;
     for (address, token) in leases {
         assert_eq!(S::hold(&mut table, *address, *token), 0);
