@@ -36,7 +36,7 @@ fn profile() -> Option<String> {
     let path = env::current_exe().ok()?;
     let name = path.parent()?.parent()?.file_name()?.to_str()?;
     Some(match name {
-        "lto" => String::from("lto (link-time optimisation of the whole program)"),
+        "lto" => String::from("lto (link-time optimisation of the Rust code)"),
         _ => format!("{name} (no link-time optimisation)"),
     })
 }

@@ -2,12 +2,14 @@
 
 use crate::inputs::{self, Frames, Kind, CONTENTS_LIMIT};
 use crate::table::Table;
-use crate::timing;
+use crate::timing::{self, Times};
 use crate::work::{Feeding, Reading, Writing};
 use crate::Choice;
 
-/// Slices of each side for a length.
-const SLICES: usize = 41;
+/// Slices of each side for a length in a round, and rounds over all lengths. What disturbs a length for as long as it
+/// is measured does so in one round only.
+const SLICES: usize = 13;
+const ROUNDS: usize = 3;
 
 const COLUMNS: [&str; 6] = [
     "every length of contents",
@@ -80,10 +82,16 @@ pub fn print(choice: &Choice) -> Vec<Swept> {
 
 impl Swept {
     fn new(sweep: &Sweep) -> Swept {
-        let lengths = 0..=CONTENTS_LIMIT;
+        let frames_of = |len| Frames::of_length(sweep.kind, len, sweep.percent);
+        let inputs: Vec<Frames> = (0..=CONTENTS_LIMIT).map_while(frames_of).collect();
+        let mut all = vec![Times::NONE; inputs.len()];
+        for _ in 0..ROUNDS {
+            let round = inputs.iter().map(|frames| times(sweep, frames));
+            all = all.iter().zip(round).map(|(a, b)| a.least(b)).collect();
+        }
         Swept {
             name: sweep.name,
-            ratios: lengths.map_while(|len| ratio(sweep, len)).collect(),
+            ratios: all.iter().map(Times::ratio).collect(),
         }
     }
 
@@ -105,16 +113,13 @@ impl Swept {
     }
 }
 
-/// The ratio at a length, if the sweep has it.
-fn ratio(sweep: &Sweep, len: usize) -> Option<f64> {
-    let frames = Frames::of_length(sweep.kind, len, sweep.percent)?;
+fn times(sweep: &Sweep, frames: &Frames) -> Times {
     let (wires, contents) = (&frames.wires, &frames.contents);
-    let times = match sweep.does {
+    match sweep.does {
         Does::Read => timing::compare(&mut Reading(wires), SLICES),
         Does::Write => timing::compare(&mut Writing(sweep.kind, contents), SLICES),
         Does::Line => timing::compare(&mut Feeding(&inputs::line_of(wires)), SLICES),
-    };
-    Some(times.ratio())
+    }
 }
 
 /// The ratios of every sixth length.
