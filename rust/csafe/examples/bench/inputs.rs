@@ -4,7 +4,8 @@ use crate::common::Xorshift;
 use crate::sides::{Ours, Side};
 
 /// Bytes of contents in an input, all its frames together, and the most frames. With fewer the processor learns from
-/// pass to pass which byte is escaped: 512 frames of 60 bytes were read more than twice as fast as 4,096 of them.
+/// pass to pass which byte is escaped: of frames of 60 bytes, a fifth of them F0 to F3, one was read in 60 ns among 512
+/// and in 155 ns among 4,096.
 const INPUT_LEN: usize = 200_000;
 const FRAMES_LIMIT: usize = 16_384;
 
