@@ -1,0 +1,59 @@
+//! The speed of the proved library beside that of the independent implementation in Rust.
+//!
+//!     cargo run --release --example bench [--lengths] [WORD]..
+//!     cargo run --profile lto --example bench
+//!
+//! With words, only the rows whose names have all of them are measured: `bench read`, `bench line half`, `bench
+//! lease`. With `--lengths` the ratios of the sweeps are also printed by length.
+//!
+//! Before a row is measured, both sides have to answer each call on its input alike and write the same bytes. They
+//! are timed in one process, in short slices that take turns. The ratio is plain Rust's time to ours, so above 1 ours
+//! is faster. Buffers are not cleared between calls. Bytes are those on the wire.
+
+#[path = "../../tests/common/mod.rs"]
+mod common;
+mod header;
+mod inputs;
+mod rows;
+mod sides;
+mod sweep;
+mod table;
+mod timing;
+mod work;
+
+/// What the arguments ask for.
+pub struct Choice {
+    words: Vec<String>,
+    lengths: bool,
+}
+
+impl Choice {
+    fn from_arguments() -> Choice {
+        let (options, words): (Vec<String>, Vec<String>) = std::env::args()
+            .skip(1)
+            .partition(|argument| argument.starts_with("--"));
+        if options.iter().any(|option| option != "--lengths") {
+            eprintln!("usage: bench [--lengths] [WORD]..");
+            std::process::exit(2);
+        }
+        Choice {
+            words,
+            lengths: !options.is_empty(),
+        }
+    }
+
+    /// Whether a row is to be measured.
+    pub fn has(&self, name: &str) -> bool {
+        self.words.iter().all(|word| name.contains(word.as_str()))
+    }
+}
+
+fn main() {
+    let choice = Choice::from_arguments();
+    header::print();
+    rows::print(&choice);
+    let swept = sweep::print(&choice);
+    if choice.lengths {
+        sweep::print_lengths(&swept);
+    }
+}

@@ -1,0 +1,113 @@
+//! The rows of single inputs: frames of any length, lines, leases.
+
+use crate::inputs::{self, Frames, Kind};
+use crate::sides::Plain;
+use crate::table::Table;
+use crate::timing;
+use crate::work::{self, Feeding, Holding, Reading, Stopping, Work, FREE};
+use crate::Choice;
+
+/// Slices of each side for a row.
+const SLICES: usize = 301;
+
+/// What a row counts in a second, in millions.
+enum Done {
+    Bytes(usize),
+    Calls(usize),
+}
+
+/// The rows that are chosen, and the table that they go into.
+struct Rows<'a> {
+    choice: &'a Choice,
+    table: Table,
+}
+
+pub fn print(choice: &Choice) {
+    let table = Table::new(&["what", "ours", "plain Rust", "unit", "ratio"]);
+    let mut rows = Rows { choice, table };
+    rows.frames();
+    rows.lines();
+    rows.leases();
+}
+
+impl Rows<'_> {
+    fn row(&mut self, what: &str, done: Done, work: &mut impl Work) {
+        if !self.choice.has(what) {
+            return;
+        }
+        let times = timing::compare(work, SLICES);
+        let (amount, unit) = match done {
+            Done::Bytes(len) => (len, "MB/s"),
+            Done::Calls(count) => (count, "M calls/s"),
+        };
+        let rate = |time: f64| amount as f64 / time / 1e6;
+        self.table.row(&[
+            what.to_string(),
+            format!("{:.1}", rate(times.ours)),
+            format!("{:.1}", rate(times.plain)),
+            unit.to_string(),
+            format!("{:.2}", times.ratio()),
+        ]);
+    }
+
+    fn frames(&mut self) {
+        let frames = Frames::any();
+        let damaged = inputs::damaged(&frames.wires);
+        let done = || Done::Bytes(frames.wire_len());
+        self.row(
+            "read, any length and bytes",
+            done(),
+            &mut Reading(&frames.wires),
+        );
+        self.row(
+            "read, any length and bytes, damaged",
+            done(),
+            &mut Reading(&damaged),
+        );
+        let writing = &mut work::Writing(Kind::Extended, &frames.contents);
+        self.row("write, any length and bytes", done(), writing);
+    }
+
+    fn lines(&mut self) {
+        let frames = Frames::any();
+        let lines = [
+            (
+                "line, frames one after another",
+                inputs::line_of(&frames.wires),
+            ),
+            (
+                "line, frames with stray bytes between them",
+                inputs::line_with_strays(&frames.wires),
+            ),
+            (
+                "line, damaged frames one after another",
+                inputs::line_of(&inputs::damaged(&frames.wires)),
+            ),
+            ("line, any bytes", inputs::any_bytes()),
+            ("line, no flag", inputs::no_flag()),
+        ];
+        for (what, line) in &lines {
+            self.row(what, Done::Bytes(line.len()), &mut Feeding(line));
+        }
+    }
+
+    fn leases(&mut self) {
+        let leases = inputs::leases();
+        let wrong: Vec<(u32, u64)> = leases.iter().map(|(at, token)| (*at, token ^ 2)).collect();
+        let beyond = inputs::out_of_range(&leases);
+        let held = work::held::<Plain>(&leases);
+        let calls = leases.len();
+        self.row(
+            "lease, hold and release",
+            Done::Calls(2 * calls),
+            &mut Holding(FREE, &leases),
+        );
+        for (what, calls) in [
+            ("lease, stop by the holder", &leases),
+            ("lease, stop refused, wrong token", &wrong),
+            ("lease, stop refused, address out of range", &beyond),
+        ] {
+            self.row(what, Done::Calls(calls.len()), &mut Stopping(held, calls));
+        }
+    }
+}

@@ -1,0 +1,195 @@
+//! The two sides of the comparison, behind one trait.
+//!
+//! Each answer becomes one number before the caller sees it, on both sides by the same functions. Handed over as it
+//! is, an answer would be stored and loaded again, at a cost that depends on how a side lays it out. The numbers are
+//! laid out as neither side lays out its own answers, so that the change is work for both.
+
+use csafe::{frame, lease, Error, Frame, LineReader};
+use plain::{frame as plain_frame, lease as plain_lease, line as plain_line};
+
+pub const TABLE_LEN: usize = lease::TABLE_LEN;
+
+/// A side. Equal answers of the two sides are equal numbers.
+pub trait Side {
+    type Line: Line;
+    fn read(wire: &[u8], out: &mut [u8]) -> u64;
+    fn write_standard(contents: &[u8], out: &mut [u8]) -> u64;
+    fn write_extended(to: u8, from: u8, contents: &[u8], out: &mut [u8]) -> u64;
+    fn hold(table: &mut [u8], address: u32, token: u64) -> u64;
+    fn release(table: &mut [u8], address: u32, token: u64) -> u64;
+    fn stop(table: &[u8], address: u32, token: u64, out: &mut [u8]) -> u64;
+}
+
+/// A line reader of one side.
+pub trait Line {
+    fn new() -> Self;
+    /// Feeds bytes up to the first that is answered, shows the answer and its place with the contents, which are
+    /// empty for a refusal, and tells how many bytes were taken.
+    fn feed(&mut self, chunk: &[u8], see: impl FnMut(u64, &[u8])) -> usize;
+}
+
+/// The proved library, called through the package.
+pub struct Ours;
+
+/// The independent implementation.
+pub struct Plain;
+
+impl Side for Ours {
+    type Line = LineReader;
+
+    #[inline(always)]
+    fn read(wire: &[u8], out: &mut [u8]) -> u64 {
+        our_read(frame::read(wire, out))
+    }
+
+    #[inline(always)]
+    fn write_standard(contents: &[u8], out: &mut [u8]) -> u64 {
+        our_len(frame::write_standard(contents, out))
+    }
+
+    #[inline(always)]
+    fn write_extended(to: u8, from: u8, contents: &[u8], out: &mut [u8]) -> u64 {
+        our_len(frame::write_extended(to, from, contents, out))
+    }
+
+    #[inline(always)]
+    fn hold(table: &mut [u8], address: u32, token: u64) -> u64 {
+        our_len(lease::hold(table, address, token).map(|()| 0))
+    }
+
+    #[inline(always)]
+    fn release(table: &mut [u8], address: u32, token: u64) -> u64 {
+        our_len(lease::release(table, address, token).map(|()| 0))
+    }
+
+    #[inline(always)]
+    fn stop(table: &[u8], address: u32, token: u64, out: &mut [u8]) -> u64 {
+        our_len(lease::stop(table, address, token, out))
+    }
+}
+
+impl Line for LineReader {
+    fn new() -> LineReader {
+        LineReader::new()
+    }
+
+    #[inline(always)]
+    fn feed(&mut self, chunk: &[u8], mut see: impl FnMut(u64, &[u8])) -> usize {
+        let (taken, told) = LineReader::feed(self, chunk);
+        match told {
+            Some(Ok(frame)) => see(our_read(Ok(frame)) | place(taken), self.contents()),
+            Some(Err(error)) => see(our_read(Err(error)) | place(taken), &[]),
+            None => {}
+        }
+        taken
+    }
+}
+
+#[inline(always)]
+fn our_len(answer: Result<usize, Error>) -> u64 {
+    match answer {
+        Ok(len) => accepted(len),
+        Err(error) => refused(error.number()),
+    }
+}
+
+#[inline(always)]
+fn our_read(answer: Result<Frame, Error>) -> u64 {
+    match answer {
+        Ok(Frame::Standard { len }) => accepted(len),
+        Ok(Frame::Extended { to, from, len }) => addressed(to, from, len),
+        Err(error) => refused(error.number()),
+    }
+}
+
+impl Side for Plain {
+    type Line = plain_line::Line;
+
+    #[inline(always)]
+    fn read(wire: &[u8], out: &mut [u8]) -> u64 {
+        plain_read(plain_frame::read(wire, out))
+    }
+
+    #[inline(always)]
+    fn write_standard(contents: &[u8], out: &mut [u8]) -> u64 {
+        plain_len(plain_frame::write_standard(contents, out))
+    }
+
+    #[inline(always)]
+    fn write_extended(to: u8, from: u8, contents: &[u8], out: &mut [u8]) -> u64 {
+        plain_len(plain_frame::write_extended(to, from, contents, out))
+    }
+
+    #[inline(always)]
+    fn hold(table: &mut [u8], address: u32, token: u64) -> u64 {
+        plain_len(plain_lease::hold(table, address, token).map(|()| 0))
+    }
+
+    #[inline(always)]
+    fn release(table: &mut [u8], address: u32, token: u64) -> u64 {
+        plain_len(plain_lease::release(table, address, token).map(|()| 0))
+    }
+
+    #[inline(always)]
+    fn stop(table: &[u8], address: u32, token: u64, out: &mut [u8]) -> u64 {
+        plain_len(plain_lease::stop(table, address, token, out))
+    }
+}
+
+impl Line for plain_line::Line {
+    fn new() -> plain_line::Line {
+        plain_line::Line::new()
+    }
+
+    #[inline(always)]
+    fn feed(&mut self, chunk: &[u8], mut see: impl FnMut(u64, &[u8])) -> usize {
+        let (taken, told) = self.feed_chunk(chunk);
+        match told {
+            plain_line::Answer::Frame(read) => {
+                see(plain_read(Ok(read)) | place(taken), self.contents())
+            }
+            plain_line::Answer::Refused(number) => see(plain_read(Err(number)) | place(taken), &[]),
+            plain_line::Answer::Nothing => {}
+        }
+        taken
+    }
+}
+
+#[inline(always)]
+fn plain_len(answer: Result<usize, u8>) -> u64 {
+    match answer {
+        Ok(len) => accepted(len),
+        Err(number) => refused(number),
+    }
+}
+
+#[inline(always)]
+fn plain_read(answer: Result<plain_frame::Read, u8>) -> u64 {
+    match answer {
+        Ok(plain_frame::Read::Standard { len }) => accepted(len),
+        Ok(plain_frame::Read::Extended { to, from, len }) => addressed(to, from, len),
+        Err(number) => refused(number),
+    }
+}
+
+/// From the lowest bit on a number has the length in 8 bits, the refusal in 8, the place on a line in 24, and the two
+/// addresses in 8 each with a bit over them.
+#[inline(always)]
+fn accepted(len: usize) -> u64 {
+    len as u64
+}
+
+#[inline(always)]
+fn refused(number: u8) -> u64 {
+    u64::from(number) << 8
+}
+
+#[inline(always)]
+fn place(taken: usize) -> u64 {
+    (taken as u64) << 16
+}
+
+#[inline(always)]
+fn addressed(to: u8, from: u8, len: usize) -> u64 {
+    1 << 56 | u64::from(from) << 48 | u64::from(to) << 40 | len as u64
+}

@@ -1,0 +1,112 @@
+//! What both sides do, written once for both. The same code is checked and timed.
+
+use std::hint::black_box;
+
+use crate::inputs::{Kind, FROM, TO};
+use crate::sides::{Line, Side, TABLE_LEN};
+
+/// What a line hands over at once.
+const CHUNK: usize = 65_536;
+
+/// Where a buffer begins shows in the times, so it is the start of a line of the cache for both sides.
+#[repr(align(64))]
+struct Aligned<T>(T);
+
+/// Calls on one input.
+pub trait Work {
+    /// Makes the calls once and shows each answer with the bytes that it is about.
+    fn run<S: Side>(&mut self, see: impl FnMut(u64, &[u8]));
+}
+
+pub struct Reading<'a>(pub &'a [Vec<u8>]);
+
+impl Work for Reading<'_> {
+    #[inline(always)]
+    fn run<S: Side>(&mut self, mut see: impl FnMut(u64, &[u8])) {
+        let Aligned(out) = &mut Aligned([0; 128]);
+        for wire in self.0 {
+            let answer = S::read(black_box(wire), black_box(out));
+            see(answer, out);
+        }
+    }
+}
+
+pub struct Writing<'a>(pub Kind, pub &'a [Vec<u8>]);
+
+impl Work for Writing<'_> {
+    #[inline(always)]
+    fn run<S: Side>(&mut self, mut see: impl FnMut(u64, &[u8])) {
+        let Aligned(out) = &mut Aligned([0; 128]);
+        // Addresses that the compiler knew would let it write a frame's beginning in advance.
+        let (to, from) = black_box((TO, FROM));
+        for contents in self.1 {
+            let contents = black_box(contents);
+            let answer = match self.0 {
+                Kind::Standard => S::write_standard(contents, black_box(out)),
+                Kind::Extended => S::write_extended(to, from, contents, black_box(out)),
+            };
+            see(answer, out);
+        }
+    }
+}
+
+pub struct Feeding<'a>(pub &'a [u8]);
+
+impl Work for Feeding<'_> {
+    #[inline(always)]
+    fn run<S: Side>(&mut self, mut see: impl FnMut(u64, &[u8])) {
+        let Aligned(line) = &mut Aligned(S::Line::new());
+        for chunk in black_box(self.0).chunks(CHUNK) {
+            let mut rest = chunk;
+            while !rest.is_empty() {
+                let taken = line.feed(rest, &mut see);
+                rest = &rest[taken..];
+            }
+        }
+    }
+}
+
+/// Each address is held and then freed, after which the table is as it was.
+pub struct Holding<'a>(pub Leases, pub &'a [(u32, u64)]);
+
+impl Work for Holding<'_> {
+    #[inline(always)]
+    fn run<S: Side>(&mut self, mut see: impl FnMut(u64, &[u8])) {
+        for (address, token) in self.1 {
+            let answer = S::hold(black_box(&mut self.0), *address, *token);
+            see(answer, &self.0);
+        }
+        for (address, token) in self.1 {
+            let answer = S::release(black_box(&mut self.0), *address, *token);
+            see(answer, &self.0);
+        }
+    }
+}
+
+pub struct Stopping<'a>(pub Leases, pub &'a [(u32, u64)]);
+
+impl Work for Stopping<'_> {
+    #[inline(always)]
+    fn run<S: Side>(&mut self, mut see: impl FnMut(u64, &[u8])) {
+        let Aligned(out) = &mut Aligned([0; 16]);
+        for (address, token) in self.1 {
+            let table = black_box(&self.0);
+            let answer = S::stop(table, *address, *token, black_box(out));
+            see(answer, out);
+        }
+    }
+}
+
+/// The bytes of a lease table.
+pub type Leases = [u8; TABLE_LEN];
+
+pub const FREE: Leases = [0; TABLE_LEN];
+
+/// A table on which each of the addresses is held.
+pub fn held<S: Side>(leases: &[(u32, u64)]) -> Leases {
+    let mut table = FREE;
+    for (address, token) in leases {
+        assert_eq!(S::hold(&mut table, *address, *token), 0);
+    }
+    table
+}
