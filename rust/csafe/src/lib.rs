@@ -89,3 +89,8 @@ pub use frame::Frame;
 pub use lease::LeaseTable;
 pub use line::LineReader;
 pub use workout::Workout;
+
+/// The snippet of the repository's README is compiled and run with the tests.
+#[doc = include_str!("../../../README.md")]
+#[cfg(doctest)]
+struct ReadMe;

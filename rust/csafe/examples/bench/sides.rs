@@ -4,7 +4,8 @@
 //! is, an answer would be stored and loaded again, at a cost that depends on how a side lays it out. The numbers are
 //! laid out as neither side lays out its own answers, so that the change is work for both.
 
-use csafe::{frame, lease, Error, Frame, LineReader};
+use csafe::frame::{self, Frame, Kind};
+use csafe::{lease, Error, LineReader};
 use plain::{frame as plain_frame, lease as plain_lease, line as plain_line};
 
 pub const TABLE_LEN: usize = lease::TABLE_LEN;
@@ -75,13 +76,13 @@ impl Line for LineReader {
 
     #[inline(always)]
     fn feed(&mut self, chunk: &[u8], mut see: impl FnMut(u64, &[u8])) -> usize {
-        let (taken, told) = LineReader::feed(self, chunk);
-        match told {
-            Some(Ok(frame)) => see(our_read(Ok(frame)) | place(taken), self.contents()),
-            Some(Err(error)) => see(our_read(Err(error)) | place(taken), &[]),
+        let fed = LineReader::feed(self, chunk);
+        match fed.told {
+            Some(Ok(frame)) => see(our_read(Ok(frame)) | place(fed.taken), frame.contents),
+            Some(Err(error)) => see(our_read(Err(error)) | place(fed.taken), &[]),
             None => {}
         }
-        taken
+        fed.taken
     }
 }
 
@@ -94,10 +95,12 @@ fn our_len(answer: Result<usize, Error>) -> u64 {
 }
 
 #[inline(always)]
-fn our_read(answer: Result<Frame, Error>) -> u64 {
+fn our_read(answer: Result<Frame<'_>, Error>) -> u64 {
     match answer {
-        Ok(Frame::Standard { len }) => accepted(len),
-        Ok(Frame::Extended { to, from, len }) => addressed(to, from, len),
+        Ok(Frame { kind, contents }) => match kind {
+            Kind::Standard => accepted(contents.len()),
+            Kind::Extended { to, from } => addressed(to, from, contents.len()),
+        },
         Err(error) => refused(error.number()),
     }
 }
