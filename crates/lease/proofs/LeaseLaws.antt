@@ -6,14 +6,15 @@ use mathlib.Core.List.{List, [], _∷_}
 use native.Mathlib.Omega.{arith}
 use native.Mathlib.Nat.{zero-add}
 use lib.Dec.{leb, eqb}
-use lib.ListN.{length, getD, List·getD-eq-default}
+use lib.ListN.{length, getD}
 use borrow.Author.Tests.{eq-eqb, ne-eqb}
 use Rattle.answer.specs.Draft.{draftAnswer, draftOut}
 use Rattle.answer.specs.Answer.{refused, result, Answer}
 use Rattle.numbers.specs.Number.{number}
+use Rattle.lists.specs.Choice.{pick}
 use Rattle.lists.proofs.Cases.{by-bool}
 use Rattle.lists.proofs.Tests.{within-true}
-use Rattle.numbers.proofs.Numbers.{numbers-at, length-numbers}
+use Rattle.numbers.proofs.Numbers.{numbers-at}
 use Rattle.frame.specs.Address.{inRange}
 use Rattle.frame.specs.Stuffing.{isStuffed, stuff, stuffByte}
 use Rattle.frame.specs.Checksum.{sumFrom}
@@ -24,7 +25,7 @@ use Rattle.lease.specs.Lease.{LeaseCall, hold, release, stop, addressOf,
 use Rattle.lease.specs.Lease.{tableAnswer, tableLeft, tableOf, lentAnswer, lentLeft, lentAfter}
 use Rattle.lease.specs.Answers.{writtenLength, outAfter}
 use Rattle.lease.specs.Contracts.{TableCall, Real, LentCall}
-use Rattle.lease.specs.Private.{Settles, settled, settledLent}
+use Rattle.lease.specs.Private.{tokenIn, Settles, settled, settledLent}
 
 -- ---- the range
 
@@ -74,9 +75,6 @@ table-call ts c v stored h x a after held e s =
 pub token-lent : (s : List ℕ) (a : ℕ) → a < 256 → getD (tableOf s) a 0 ≡ number 8 (8 * a) s
 token-lent s a h = numbers-at 8 256 0 s a h ∙ ap (λ (k : ℕ). number 8 k s) (zero-add (8 * a))
 
-pub token-none : (s : List ℕ) (a : ℕ) → 255 < a → getD (tableOf s) a 0 ≡ 0
-token-none s a h = List·getD-eq-default (tableOf s) 0 (omega (arith, length-numbers 8 256 0 s))
-
 pub lent-size : (s : List ℕ) (c : LeaseCall) → (length s ≡ 2048 → ⊥)
     → (refused 18 ≡ lentAnswer s c) × (s ≡ lentAfter s c)
 unfolding lentAnswer
@@ -87,6 +85,23 @@ lent-size s c n =
 pub lent-answer : (s : List ℕ) (c : LeaseCall) → length s ≡ 2048 → lentAnswer s c ≡ tableAnswer (tableOf s) c
 unfolding lentAnswer
 lent-answer s c size = simp (eq-eqb (length s) 2048 size)
+
+-- Outside the range the token does not matter.
+token-matters : (h : ℕ) (c : LeaseCall) → answerOf (pick (inRange (addressOf c)) h 0) c ≡ answerOf h c
+unfolding answerOf
+token-matters h c = by-bool (inRange (addressOf c)) (λ y. simp y) (outside c)
+  where
+    outside : (c : LeaseCall) → inRange (addressOf c) ≡ false
+        → answerOf (pick (inRange (addressOf c)) h 0) c ≡ answerOf h c
+    outside (hold a t) n = simp n
+    outside (release a t) n = simp n
+    outside (stop a t room) n = simp n
+
+-- A call on 2,048 bytes is answered by the token of its address there.
+pub lent-judged : (s : List ℕ) (c : LeaseCall) (h : ℕ) → length s ≡ 2048 → h ≡ tokenIn s (addressOf c)
+    → answerOf h c ≡ lentAnswer s c
+lent-judged s c h size held =
+    ap (λ (g : ℕ). answerOf g c) held ∙ token-matters (getD (tableOf s) (addressOf c) 0) c ∙ sym (lent-answer s c size)
 
 pub hold-stored-lent : (a t : ℕ) (s : List ℕ) (x : Answer (List ℕ)) → settledLent x a t s ≡ lentLeft x (hold a t) s
 hold-stored-lent a t s (result w) = refl
@@ -101,10 +116,10 @@ release-stored-lent a t s (refused n) = refl
 pub lent-call : (s : List ℕ) (c : LeaseCall) (v : ℕ)
     → ((x : Answer (List ℕ)) → settledLent x (addressOf c) v s ≡ lentLeft x c s)
     → length s ≡ 2048 → Real s (tokenOf c) → (h : ℕ) (x a : Answer (List ℕ)) (after : List ℕ)
-    → h ≡ getD (tableOf s) (addressOf c) 0 → x ≡ answerOf h c
+    → h ≡ tokenIn s (addressOf c) → x ≡ answerOf h c
     → (a ≡ x) × (after ≡ settledLent x (addressOf c) v s) → LentCall s c a after
 lent-call s c v stored size real h x a after held e k =
-    let y = e ∙ ap (λ (g : ℕ). answerOf g c) held ∙ sym (lent-answer s c size) in
+    let y = e ∙ lent-judged s c h size held in
     record {
       answered = k .0 ∙ y;
       left = k .1 ∙ stored x ∙ ap (λ (r : Answer (List ℕ)). lentLeft r c s) y;
@@ -143,6 +158,17 @@ module _ (h a t : ℕ) (out : List ℕ) where
       by-bool (leb (length (wireOf f)) (length out))
       (λ y. (e ∙ simp (d, y, range, owner), o ∙ simp (d, y, range, owner)))
       (λ n. (e ∙ simp (d, n, range, owner), o ∙ simp (d, n, range, owner)))
+
+  -- A stop by the holder that is refused has no room.
+  pub stop-no-room : inRange a ≡ true → owns t h ≡ true → (n : ℕ) (last : List ℕ)
+      → Stops (answerOf h (stop a t (length out))) out (refused n) last
+      → Stops (answerOf h (stop a t (length out))) out (refused 1) last
+  unfolding answerOf
+  stop-no-room range owner n last s =
+      by-bool (leb (length (stopFrame a)) (length out))
+      (λ y. let q : refused n ≡ result (length (stopFrame a)) = simp (range, owner, y) at (s .0) in
+      let z : _≡_ {A = ℕ} 0 1 = cc in absurd (omega arith))
+      (λ y. (simp (range, owner, y), s .1))
 
 -- A stop's answer may be replaced by an equal one.
 pub stop-by : (x y : Answer (List ℕ)) (out : List ℕ) (a : Answer ℕ) (last : List ℕ) → x ≡ y → Stops x out a last

@@ -1,9 +1,16 @@
--- Contracts of private functions, which no caller reads: the store of hold and release.
+-- Contracts of private functions, which no caller reads: the token in lent bytes, and the store of hold and release.
 use Prim.Native.Nat.{ℕ, _*_, _≤_}
 use mathlib.Core.List.{List}
-use lib.ListN.{set}
+use lib.ListN.{getD, set}
+use Rattle.lists.specs.Choice.{pick}
 use Rattle.answer.specs.Answer.{Answer, result, refused}
+use Rattle.frame.specs.Address.{inRange}
 use Rattle.numbers.specs.Number.{put}
+use Rattle.lease.specs.Lease.{tableOf}
+
+-- The token of a machine or a console, 0 for any other address, whose call is refused whatever its bytes are.
+abbrev pub tokenIn : (table : List ℕ) (address : ℕ) → ℕ
+tokenIn table address = pick (inRange address) (getD (tableOf table) address 0) 0
 
 -- An accepted call has an address of a machine or a console.
 abbrev pub Settles : ℕ → Answer (List ℕ) → Type 0

@@ -161,7 +161,12 @@ fn write_stop(address: u32, token: u64, held: u64, out: &mut [u8]) -> Written
         return Written::Refused(Refusal::NotHolder);
     }
     let terminate = [0x76u8, 0x04, 0x13, 0x02, 0x01, 0x02];
-    frame::write_extended(address as u8, 0x00, &terminate, out)
+    let written = frame::write_extended(address as u8, 0x00, &terminate, out);
+    match written {
+        Written::Length(n) => Written::Length(n),
+        // The frame is within the longest that is allowed, so that only room can lack.
+        Written::Refused(_) => Written::Refused(Refusal::NoRoom),
+    }
 }
 
 // The store of hold and of release: an accepted call leaves `token` at the address.

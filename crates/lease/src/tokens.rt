@@ -1,9 +1,10 @@
 // The token of an address: in an array, and in lent bytes.
+use frame::address;
 ghost use mathlib.Core.Path.{_≡_};
 ghost use Prim.Native.Nat.{_+_, _≤_};
 ghost use lib.ListN.{getD, length};
 ghost use Rattle.numbers.specs.Number.{put};
-ghost use Rattle.lease.specs.Lease.{tableOf};
+ghost use Rattle.lease.specs.Private.{tokenIn};
 
 // The bytes of a token.
 const WIDTH: usize = 8;
@@ -19,15 +20,15 @@ pub(crate) fn token_at(tokens: &[u64], address: u32) -> u64
     tokens[at]
 }
 
-// The token of an address in the bytes of a table, 0 where there is none.
+// The token of a machine's address in the bytes of a table, 0 for any other address.
 pub(crate) fn token_in(bytes: &[u8], address: u32) -> u64
-    ensures { λ r. ⌜ r ≡ getD (tableOf (now (bytes .entry))) address 0 ⌝ }
+    ensures { λ r. ⌜ r ≡ tokenIn (now (bytes .entry)) address ⌝ }
 {
-    if 255 < address {
+    if !address::in_range(address) {
         return 0;
     }
     let at = address as usize;
-    numbers::number_at(bytes, WIDTH * at, WIDTH)
+    numbers::eight_at(bytes, WIDTH * at)
 }
 
 // Writes a token into the bytes of an address.

@@ -4,7 +4,7 @@ use mathlib.Core.Path.{_≡_, refl, sym, ap, ap₂, _∙_}
 use mathlib.Core.Logic.{_⊎_, inl, inr}
 use mathlib.Core.List.{List, [], _∷_, _++_, append-assoc}
 use native.Mathlib.Omega.{arith}
-use native.Mathlib.Nat.{pow-suc, pow-zero, mul-suc, mul-zero, pow-le-pow-right}
+use native.Mathlib.Nat.{pow-suc, pow-zero, mul-suc, mul-zero, pow-le-pow-right, add-zero, zero-add, suc-add}
 use lib.ListN.{length, getD, set, take, drop, length-set, length-append}
 use lib.Seq.{getD-set-same, getD-set-other, set-getD, set-out, drop-cons, getD-at, drop-drop}
 use lib.Seq.{take-add}
@@ -74,6 +74,32 @@ number-same zero at s t e = refl
 number-same (suc w) at s t e =
     ap₂ (λ (b m : ℕ). b + 256 * m) (e at (omega arith) (omega arith))
     (number-same w (suc at) s t (λ i l h. e i (omega arith) (omega arith)))
+
+-- bytes one after the other make one number
+pub number-add : (v w at : ℕ) (s : List ℕ) → number (v + w) at s ≡ number v at s + 256 ^ v * number w (at + v) s
+unfolding number
+number-add zero w at s =
+    let p : number w (at + 0) s ≡ number w at s = ap (λ (k : ℕ). number w k s) (add-zero at) in
+    ap (λ (k : ℕ). number k at s) (zero-add w) ∙ omega (arith, pow-zero 256, p)
+number-add (suc v) w at s =
+    let p : suc at + v ≡ at + suc v = omega arith in
+    let m : ℕ = number w (at + suc v) s in
+    let q : number (v + w) (suc at) s ≡ number v (suc at) s + 256 ^ v * m =
+    number-add v w (suc at) s ∙ ap (λ (k : ℕ). number v (suc at) s + 256 ^ v * number w k s) p in
+    let r : 256 ^ suc v * m ≡ 256 * (256 ^ v * m) =
+    ap (λ (k : ℕ). k * m) (pow-suc 256 v) ∙ omega arith in
+    ap (λ (k : ℕ). number k at s) (suc-add v w) ∙ omega (arith, q, r)
+
+-- four bytes, each with its weight
+pub number-four : (at : ℕ) (s : List ℕ)
+    → getD s at 0 + 0x100 * getD s (at + 1) 0 + 0x1_0000 * getD s (at + 2) 0 + 0x100_0000 * getD s (at + 3) 0
+    ≡ number 4 at s
+unfolding number
+number-four at s =
+    let p : getD s (at + 1) 0 ≡ getD s (suc at) 0 = ap (λ (k : ℕ). getD s k 0) (omega arith) in
+    let q : getD s (at + 2) 0 ≡ getD s (suc (suc at)) 0 = ap (λ (k : ℕ). getD s k 0) (omega arith) in
+    let r : getD s (at + 3) 0 ≡ getD s (suc (suc (suc at))) 0 = ap (λ (k : ℕ). getD s k 0) (omega arith) in
+    omega arith
 
 -- read after write
 pub number-put : (w at n : ℕ) (s : List ℕ) → at + w ≤ length s → n < 256 ^ w → number w at (put w at n s) ≡ n

@@ -1,9 +1,9 @@
-use mathlib.Core.Path.{sym, ap, _∙_}
+use mathlib.Core.Path.{ap}
 use native.Mathlib.Omega.{arith}
-use Rattle.lease.specs.Lease.{stop, answerOf}
+use Rattle.lease.specs.Lease.{stop}
 use lib.ListN.{length}
 use Rattle.lease.specs.Answers.{writtenLength, outAfter}
-use Rattle.lease.proofs.LeaseLaws.{stop-by, lent-size, lent-answer}
+use Rattle.lease.proofs.LeaseLaws.{stop-by, lent-size, lent-judged}
 use borrow.Author.Needs.{needs}
 use Rattle.lease.proofs.stop_lent.Statement.{statement}
 use Rattle.lease.proofs.stop_lent.Tie as tie
@@ -38,8 +38,7 @@ returns-2 c =
     let s = i .before .before .before in
     let a = s .args in
     let call = stop (a .address) (a .token) (length (a .out .now)) in
-    let held = ap (λ (h : ℕ). answerOf h call) (t .token-in .ensures)
-    ∙ sym (lent-answer (a .table .now) call (i .if1 .left)) in
+    let held = lent-judged (a .table .now) call _ (i .if1 .left) (t .token-in .ensures) in
     let k = stop-by _ _ (a .out .now) _ _ held (c .before .before .write-stop .ensures) in
     record {
       answered = k .0;

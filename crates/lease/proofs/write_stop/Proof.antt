@@ -1,7 +1,13 @@
 use borrow.Author.Tests.{not-true, not-false}
-use mathlib.Core.Path.{sym, _∙_}
+use mathlib.Core.Bool.{true}
+use mathlib.Core.Path.{_≡_, sym, ap, _∙_}
+use lib.ListN.{length}
 use native.Mathlib.Omega.{arith}
-use Rattle.lease.proofs.LeaseLaws.{range-means, stop-outside, stop-not-holder, stop-writes}
+use Rattle.answer.specs.declared.Written.{Written}
+use Rattle.answer.specs.Draft.{writtenMeans}
+use Rattle.frame.specs.Address.{inRange}
+use Rattle.lease.specs.Lease.{stop, answerOf, owns}
+use Rattle.lease.proofs.LeaseLaws.{range-means, Stops, stop-outside, stop-not-holder, stop-writes, stop-no-room}
 use borrow.Author.Needs.{needs}
 use Rattle.lease.proofs.write_stop.Statement.{statement}
 use Rattle.lease.proofs.write_stop.Tie as tie
@@ -39,22 +45,53 @@ slice-aggregate-write-extended c = search needs
 write-extended-requires : tie.Need-write-extended-requires
 write-extended-requires c κs = search needs
 
+enum-known-written : tie.Need-enum-known-written
+enum-known-written c = search needs
+
+enum-told : tie.Need-enum-told
+enum-told c = search needs
+
 same-length : tie.Need-same-length
 same-length c = search needs
 
+abbrev St : tie.After-write-extended → tie.Start
+St w = w .before .before .before .before .before .before .before .before
+
+range : (w : tie.After-write-extended) → inRange (St w .args .address) ≡ true
+range w =
+    let i = w .before .before .before .before .before in
+    sym (i .before .in-range .ensures) ∙ not-false _ (i .if1 .left)
+
+owner : (w : tie.After-write-extended) → owns (St w .args .token) (St w .args .held) ≡ true
+owner w =
+    let i = w .before .before .before in
+    sym (i .before .is-holder .ensures) ∙ not-false _ (i .if2 .left)
+
+-- What the frame writer answered and wrote is what a stop does.
+wrote : (w : tie.After-write-extended) (x : Written) → w .write-extended .result ≡ x
+    → let a = St w .args in
+    Stops (answerOf (a .held) (stop (a .address) (a .token) (length (a .out .now)))) (a .out .now) (writtenMeans x)
+    (w .write-extended .last .1 .1 .1 .0)
+wrote w x e =
+    let a = St w .args in
+    let d = w .write-extended .ensures in
+    stop-writes (a .held) (a .address) (a .token) (a .out .now) (range w) (owner w) _ _
+    (sym (ap writtenMeans e) ∙ d .0) (d .1)
+
 returns-3 : tie.Need-returns-3
 returns-3 c =
-    let e = c .before .before .before .before .before in
-    let r = e .before .before .before in
-    let a = r .before .before .args in
-    let w = c .before .before .write-extended .ensures in
-    stop-writes (a .held) (a .address) (a .token) (a .out .now)
-    (sym (r .in-range .ensures) ∙ not-false _ (e .before .before .if1 .left))
-    (sym (e .before .is-holder .ensures) ∙ not-false _ (e .if2 .left))
-    _
-    _
-    (w .0)
-    (w .1)
+    let w = c .before .before .before .before .before in
+    wrote w _ (c .before .written .given .1)
+
+same-length-2 : tie.Need-same-length-2
+same-length-2 c = search needs
+
+returns-4 : tie.Need-returns-4
+returns-4 c =
+    let w = c .before .before .before .before in
+    let a = St w .args in
+    stop-no-room (a .held) (a .address) (a .token) (a .out .now) (range w) (owner w) _ _
+    (wrote w _ (c .enum-told .given .1))
 
 pub write-stop-spec : {M : Type 1} → statement M
 write-stop-spec =
@@ -67,5 +104,9 @@ write-stop-spec =
     cast-write-extended
     slice-aggregate-write-extended
     write-extended-requires
+    enum-known-written
+    enum-told
     same-length
-    returns-3)
+    returns-3
+    same-length-2
+    returns-4)
