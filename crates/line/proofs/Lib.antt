@@ -6,5 +6,6 @@ pub mod Consequences
 pub mod FeedLaws
 pub mod FeedBounds
 pub mod RunLaws
+pub mod OutsideLaws
 pub mod ChunkLaws
 pub mod ChunkCalls

@@ -42,11 +42,18 @@ pub fn none_within(s: &[u8], low: u8, high: u8) -> bool
     seen == 0
 }
 
-// How many bytes stand before the first that lies between two values, both included. Whole blocks without one are
-// passed over first, because a block is tested without a branch for each byte.
+// How many bytes stand before the first that lies between two values, both included. The first byte is tested by itself,
+// because it often is the one. Whole blocks without one are passed over next, because a block is tested without a branch
+// for each byte.
 pub fn count_before(s: &[u8], low: u8, high: u8) -> usize
     ensures { λ r. ⌜ r ≡ countBefore (within low high) (now (s .entry)) ⌝ }
 {
+    if s.len() == 0 {
+        return 0;
+    }
+    if mark(s[0], low, high) == 1 {
+        return 0;
+    }
     let mut i = blocks_before(s, low, high);
     while i < s.len() {
         if mark(s[i], low, high) == 1 {

@@ -9,7 +9,7 @@ use lib.Dec.{ltb}
 use borrow.Author.Tests.{lt-ltb, le-ltb, ltb-true, ltb-false}
 use Rattle.lists.proofs.Cases.{by-bool}
 use Rattle.text.specs.Digits.{decimalWithin, decimal, hex, hexDigit}
-use Rattle.text.specs.Private.{pair}
+use Rattle.text.specs.Private.{pair, four}
 use Rattle.text.specs.Lines.{field, hexField}
 use Rattle.text.specs.Writing.{Wrote}
 use Rattle.text.proofs.Writing.{wrote-byte, wrote-pair, wrote-as, next}
@@ -63,6 +63,21 @@ decimal-hundreds n h =
         → decimal a ++ ((48 + b) ∷ (48 + c) ∷ []) ≡ decimal a′ ++ ((48 + b′) ∷ (48 + c′) ∷ [])
     same-digits p q r = rw (p, q, r)
 
+pub decimal-fours : (n : ℕ) → 10000 ≤ n → decimal n ≡ decimal (n / 10000) ++ four (n % 10000)
+decimal-fours n h =
+    let t : 100 ≤ n / 100 = omega arith in
+    let x : n / 100 / 100 ≡ n / 10000 = omega arith in
+    let y : n / 100 % 100 ≡ n % 10000 / 100 = omega arith in
+    let z : n % 100 ≡ n % 10000 % 100 = omega arith in
+    decimal-hundreds n (omega arith)
+    ∙ ap (λ (d : List ℕ). d ++ pair (n % 100)) (decimal-hundreds (n / 100) t)
+    ∙ append-assoc (decimal (n / 100 / 100)) (pair (n / 100 % 100)) (pair (n % 100))
+    ∙ same-pairs x y z
+  where
+    same-pairs : {a a′ b b′ c c′ : ℕ} → a ≡ a′ → b ≡ b′ → c ≡ c′
+        → decimal a ++ (pair b ++ pair c) ≡ decimal a′ ++ (pair b′ ++ pair c′)
+    same-pairs p q r = rw (p, q, r)
+
 -- ---- how many there are
 
 pub length-small : (n : ℕ) → n < 10 → length (decimal n) ≡ 1
@@ -76,6 +91,9 @@ length-pair n h g = ap length (decimal-pair n h g)
 
 pub length-hundreds : (n : ℕ) → 100 ≤ n → length (decimal n) ≡ length (decimal (n / 100)) + 2
 length-hundreds n h = ap length (decimal-hundreds n h) ∙ length-append (decimal (n / 100)) (pair (n % 100))
+
+pub length-fours : (n : ℕ) → 10000 ≤ n → length (decimal n) ≡ length (decimal (n / 10000)) + 4
+length-fours n h = ap length (decimal-fours n h) ∙ length-append (decimal (n / 10000)) (four (n % 10000))
 
 bound : (k n : ℕ) → n < 10 ^ suc k → length (decimal n) ≤ suc k
 bound zero n h = omega (arith, length-small n (omega arith))
@@ -100,6 +118,12 @@ pub wrote-hundreds : (out : List ℕ) (at v : ℕ) {out₁ out₂ : List ℕ} {a
     → Wrote out₁ a (pair (v % 100)) out₂ e → Wrote out at (decimal v) out₂ e
 wrote-hundreds out at v h room p q =
     wrote-as (sym (decimal-hundreds v h)) (next p q (omega (arith, p .ends, length-hundreds v h)))
+
+pub wrote-fours : (out : List ℕ) (at v : ℕ) {out₁ out₂ : List ℕ} {a e : ℕ} → 10000 ≤ v
+    → at + length (decimal v) ≤ length out → Wrote out at (decimal (v / 10000)) out₁ a
+    → Wrote out₁ a (four (v % 10000)) out₂ e → Wrote out at (decimal v) out₂ e
+wrote-fours out at v h room p q =
+    wrote-as (sym (decimal-fours v h)) (next p q (omega (arith, p .ends, length-fours v h)))
 
 pub wrote-hex : (out : List ℕ) (at v x y : ℕ) → at + 2 ≤ length out → x ≡ hexDigit (v / 16) → y ≡ hexDigit (v % 16)
     → Wrote out at (hex v) (set (set out at x) (at + 1) y) (at + 2)

@@ -1,6 +1,6 @@
 -- Contracts of private functions, which no caller reads.
 use Prim.Native.Nat.{ℕ, _+_, _-_, _/_, _%_}
-use mathlib.Core.List.{List, [], _∷_}
+use mathlib.Core.List.{List, [], _∷_, _++_}
 use Rattle.text.specs.Writing.{lineRoom}
 
 -- The room in which a head fits, `n=` and 20 digits, and what it leaves for a body.
@@ -13,3 +13,7 @@ bodyRoom = lineRoom - headRoom
 -- The two last digits of a number below 100.
 abbrev pub pair : ℕ → List ℕ
 pair n = (48 + n / 10) ∷ (48 + n % 10) ∷ []
+
+-- The four last digits of a number below 10,000.
+abbrev pub four : ℕ → List ℕ
+four n = pair (n / 100) ++ pair (n % 100)

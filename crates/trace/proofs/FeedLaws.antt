@@ -193,13 +193,10 @@ feed-some r (b ∷ bytes) h = by-answer (isAnswer (stepOf r b .answer)) (feedOf 
 
 module _ (bytes₀ : List ℕ) (t : Tally) (rest bytes : List ℕ) (f : ChunkStep)
     (g : ChunkStepIs bytes f (feedOf (lentReader bytes₀ (t .state)) rest)) (h : CountsFit (listing bytes₀ t)) where
-  pub fed-fits : f .taken ≤ length rest
-  fed-fits = omega (arith, g .taken-is, feed-leads (listing bytes₀ t) rest h .fits)
-
   pub advances : (n x y z fc rc sc : ℕ) → n ≡ numberAfter (t .frames) (t .refusals) → x ≡ add64 (t .frames) fc
       → fc ≡ frameCount (toldMeans (f .told))
       → y ≡ add64 (t .refusals) rc → rc ≡ refusedCount (toldMeans (f .told)) → z ≡ add64 (t .strays) sc
-      → sc ≡ strayCount (isOpen (t .state .mode)) (take (f .taken) rest)
+      → sc ≡ strayCount (isOpen (t .state .mode)) rest
       → {out out′ : List ℕ} {at end : ℕ} → Wrote out at (callLine n (outcomeOf (toldMeans (f .told)) bytes)) out′ end
       → end ≤ at + lineRoom
       → Advances (listing bytes₀ t) rest bytes out at out′
@@ -214,9 +211,7 @@ module _ (bytes₀ : List ℕ) (t : Tally) (rest bytes : List ℕ) (f : ChunkSte
       let re : add64 (t .refusals) (refusedOne o) ≡ y =
       sym (ey ∙ ap (add64 (t .refusals)) (erc ∙ ap refusedCount (g .told-is) ∙ refused-count o)) in
       let st : add64 (t .strays) (strays (isOpen (t .state .mode)) (take (d .taken) rest)) ≡ z =
-      sym (ez ∙ ap (add64 (t .strays))
-      (esc ∙ ap (λ (i : ℕ). strayCount (isOpen (t .state .mode)) (take i rest)) (g .taken-is)
-      ∙ sym (stray-count-is (s .reader) rest))) in
+      sym (ez ∙ ap (add64 (t .strays)) (esc ∙ sym (stray-count-is (s .reader) rest))) in
       let next : counting s o (d .next) (strays (isOpen (t .state .mode)) (take (d .taken) rest))
       ≡ listing bytes (record { state = f .state; frames = x; refusals = y; strays = z }) =
       (λ i. record { reader = sym (g .next-is) i; frames = fr i; refusals = re i; strays = st i }) in

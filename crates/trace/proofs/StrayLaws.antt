@@ -1,45 +1,75 @@
--- The stray bytes among those up to an answer stand before the first start flag.
+-- The stray bytes among those up to an answer stand before the first start flag, and may be passed over before the rest
+-- is fed.
 use mathlib.Core.Path.{_≡_, refl, sym, ap, _∙_}
 use mathlib.Core.Bool.{Bool, true, false, true≢false}
 use mathlib.Core.List.{List, [], _∷_}
-use Prim.Native.Nat.{ℕ, suc, _+_}
+use Prim.Native.Nat.{ℕ, suc, _+_, _-_, _≤_}
 use native.Mathlib.Nat.{zero-add}
 use native.Mathlib.Omega.{arith}
-use lib.ListN.{take}
+use lib.ListN.{length, take, drop, length-drop}
+use lib.Seq.{take-all}
+use lib.Dec.{eqb}
+use borrow.Author.Tests.{eqb-true}
 use Rattle.lists.specs.Choice.{pick, countBefore}
+use Rattle.lists.proofs.Before.{before-fits}
+use Rattle.lists.proofs.Cases.{by-bool}
 use Rattle.framing.specs.Reference.{Role, starts, stops, plain}
 use Rattle.framing.specs.Bounded.{terminatedIn}
 use Rattle.frame.proofs.FlagLaws.{isStarts, role-tests}
-use Rattle.line.specs.Feed.{isAnswer, ChunkTurn, chunkTurn, laterBy, feedOf}
+use Rattle.line.specs.Outcome.{summaryOf}
+use Rattle.line.specs.Feed.{isAnswer, ChunkTurn, chunkTurn, laterBy, feedOf, ChunkStepIs}
 use Rattle.line.specs.Rowing.{rowing, rowingBounds}
-use Rattle.line.specs.Reader.{modeSeen, roleStep, stepOf}
+use Rattle.line.specs.Reader.{modeSeen, reader, roleStep, stepOf}
+use Rattle.line.proofs.FeedLaws.{plus-zero}
+use Rattle.line.proofs.OutsideLaws.{strays-passed}
 use Rattle.frame.specs.Flags.{roleOf, isStart}
+use Rattle.line.specs.declared.ChunkStep.{ChunkStep}
 use Rattle.line.specs.declared.LineReader.{LineReader}
 use Rattle.line.specs.declared.Mode.{Mode}
 use Rattle.line.specs.declared.Mode.the-variants.{Outside, InStandard, InExtended, Overlong}
 use Rattle.text.specs.Strays.{strayAt, openAfter, strays}
-use Rattle.trace.specs.Private.{strayCount}
+use Rattle.trace.specs.Private.{strayCount, passedOver}
 use Rattle.trace.specs.Machine.{isOpen}
 use Rattle.trace.proofs.Counts.{open-is}
+
+-- ---- how many there are
 
 none-stray : (o : Bool) → 0 ≡ strayCount o []
 unfolding countBefore
 none-stray true = refl
 none-stray false = refl
 
-by-role : (ρ : Role) (o : Bool) (b : ℕ) (bytes : List ℕ) → isStart b ≡ isStarts ρ
-    → (o ≡ true → ρ ≡ stops → strays false bytes ≡ 0)
-    → strays (openAfter ρ o) bytes ≡ strayCount (openAfter ρ o) bytes
-    → strayAt ρ o + strays (openAfter ρ o) bytes ≡ strayCount o (b ∷ bytes)
+-- a byte before others, unless it stops an open candidate
+by-role : (ρ : Role) (o : Bool) (b : ℕ) (front bytes : List ℕ) → isStart b ≡ isStarts ρ
+    → (o ≡ true → ρ ≡ stops → ⊥)
+    → strays (openAfter ρ o) front ≡ strayCount (openAfter ρ o) bytes
+    → strayAt ρ o + strays (openAfter ρ o) front ≡ strayCount o (b ∷ bytes)
 unfolding countBefore
-by-role starts true b bytes e stopped h = zero-add _ ∙ h
-by-role starts false b bytes e stopped h = simp e (zero-add _ ∙ h)
-by-role stops true b bytes e stopped h = zero-add _ ∙ stopped refl refl
-by-role stops false b bytes e stopped h = simp e (ap (λ (n : ℕ). 1 + n) h)
-by-role plain true b bytes e stopped h = zero-add _ ∙ h
-by-role plain false b bytes e stopped h = simp e (ap (λ (n : ℕ). 1 + n) h)
+by-role starts true b front bytes e goes h = zero-add _ ∙ h
+by-role starts false b front bytes e goes h = simp e (zero-add _ ∙ h)
+by-role stops true b front bytes e goes h = absurd (goes refl refl)
+by-role stops false b front bytes e goes h = simp e (ap (λ (n : ℕ). 1 + n) h)
+by-role plain true b front bytes e goes h = zero-add _ ∙ h
+by-role plain false b front bytes e goes h = simp e (ap (λ (n : ℕ). 1 + n) h)
 
--- the stop flag of an open candidate is answered
+-- a byte that ends an open candidate
+at-answer : (ρ : Role) (o : Bool) (bytes : List ℕ) → o ≡ true
+    → strayAt ρ o + strays (openAfter ρ o) [] ≡ strayCount o bytes
+at-answer ρ false bytes e = absurd (true≢false (sym e))
+at-answer starts true bytes e = refl
+at-answer stops true bytes e = refl
+at-answer plain true bytes e = refl
+
+-- only a byte of an open candidate is answered, and its stop flag is
+answered-open : (m : Mode) (bytes : List ℕ) (len b : ℕ) (ρ : Role)
+    → isAnswer (roleStep ρ (reader bytes len m) b .answer) ≡ true → isOpen m ≡ true
+answered-open Outside bytes len b starts e = e
+answered-open Outside bytes len b stops e = e
+answered-open Outside bytes len b plain e = e
+answered-open InStandard bytes len b ρ e = refl
+answered-open InExtended bytes len b ρ e = refl
+answered-open Overlong bytes len b ρ e = refl
+
 terminated-answers : (m : Mode) (bytes : List ℕ) (len : ℕ) → isOpen m ≡ true
     → isAnswer (terminatedIn rowing rowingBounds (modeSeen m) bytes len) ≡ true
 terminated-answers Outside bytes len e = absurd (true≢false (sym e))
@@ -55,7 +85,7 @@ stop-answers r b ρ h e =
 
 pub stray-count-is : (r : LineReader) (bytes : List ℕ)
     → strays (isOpen (r .state .mode)) (take (feedOf r bytes .taken) bytes)
-    ≡ strayCount (isOpen (r .state .mode)) (take (feedOf r bytes .taken) bytes)
+    ≡ strayCount (isOpen (r .state .mode)) bytes
 unfolding feedOf
 stray-count-is r [] = none-stray (isOpen (r .state .mode))
 stray-count-is r (b ∷ bytes) =
@@ -64,17 +94,67 @@ stray-count-is r (b ∷ bytes) =
   where
     by-answer : (q : Bool) → isAnswer (stepOf r b .answer) ≡ q → (f : ChunkTurn)
         → strays (isOpen (stepOf r b .next .state .mode)) (take (f .taken) bytes)
-        ≡ strayCount (isOpen (stepOf r b .next .state .mode)) (take (f .taken) bytes)
+        ≡ strayCount (isOpen (stepOf r b .next .state .mode)) bytes
         → strays (isOpen (r .state .mode))
         (take (pick q (chunkTurn (stepOf r b .answer) (stepOf r b .next) 1) (laterBy 1 f) .taken) (b ∷ bytes))
-        ≡ strayCount (isOpen (r .state .mode))
-        (take (pick q (chunkTurn (stepOf r b .answer) (stepOf r b .next) 1) (laterBy 1 f) .taken) (b ∷ bytes))
+        ≡ strayCount (isOpen (r .state .mode)) (b ∷ bytes)
     by-answer true e f h =
-        by-role (roleOf b) (isOpen (r .state .mode)) b [] (role-tests b .0) (λ o ρ. refl)
-        (none-stray (openAfter (roleOf b) (isOpen (r .state .mode))))
+        at-answer (roleOf b) (isOpen (r .state .mode)) (b ∷ bytes)
+        (answered-open (r .state .mode) (r .bytes) (r .state .len) b (roleOf b) e)
     by-answer false e f h =
         let m : 1 + f .taken ≡ suc (f .taken) = omega arith in
-        rw m (by-role (roleOf b) (isOpen (r .state .mode)) b (take (f .taken) bytes) (role-tests b .0)
-        (λ o ρ. absurd (true≢false (sym (stop-answers r b (roleOf b) o ρ) ∙ e)))
+        rw m (by-role (roleOf b) (isOpen (r .state .mode)) b (take (f .taken) bytes) bytes (role-tests b .0)
+        (λ o ρ. true≢false (sym (stop-answers r b (roleOf b) o ρ) ∙ e))
         (ap (λ (o : Bool). strays o (take (f .taken) bytes)) (sym (open-is r b)) ∙ h
-        ∙ ap (λ (o : Bool). strayCount o (take (f .taken) bytes)) (open-is r b)))
+        ∙ ap (λ (o : Bool). strayCount o bytes) (open-is r b)))
+
+-- ---- what passing over them changes
+
+strays-fit : (o : Bool) (bytes : List ℕ) → strayCount o bytes ≤ length bytes
+strays-fit true bytes = omega arith
+strays-fit false bytes = before-fits isStart bytes
+
+none-passed : (r : LineReader) (rest : List ℕ) (n : ℕ) → n ≡ 0
+    → feedOf r rest ≡ laterBy n (feedOf r (drop n rest))
+none-passed r rest n e = rw e (plus-zero (feedOf r rest))
+
+by-mode : (m : Mode) (bytes rest : List ℕ) (n : ℕ) → n ≡ strayCount (isOpen m) rest
+    → feedOf (reader bytes 0 m) rest ≡ laterBy n (feedOf (reader bytes 0 m) (drop n rest))
+by-mode Outside bytes rest n e = rw e (strays-passed bytes rest)
+by-mode InStandard bytes rest n e = none-passed (reader bytes 0 InStandard) rest n e
+by-mode InExtended bytes rest n e = none-passed (reader bytes 0 InExtended) rest n e
+by-mode Overlong bytes rest n e = none-passed (reader bytes 0 Overlong) rest n e
+
+module _ (r : LineReader) (rest : List ℕ) (k n : ℕ) (ek : k ≡ strayCount (isOpen (r .state .mode)) rest)
+    (en : n ≡ passedOver (r .state .len) k) where
+  pub passed-fit : n ≤ length rest
+  passed-fit =
+      let f = strays-fit (isOpen (r .state .mode)) rest in
+      by-bool (eqb (r .state .len) 0)
+      (λ y. let q : n ≡ k = simp y at en in omega (arith, q, ek, f))
+      (λ y. let q : n ≡ 0 = simp y at en in omega (arith, q))
+
+  passed-same : feedOf r rest ≡ laterBy n (feedOf r (drop n rest))
+  passed-same =
+      by-bool (eqb (r .state .len) 0)
+      (λ y. let q : n ≡ k = simp y at en in
+      let z : r .state .len ≡ 0 = eqb-true (r .state .len) 0 y in
+      let u : r ≡ reader (r .bytes) 0 (r .state .mode) =
+      ap (λ (len : ℕ). reader (r .bytes) len (r .state .mode)) z in
+      rw u (by-mode (r .state .mode) (r .bytes) rest n (q ∙ ek)))
+      (λ y. let q : n ≡ 0 = simp y at en in none-passed r rest n q)
+
+  -- the bytes after them are fed, as the code takes them
+  pub passed-fed : (bytes : List ℕ) (f : ChunkStep)
+      → ChunkStepIs bytes f (feedOf r (take (length rest - n) (drop n rest)))
+      → ChunkStepIs bytes (record { told = f .told; state = f .state; taken = n + f .taken }) (feedOf r rest)
+  passed-fed bytes f g =
+      let part : take (length rest - n) (drop n rest) ≡ drop n rest =
+      take-all (length rest - n) (drop n rest) (omega (arith, length-drop n rest)) in
+      let q : laterBy n (feedOf r (take (length rest - n) (drop n rest))) ≡ feedOf r rest =
+      ap (λ (l : List ℕ). laterBy n (feedOf r l)) part ∙ sym passed-same in
+      record {
+        told-is = g .told-is ∙ ap (λ (t : ChunkTurn). summaryOf (t .answer)) q;
+        next-is = g .next-is ∙ ap (λ (t : ChunkTurn). t .next) q;
+        taken-is = ap (λ (i : ℕ). n + i) (g .taken-is) ∙ ap (λ (t : ChunkTurn). t .taken) q;
+      }

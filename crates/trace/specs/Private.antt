@@ -5,7 +5,8 @@ use mathlib.Core.Bool.{Bool, true, false}
 use mathlib.Core.List.{List}
 use Prim.Native.Nat.{ℕ, _+_, _-_, _<_, _≤_}
 use lib.ListN.{length, take, drop}
-use Rattle.lists.specs.Choice.{within, countBefore}
+use lib.Dec.{eqb}
+use Rattle.lists.specs.Choice.{pick, countBefore}
 use Rattle.text.specs.Writing.{Wrote, lineRoom}
 use Rattle.line.specs.Reader.{lentReader}
 use Rattle.trace.specs.Machine.{listingAfter, texts, takenOf}
@@ -60,6 +61,10 @@ pub record Advances (s : Listing) (rest bytes out : List ℕ) (at : ℕ) (out′
 abbrev pub strayCount : (is-open : Bool) → List ℕ → ℕ
 strayCount true bytes = 0
 strayCount false bytes = countBefore isStart bytes
+
+-- How many of them need not be fed: stray bytes leave a reader as it is where its length is 0.
+abbrev pub passedOver : (len strays : ℕ) → ℕ
+passedOver len strays = pick (eqb len 0) strays 0
 
 -- 1 for a frame, and 1 for a refusal.
 abbrev pub frameCount : Summary → ℕ

@@ -2,6 +2,7 @@
 // The state is a value. A call takes a chunk of the trace and a lent output, and writes whole lines into it.
 use answer::Written;
 use frame::flags;
+use line::ChunkStep;
 use line::LineReader;
 use line::Mode;
 use line::State;
@@ -11,10 +12,12 @@ ghost use Prim.Native.Nat.{_+_, _≤_};
 ghost use lib.ListN.{length};
 ghost use Rattle.answer.specs.Answer.{result};
 ghost use Rattle.answer.specs.Draft.{draftAnswer, draftOut, writtenMeans};
+ghost use Rattle.line.specs.Feed.{feedOf, ChunkStepIs};
 ghost use Rattle.line.specs.Outcome.{toldMeans};
+ghost use Rattle.line.specs.Reader.{lentReader};
 ghost use Rattle.text.specs.Writing.{Wrote, lineRoom};
 ghost use Rattle.trace.specs.Private.{strayCount, Advances, listing, listedOf, frameCount, refusedCount};
-ghost use Rattle.trace.specs.Private.{lengthOf};
+ghost use Rattle.trace.specs.Private.{lengthOf, passedOver};
 ghost use Rattle.trace.specs.Machine.{isOpen, newListing, numberAfter, Lists, lastText, lastRoom};
 
 // The room that the line of the finish and the totals fit in.
@@ -48,6 +51,12 @@ struct Advanced {
     taken: usize,
     at: usize,
     tally: Tally,
+}
+
+// What bytes up to the first that is answered give, and how many of them are stray.
+struct Fed {
+    step: ChunkStep,
+    strays: u64,
 }
 
 pub fn new() -> Listing
@@ -153,14 +162,12 @@ fn advance(bytes: &mut [u8; 118], t: Tally, rest: &[u8], out: &mut [u8], at: usi
         (now (out .entry)) at (now (out .exit)) r ⌝ }
 {
     let before = t.state;
-    let mode = before.mode;
     let frames = t.frames;
     let refusals = t.refusals;
-    let fed = line::feed_in(bytes, before, rest);
-    let taken = fed.taken;
-    let told = fed.told;
-    let state = fed.state;
-    let strays = stray_count(mode, &rest[..taken]);
+    let fed = feed(bytes, before, rest);
+    let step = fed.step;
+    let told = step.told;
+    let state = step.state;
     let len = length_of(text::write_answer(
         told,
         bytes,
@@ -168,14 +175,34 @@ fn advance(bytes: &mut [u8; 118], t: Tally, rest: &[u8], out: &mut [u8], at: usi
         &mut out[at..],
     ));
     Advanced {
-        taken,
+        taken: step.taken,
         at: at + len,
         tally: Tally {
             state,
             frames: std::num::wrapping_add_u64(frames, frame_count(told)),
             refusals: std::num::wrapping_add_u64(refusals, refused_count(told)),
-            strays: std::num::wrapping_add_u64(t.strays, strays),
+            strays: std::num::wrapping_add_u64(t.strays, fed.strays),
         },
+    }
+}
+
+// Feeds bytes up to the first that is answered. The stray bytes are counted first, and passed over where they would
+// leave the reader as it is, so that they are looked at once.
+fn feed(bytes: &mut [u8; 118], before: State, rest: &[u8]) -> Fed
+    ensures { λ r. ⌜ ChunkStepIs (now (bytes .exit)) (r .step)
+        (feedOf (lentReader (now (bytes .entry)) before) (now (rest .entry))) ⌝ }
+    ensures { λ r. ⌜ r .strays ≡ strayCount (isOpen (before .mode)) (now (rest .entry)) ⌝ }
+{
+    let mode = before.mode;
+    let strays = stray_count(mode, rest);
+    let passed = passed_over(before.len, strays);
+    let step = line::feed_in(bytes, before, &rest[passed..]);
+    let told = step.told;
+    let state = step.state;
+    let taken = passed + step.taken;
+    Fed {
+        step: ChunkStep { told, state, taken },
+        strays: strays as u64,
     }
 }
 
@@ -229,13 +256,22 @@ fn is_open(mode: Mode) -> bool
     }
 }
 
-// The stray bytes among those up to an answer. A candidate that is open ends only at the answer, so they stand before
-// the first start flag.
-fn stray_count(mode: Mode, bytes: &[u8]) -> u64
-    ensures { λ r. ⌜ r ≡ strayCount (isOpen mode) (now (bytes .entry)) ⌝ }
+// The stray bytes that come first: where no candidate is open, those before the first start flag.
+fn stray_count(mode: Mode, rest: &[u8]) -> usize
+    ensures { λ r. ⌜ r ≡ strayCount (isOpen mode) (now (rest .entry)) ⌝ }
 {
     if is_open(mode) {
         return 0;
     }
-    lists::count_before(bytes, flags::EXTENDED_START, flags::STANDARD_START) as u64
+    lists::count_before(rest, flags::EXTENDED_START, flags::STANDARD_START)
+}
+
+// How many of them need not be fed: all, where the reader's length is 0, because none of them changes it then.
+fn passed_over(len: usize, strays: usize) -> usize
+    ensures { λ r. ⌜ r ≡ passedOver len strays ⌝ }
+{
+    if len == 0 {
+        return strays;
+    }
+    0
 }

@@ -1,4 +1,5 @@
-use mathlib.Core.Path.{_≡_}
+use mathlib.Core.Path.{_≡_, sym}
+use native.Mathlib.Nat.{zero-add}
 use native.Mathlib.Omega.{arith}
 use lib.ListN.{length, drop}
 use Prim.Native.Nat.{_+_, _-_, _≤_}
@@ -15,11 +16,8 @@ Inv-loop s low high i₀ i =
 abbrev μ-loop : tie.MeasureT-loop
 μ-loop s low high i₀ i = length s - i
 
-blocks-before-requires : tie.Need-blocks-before-requires Inv-loop μ-loop
-blocks-before-requires c κs = search needs
-
-loop-holds : tie.Need-loop-holds Inv-loop μ-loop
-loop-holds c = (c .blocks-before .ensures .0, c .blocks-before .ensures .1)
+returns : tie.Need-returns Inv-loop μ-loop
+returns c = before-end _ _ 0 (omega (arith, c .if1 .taken)) (sym (zero-add _))
 
 shared-slice-read-mark : tie.Need-shared-slice-read-mark Inv-loop μ-loop
 shared-slice-read-mark c = search needs
@@ -27,11 +25,28 @@ shared-slice-read-mark c = search needs
 mark-requires : tie.Need-mark-requires Inv-loop μ-loop
 mark-requires c κs = search needs
 
-returns : tie.Need-returns Inv-loop μ-loop
-returns c =
+returns-2 : tie.Need-returns-2 Inv-loop μ-loop
+returns-2 c =
+    before-here _ _ 0 (omega (arith, c .before .before .before .if1 .left))
+    (marked _ _ (c .before .mark .ensures) (c .if2 .taken)) (sym (zero-add _))
+
+blocks-before-requires : tie.Need-blocks-before-requires Inv-loop μ-loop
+blocks-before-requires c κs = search needs
+
+loop-holds : tie.Need-loop-holds Inv-loop μ-loop
+loop-holds c = (c .blocks-before .ensures .0, c .blocks-before .ensures .1)
+
+shared-slice-read-mark-2 : tie.Need-shared-slice-read-mark-2 Inv-loop μ-loop
+shared-slice-read-mark-2 c = search needs
+
+mark-requires-2 : tie.Need-mark-requires-2 Inv-loop μ-loop
+mark-requires-2 c κs = search needs
+
+returns-3 : tie.Need-returns-3 Inv-loop μ-loop
+returns-3 c =
     let l = c .before .before .before .before in
     before-here _ _ (l .loop .i) (c .before .before .before .loop-test .taken)
-    (marked _ _ (c .before .mark .ensures) (c .if1 .taken)) (l .loop .inv .1)
+    (marked _ _ (c .before .mark2 .ensures) (c .if3 .taken)) (l .loop .inv .1)
 
 add-i : tie.Need-add-i Inv-loop μ-loop
 add-i c = search needs
@@ -44,11 +59,11 @@ loop-again c =
     let l = c .before .before .before .before in (
       search needs,
       before-more _ _ (l .loop .i) (c .before .before .before .loop-test .taken)
-          (unmarked _ _ (c .before .mark .ensures) (c .if1 .left)) (l .loop .inv .1),
+          (unmarked _ _ (c .before .mark2 .ensures) (c .if3 .left)) (l .loop .inv .1),
     )
 
-returns-2 : tie.Need-returns-2 Inv-loop μ-loop
-returns-2 c = before-end _ _ (c .before .loop .i) (c .loop-test .left) (c .before .loop .inv .1)
+returns-4 : tie.Need-returns-4 Inv-loop μ-loop
+returns-4 c = before-end _ _ (c .before .loop .i) (c .loop-test .left) (c .before .loop .inv .1)
 
 pub count-before-spec : {M : Type 1} → statement M
 count-before-spec =
@@ -56,12 +71,16 @@ count-before-spec =
     (tie.spec
     Inv-loop
     μ-loop
-    blocks-before-requires
-    loop-holds
+    returns
     shared-slice-read-mark
     mark-requires
-    returns
+    returns-2
+    blocks-before-requires
+    loop-holds
+    shared-slice-read-mark-2
+    mark-requires-2
+    returns-3
     add-i
     loop-less
     loop-again
-    returns-2)
+    returns-4)

@@ -5,32 +5,19 @@ use Rattle.answer.specs.Draft.{writtenMeans}
 use Rattle.line.specs.Outcome.{toldMeans, outcomeOf}
 use Rattle.text.specs.Lines.{callLine}
 use Rattle.text.specs.Writing.{Wrote}
-use mathlib.Core.Path.{sym}
 use native.Mathlib.Omega.{arith}
-use lib.Seq.{length-take-le}
-use Rattle.trace.proofs.FeedLaws.{CountsFit, fed-fits, advances}
+use Rattle.trace.proofs.FeedLaws.{CountsFit, advances}
 use Rattle.trace.proofs.AnswerLaws.{part-wrote}
 use Rattle.trace.specs.Private.{listing}
 use borrow.Author.Needs.{needs}
 use Rattle.trace.proofs.advance.Statement.{statement}
 use Rattle.trace.proofs.advance.Tie as tie
 
-feed-in-requires : tie.Need-feed-in-requires
-feed-in-requires c κs = search needs
+feed-requires : tie.Need-feed-requires
+feed-requires c κs = search needs
 
 counted : (start : tie.Start) → CountsFit (listing (start .args .bytes .now) (start .args .t))
 counted start = (omega (arith, start .fits), omega (arith, start .fits), omega (arith, start .fits))
-
-slice-aggregate-stray-count : tie.Need-slice-aggregate-stray-count
-slice-aggregate-stray-count c =
-    let start = c .before .before .before .before .before .before .before in
-    let f = c .before .before .feed-in in
-    sym (length-take-le (f .result .taken) (start .args .rest .now)
-    (fed-fits (start .args .bytes .now) (start .args .t) (start .args .rest .now) (f .last .0) (f .result) (f .ensures)
-    (counted start)))
-
-stray-count-requires : tie.Need-stray-count-requires
-stray-count-requires c κs = search needs
 
 next-number-requires : tie.Need-next-number-requires
 next-number-requires c κs = search needs
@@ -52,38 +39,19 @@ length-of-requires c κs = search needs
 
 -- the line of the answer
 line : (c : tie.After-length-of)
-    → Wrote (c .before .before .before .before .before .before .before .before .before .before .before .before .before
-    .before .before .before .args .out .now) (c .before .before .before .before .before .before .before .before
-    .before .before .before .before .before .before .before .before .args .at)
-    (callLine (c .before .before .before .before .before .next-number .result)
-    (outcomeOf (toldMeans (c .before .before .before .before .before .before .before .before .before .before .before
-    .feed-in .result .told)) (c .before .before .before .before .before .before .before .before .before .before
-    .before .feed-in .last .0)))
-    (putMid (c .before .before .before .before .before .before .before .before .before .before .before .before .before
-    .before .before .before .args .at) (length (c .before .before .before .before .before .before .before .before
-    .before .before .before .before .before .before .before .before .args .out .now) - c .before .before .before
-    .before .before .before .before .before .before .before .before .before .before .before .before .before .args .at)
-    (c .before .before .before .before .before .before .before .before .before .before .before .before .before .before
-    .before .before .args .out .now)
-    (c .before .before .before .write-answer .last .1 .1 .1 .0)) (c .before .before .before .before .before .before
-    .before .before .before .before .before .before .before .before .before .before .args .at + c .length-of .result)
+    → Wrote (c .before .before .before .before .before .before .before .before .before .before .before .before .before .before .before .args .out .now) (c .before .before .before .before .before .before .before .before .before .before .before .before .before .before .before .args .at)
+    (callLine (c .before .before .before .before .before .next-number .result) (outcomeOf (toldMeans (c .before .before .before .before .before .before .before .before .before .before .feed .result .step .told)) (c .before .before .before .before .before .before .before .before .before .before .feed .last .0)))
+    (putMid (c .before .before .before .before .before .before .before .before .before .before .before .before .before .before .before .args .at) (length (c .before .before .before .before .before .before .before .before .before .before .before .before .before .before .before .args .out .now) - c .before .before .before .before .before .before .before .before .before .before .before .before .before .before .before .args .at) (c .before .before .before .before .before .before .before .before .before .before .before .before .before .before .before .args .out .now) (c .before .before .before .write-answer .last .1 .1 .1 .0))
+    (c .before .before .before .before .before .before .before .before .before .before .before .before .before .before .before .args .at + c .length-of .result)
 line c =
     let w = c .before .before .before .write-answer in
-    let start = c .before .before .before .before .before .before .before .before .before .before .before .before
-    .before .before .before .before in
+    let start = c .before .before .before .before .before .before .before .before .before .before .before .before .before .before .before in
     part-wrote _ (start .args .out .now) (w .last .1 .1 .1 .0) (writtenMeans (w .result)) (start .args .at)
     (c .length-of .result) (omega (arith, w .ensures .1 .1, start .pre)) (w .ensures .0, w .ensures .1 .0)
     (c .length-of .ensures)
 
-add-t24 : tie.Need-add-t24
-add-t24 c = omega (
-  arith,
-  line c .ends,
-  c .before .before .before .write-answer .ensures .1 .1,
-  c .before .before
-      .before .before .before .before .before .before .before .before .before .before .before .before .before .before
-      .pre,
-)
+add-t20 : tie.Need-add-t20
+add-t20 c = omega (arith, line c .ends, c .before .before .before .write-answer .ensures .1 .1, c .before .before .before .before .before .before .before .before .before .before .before .before .before .before .before .pre)
 
 frame-count-requires : tie.Need-frame-count-requires
 frame-count-requires c κs = search needs
@@ -107,34 +75,31 @@ returns : tie.Need-returns
 returns c =
     let p = c .before .before .before .before .before in
     let n = p .before .before .before .before .before in
-    let sc = n .before .before .before in
-    let f = sc .before .before .before in
+    let f = n .before .before .before .before .before in
     let start = f .before .before .before .before .before in
-    advances (start .args .bytes .now) (start .args .t) (start .args .rest .now) (f .feed-in .last .0)
-    (f .feed-in .result) (f .feed-in .ensures) (counted start) (n .next-number .result)
+    advances (start .args .bytes .now) (start .args .t) (start .args .rest .now) (f .feed .last .0)
+    (f .feed .result .step) (f .feed .ensures .0) (counted start) (n .next-number .result)
     (c .before .before .before .wrapping-add-u64 .result) (c .before .wrapping-add-u642 .result)
     (c .wrapping-add-u643 .result)
     (c .before .before .before .before .frame-count .result) (c .before .before .refused-count .result)
-    (sc .stray-count .result) (n .next-number .ensures) (c .before .before .before .wrapping-add-u64 .ensures)
+    (f .feed .result .strays) (n .next-number .ensures) (c .before .before .before .wrapping-add-u64 .ensures)
     (c .before .before .before .before .frame-count .ensures) (c .before .wrapping-add-u642 .ensures)
     (c .before .before .refused-count .ensures)
-    (c .wrapping-add-u643 .ensures) (sc .stray-count .ensures) (line p)
+    (c .wrapping-add-u643 .ensures) (f .feed .ensures .1) (line p)
     (omega (arith, line p .ends, p .before .before .before .write-answer .ensures .1 .1))
 
 pub advance-spec : {M : Type 1} → statement M
 advance-spec =
     tie.close
     (tie.spec
-    feed-in-requires
-    slice-aggregate-stray-count
-    stray-count-requires
+    feed-requires
     next-number-requires
     sub-write-answer
     part-write-answer-start
     part-write-answer-end
     write-answer-requires
     length-of-requires
-    add-t24
+    add-t20
     frame-count-requires
     wrapping-add-u64-requires
     refused-count-requires
