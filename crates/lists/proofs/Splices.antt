@@ -1,14 +1,15 @@
 -- The laws of a list put into another at an index.
 use Prim.Native.Nat.{ℕ, _+_, _≤_, _<_, _-_}
-use mathlib.Core.Path.{_≡_, sym, ap, _∙_}
+use mathlib.Core.Path.{_≡_, refl, sym, ap, _∙_}
 use mathlib.Core.List.{List, [], _∷_, _++_, append-assoc, append-nil}
 use native.Mathlib.Nat.{add-zero, add-assoc}
 use native.Mathlib.Numerals.{add-one}
 use native.Mathlib.Omega.{arith}
 use lib.ListN.{length, getD, take, drop, set, length-append, take-append-drop, length-drop, length-set}
-use lib.ListN.{drop-of-length-le}
+use lib.ListN.{drop-of-length-le, replicate, length-replicate}
 use lib.Seq.{set-split, take-at, take-all, drop-drop, length-take-le, drop-append-add, paste, paste-suc, take-length}
-use Rattle.lists.specs.Splice.{splice}
+use borrow.Author.Tests.{le-leb}
+use Rattle.lists.specs.Splice.{splice, copied}
 
 pub splice-nil : (out : List ℕ) (at : ℕ) → splice out at [] ≡ out
 splice-nil out at = ap (λ (n : ℕ). take at out ++ drop n out) (add-zero at) ∙ take-append-drop at out
@@ -101,3 +102,17 @@ pub copied-first : (s out last : List ℕ) → last ≡ take (length s) s ++ dro
 copied-first s out last e =
     let z : 0 + length s ≡ length s = omega arith in
     e ∙ ap (λ (l : List ℕ). l ++ drop (length s) out) (take-length s) ∙ ap (λ (n : ℕ). s ++ drop n out) (sym z)
+
+-- a list copied to the front of zeros, where it fits, stands there
+pub copied-front : (s last : List ℕ) (n : ℕ) → length s ≤ n → last ≡ copied (replicate n 0) 0 s
+    → take (length s) last ≡ s
+copied-front s last n h e =
+    let zeros : List ℕ = replicate n 0 in
+    let room : 0 + length s ≤ length zeros = omega (arith, length-replicate {A = ℕ} n 0) in
+    ap (take (length s)) (e ∙ simp (le-leb (0 + length s) (length zeros) room) refl)
+    ∙ take-at s (drop (0 + length s) zeros) (length s) refl
+
+-- a list copied where it fits is put in
+pub copied-fits : (s out last : List ℕ) (at : ℕ) → at + length s ≤ length out → last ≡ copied out at s
+    → last ≡ splice out at s
+copied-fits s out last at h e = e ∙ simp (le-leb (at + length s) (length out) h) refl
