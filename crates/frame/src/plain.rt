@@ -15,7 +15,7 @@ pub(crate) fn examine_whole(kind: Kind, body: &[u8]) -> Examined
     if looked.clear {
         return examine_plain(kind, body, looked.sum);
     }
-    candidate::examine_flagged(kind, body)
+    candidate::examine_stuffed(kind, body)
 }
 
 // The verdict on a body in which no byte is F0 to F3 and whose exclusive or is known.

@@ -59,6 +59,31 @@ splice-next out at v w a room p q r =
     r ∙ ap (λ (l : List ℕ). splice l a w) p ∙ ap (λ (n : ℕ). splice (splice out at v) n w) q
     ∙ splice-splice out at v room w
 
+-- A list put in over the end of another that was put in before it.
+pub splice-over : (out : List ℕ) (at : ℕ) (v m w : List ℕ) → at + length v + length w ≤ length out
+    → length m ≤ length w
+    → splice (splice out at (v ++ m)) (at + length v) w ≡ splice out at (v ++ w)
+splice-over out at v m w room short =
+    let f = take at out ++ v in
+    let d = drop (at + length (v ++ m)) out in
+    let n : length f ≡ at + length v =
+    length-append (take at out) v ∙ ap (λ (i : ℕ). i + length v) (length-take-le at out (omega arith)) in
+    let x : splice out at (v ++ m) ≡ f ++ (m ++ d) =
+    ap (λ (l : List ℕ). take at out ++ l) (append-assoc v m d) ∙ sym (append-assoc (take at out) v (m ++ d)) in
+    let i : length m + (length w - length m) ≡ length w = omega arith in
+    let j : at + length (v ++ m) + (length w - length m) ≡ at + length (v ++ w) =
+    omega (arith, length-append v m, length-append v w) in
+    let past : drop (at + length v + length w) (f ++ (m ++ d)) ≡ drop (at + length (v ++ w)) out =
+    ap (λ (k : ℕ). drop (k + length w) (f ++ (m ++ d))) (sym n) ∙ drop-append-add f (m ++ d) (length w)
+    ∙ ap (λ (k : ℕ). drop k (m ++ d)) (sym i) ∙ drop-append-add m d (length w - length m)
+    ∙ drop-drop (length w - length m) (at + length (v ++ m)) out ∙ ap (λ (k : ℕ). drop k out) j in
+    ap (λ (l : List ℕ). splice l (at + length v) w) x
+    ∙ ap (λ (l : List ℕ). l ++ (w ++ drop (at + length v + length w) (f ++ (m ++ d))))
+    (take-at f (m ++ d) (at + length v) n)
+    ∙ ap (λ (l : List ℕ). f ++ (w ++ l)) past
+    ∙ append-assoc (take at out) v (w ++ drop (at + length (v ++ w)) out)
+    ∙ ap (λ (l : List ℕ). take at out ++ l) (sym (append-assoc v w (drop (at + length (v ++ w)) out)))
+
 -- One store.
 pub set-splice : (out : List ℕ) (at b : ℕ) → at < length out → set out at b ≡ splice out at (b ∷ [])
 set-splice out at b h = set-split out at b h ∙ ap (λ (n : ℕ). take at out ++ b ∷ drop n out) (sym (add-one at))

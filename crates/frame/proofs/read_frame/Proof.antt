@@ -12,7 +12,7 @@ use Rattle.frame.specs.declared.candidate.Examined.{Examined}
 use Rattle.frame.specs.Verdict.{Verdict, verdict}
 use Rattle.answer.specs.Answer.{result}
 use Rattle.frame.specs.Answers.{readAnswer, readOut}
-use Rattle.frame.proofs.VerdictLaws.{bounded-no, bounded-long, bounded-judged, whole-judged, plain-whole}
+use Rattle.frame.proofs.VerdictLaws.{bounded-no, bounded-long, bounded-judged, whole-judged}
 use Rattle.frame.proofs.VerdictLaws.{answer-refused, answer-no-room, answer-done, header-as, contents-of}
 use Rattle.frame.proofs.ContentsLaws.{rest-length, rest-first}
 use borrow.Author.Needs.{needs}
@@ -41,14 +41,14 @@ judged k =
     ap (λ (x : _). judgeWhole x (B k)) (k .kind-of .ensures)
     ∙ bounded-judged (W (T k)) (bounded (T k)) (B k) (ap (λ (m : ℕ). take m (drop 1 (W (T k)))) n)
 
-abbrev K : tie.After-examine-flagged → tie.After-kind-of
-K e = e .before .before .before
+abbrev K : tie.After-examine-whole → tie.After-kind-of
+K e = e .before
 
-found : (e : tie.After-examine-flagged) (x : Examined) → e .examine-flagged .result ≡ x
+found : (e : tie.After-examine-whole) (x : Examined) → e .examine-whole .result ≡ x
     → ExaminesWhole (K e .kind-of .result) (B (K e)) x
-found e x q = subst (λ (y : Examined). ExaminesWhole (K e .kind-of .result) (B (K e)) y) q (e .examine-flagged .ensures)
+found e x q = subst (λ (y : Examined). ExaminesWhole (K e .kind-of .result) (B (K e)) y) q (e .examine-whole .ensures)
 
-abbrev E : tie.After-known-told2 → tie.After-examine-flagged
+abbrev E : tie.After-known-told2 → tie.After-examine-whole
 E k = k .before .before .before
 
 sound : (k : tie.After-known-told2)
@@ -93,30 +93,8 @@ part-body-end c = search needs
 kind-of-requires : tie.Need-kind-of-requires
 kind-of-requires c κs = search needs
 
-look-plain-requires : tie.Need-look-plain-requires
-look-plain-requires c κs = search needs
-
-read-plain-requires : tie.Need-read-plain-requires
-read-plain-requires c κs = let l = c .before .before in l .look-plain .ensures (c .before .if2 .taken)
-
-same-length : tie.Need-same-length
-same-length c = search needs
-
-returns-2 : tie.Need-returns-2
-returns-2 c =
-    let r = c .before .before in
-    let l = r .before .before .before in
-    let k = l .before in
-    let out = St k .args .out .now in
-    let same = plain-whole (B k) _ (l .look-plain .ensures (r .before .before .if2 .taken)) (k .kind-of .result)
-    ∙ judged k in (
-      r .read-plain .ensures .0 ∙ ap (λ (v : Verdict). readAnswer v (length out)) same,
-      r .read-plain .ensures .1
-          ∙ ap (λ (v : Verdict). readOut v out) same,
-    )
-
-examine-flagged-requires : tie.Need-examine-flagged-requires
-examine-flagged-requires c κs = search needs
+examine-whole-requires : tie.Need-examine-whole-requires
+examine-whole-requires c κs = search needs
 
 enum-known-found : tie.Need-enum-known-found
 enum-known-found c = search needs
@@ -124,12 +102,12 @@ enum-known-found c = search needs
 enum-known-found-2 : tie.Need-enum-known-found-2
 enum-known-found-2 c = search needs
 
-returns-3 : tie.Need-returns-3
-returns-3 c =
+returns-2 : tie.Need-returns-2
+returns-2 c =
     let k = c .before in
     let s = sound k in
     answer-no-room _ _ (St (K (E k)) .args .out .now) (accepts k)
-    (omega (arith, c .if3 .taken, s .counted, ap length (contents-of (k .before .found2 .given .0 .0) (s .contents))))
+    (omega (arith, c .if2 .taken, s .counted, ap length (contents-of (k .before .found2 .given .0 .0) (s .contents))))
 
 sub-copy-contents : tie.Need-sub-copy-contents
 sub-copy-contents c = let s = sound (c .before) in omega (arith, s .inside)
@@ -146,28 +124,28 @@ copy-contents-requires c κs =
     let s = sound k in (
       ap (λ (l : List ℕ). length (unstuffedBytes (unstuff false l))) (rest k)
           ∙ rest-length s,
-      c .before .before .if3 .left,
+      c .before .before .if2 .left,
     )
 
 read-as-requires : tie.Need-read-as-requires
 read-as-requires c κs = search needs
 
-returns-4 : tie.Need-returns-4
-returns-4 c =
+returns-3 : tie.Need-returns-3
+returns-3 c =
     let e = c .before .before .before in
     answer-refused _ _ (St (K e) .args .out .now) (sym (judged (K e)) ∙ found e _ (c .before .found .given .1))
 
-same-length-2 : tie.Need-same-length-2
-same-length-2 c = search needs
+same-length : tie.Need-same-length
+same-length c = search needs
 
-returns-5 : tie.Need-returns-5
-returns-5 c =
+returns-4 : tie.Need-returns-4
+returns-4 c =
     let k = c .before .before .before .before .before .before .before in
     let s = sound k in
     let out = St (K (E k)) .args .out .now in
     let n = ap length (contents-of (k .before .found2 .given .0 .0) (s .contents)) in
     let done = answer-done _ _ out (accepts k)
-    (omega (arith, n, s .counted, c .before .before .before .before .before .before .if3 .left)) in (
+    (omega (arith, n, s .counted, c .before .before .before .before .before .before .if2 .left)) in (
       c .read-as .ensures ∙ header-as (k .before .found2 .given .0 .0) (s .contents) _ (s .counted) ∙ done .0,
       rest-first s out _ (c .before .before .before .copy-contents .ensures
           ∙ ap (λ (l : List ℕ). take (k .before .found2 .given .0 .1 .1 .0) (unstuffedBytes (unstuff false l))
@@ -187,19 +165,15 @@ read-frame-spec =
     part-body-start
     part-body-end
     kind-of-requires
-    look-plain-requires
-    read-plain-requires
-    same-length
-    returns-2
-    examine-flagged-requires
+    examine-whole-requires
     enum-known-found
     enum-known-found-2
-    returns-3
+    returns-2
     sub-copy-contents
     part-copy-contents-start
     part-copy-contents-end
     copy-contents-requires
     read-as-requires
-    returns-4
-    same-length-2
-    returns-5)
+    returns-3
+    same-length
+    returns-4)

@@ -15,8 +15,8 @@ returns c =
     let a = c .before .before .before .before .args in
     whole-examined (a .kind) (a .body .now) (plain-flagless _ _ p) (c .examine-plain .result) (c .examine-plain .ensures)
 
-examine-flagged-requires : tie.Need-examine-flagged-requires
-examine-flagged-requires c κs = search needs
+examine-stuffed-requires : tie.Need-examine-stuffed-requires
+examine-stuffed-requires c κs = search needs
 
 returns-2 : tie.Need-returns-2
 returns-2 c = search needs
@@ -28,5 +28,5 @@ examine-whole-spec =
     look-plain-requires
     examine-plain-requires
     returns
-    examine-flagged-requires
+    examine-stuffed-requires
     returns-2)
