@@ -80,7 +80,8 @@ pub fn read_frame(wire: &[u8], out: &mut [u8]) -> Read
     let start = wire[0];
     let body = &wire[1..n - 1];
     let kind = flags::kind_of(start);
-    let found = plain::examine_whole(kind, body);
+    let looked = candidate::look_plain(body);
+    let found = plain::examine_looked(kind, body, looked);
     match found {
         Examined::Unsound(why) => Read::Refused(why),
         Examined::Sound { header, start, len } => {
@@ -190,7 +191,8 @@ fn judge_whole(kind: Kind, s: &mut [u8]) -> Read
     ensures { λ r. ⌜ readMeans r ≡ judgeAnswer (verdict (candidateOf kind (now (s .entry)))) ⌝ }
     ensures { λ r. ⌜ now (s .exit) ≡ leftIn (verdict (candidateOf kind (now (s .entry)))) (now (s .entry)) ⌝ }
 {
-    let found = plain::examine_whole(kind, s);
+    let looked = candidate::look_plain(s);
+    let found = plain::examine_looked(kind, s, looked);
     match found {
         Examined::Unsound(refusal) => Read::Refused(refusal),
         Examined::Sound { header, start, len } => {

@@ -5,7 +5,7 @@ ghost use Prim.Native.Nat.{_+_, _≤_};
 ghost use lib.Dec.{leb};
 ghost use lib.ListN.{length, drop};
 ghost use Rattle.lists.specs.Choice.{pick, within, noneOf, countBefore};
-ghost use Rattle.lists.specs.Splice.{copied};
+ghost use Rattle.lists.specs.Splice.{splice, copied};
 
 // How many bytes are tested together.
 pub const BLOCK: usize = 32;
@@ -71,11 +71,7 @@ pub fn copy(s: &[u8], out: &mut [u8], at: usize)
     if out.len() - at < s.len() {
         return;
     }
-    let mut i: usize = 0;
-    while i < s.len() {
-        out[at + i] = s[i];
-        i += 1;
-    }
+    copy_each(s, out, at)
 }
 
 // As `copy`, for a slice that is short: through an array, which overlaps neither slice, so that the compiler calls the
@@ -87,9 +83,26 @@ pub fn copy_short(s: &[u8], out: &mut [u8], at: usize)
         copy(s, out, at);
         return;
     }
+    if out.len() < at {
+        return;
+    }
+    if out.len() - at < s.len() {
+        return;
+    }
     let mut held = [0u8; SHORT];
-    copy(s, &mut held, 0);
-    copy(&held[..s.len()], out, at);
+    copy_each(s, &mut held, 0);
+    copy_each(&held[..s.len()], out, at);
+}
+
+fn copy_each(s: &[u8], out: &mut [u8], at: usize)
+    requires { ⌜ at + length (now s) ≤ length (now out) ⌝ }
+    ensures { λ r. ⌜ now (out .exit) ≡ splice (now (out .entry)) at (now (s .entry)) ⌝ }
+{
+    let mut i: usize = 0;
+    while i < s.len() {
+        out[at + i] = s[i];
+        i += 1;
+    }
 }
 
 fn blocks_before(s: &[u8], low: u8, high: u8) -> usize

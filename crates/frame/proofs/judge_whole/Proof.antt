@@ -8,21 +8,24 @@ use borrow.Author.Needs.{needs}
 use Rattle.frame.proofs.judge_whole.Statement.{statement}
 use Rattle.frame.proofs.judge_whole.Tie as tie
 
-abbrev St : tie.After-examine-whole → tie.Start
-St e = e .before .before .before
+abbrev St : tie.After-examine-looked → tie.Start
+St e = e .before .before .before .before .before
 
-found : (e : tie.After-examine-whole) (x : Examined) → e .examine-whole .result ≡ x
+found : (e : tie.After-examine-looked) (x : Examined) → e .examine-looked .result ≡ x
     → ExaminesWhole (St e .args .kind) (St e .args .s .now) x
 found e x q =
-    subst (λ (y : Examined). ExaminesWhole (St e .args .kind) (St e .args .s .now) y) q (e .examine-whole .ensures)
+    subst (λ (y : Examined). ExaminesWhole (St e .args .kind) (St e .args .s .now) y) q (e .examine-looked .ensures)
 
 sound : (k : tie.After-known-told2)
     → SoundAt (St (k .before .before .before) .args .kind) (St (k .before .before .before) .args .s .now)
     (k .before .found2 .given .0 .0) (k .before .found2 .given .0 .1 .0) (k .before .found2 .given .0 .1 .1 .0)
 sound k = found (k .before .before .before) _ (k .before .found2 .given .1) .1
 
-examine-whole-requires : tie.Need-examine-whole-requires
-examine-whole-requires c κs = search needs
+look-plain-requires : tie.Need-look-plain-requires
+look-plain-requires c κs = search needs
+
+examine-looked-requires : tie.Need-examine-looked-requires
+examine-looked-requires c κs = search needs
 
 enum-known-found : tie.Need-enum-known-found
 enum-known-found c = search needs
@@ -62,7 +65,8 @@ pub judge-whole-spec : {M : Type 1} → statement M
 judge-whole-spec =
     tie.close
     (tie.spec
-    examine-whole-requires
+    look-plain-requires
+    examine-looked-requires
     enum-known-found
     enum-known-found-2
     bring-contents-requires

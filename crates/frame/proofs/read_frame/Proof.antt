@@ -41,14 +41,14 @@ judged k =
     ap (λ (x : _). judgeWhole x (B k)) (k .kind-of .ensures)
     ∙ bounded-judged (W (T k)) (bounded (T k)) (B k) (ap (λ (m : ℕ). take m (drop 1 (W (T k)))) n)
 
-abbrev K : tie.After-examine-whole → tie.After-kind-of
-K e = e .before
+abbrev K : tie.After-examine-looked → tie.After-kind-of
+K e = e .before .before
 
-found : (e : tie.After-examine-whole) (x : Examined) → e .examine-whole .result ≡ x
+found : (e : tie.After-examine-looked) (x : Examined) → e .examine-looked .result ≡ x
     → ExaminesWhole (K e .kind-of .result) (B (K e)) x
-found e x q = subst (λ (y : Examined). ExaminesWhole (K e .kind-of .result) (B (K e)) y) q (e .examine-whole .ensures)
+found e x q = subst (λ (y : Examined). ExaminesWhole (K e .kind-of .result) (B (K e)) y) q (e .examine-looked .ensures)
 
-abbrev E : tie.After-known-told2 → tie.After-examine-whole
+abbrev E : tie.After-known-told2 → tie.After-examine-looked
 E k = k .before .before .before
 
 sound : (k : tie.After-known-told2)
@@ -93,8 +93,11 @@ part-body-end c = search needs
 kind-of-requires : tie.Need-kind-of-requires
 kind-of-requires c κs = search needs
 
-examine-whole-requires : tie.Need-examine-whole-requires
-examine-whole-requires c κs = search needs
+look-plain-requires : tie.Need-look-plain-requires
+look-plain-requires c κs = search needs
+
+examine-looked-requires : tie.Need-examine-looked-requires
+examine-looked-requires c κs = search needs
 
 enum-known-found : tie.Need-enum-known-found
 enum-known-found c = search needs
@@ -165,7 +168,8 @@ read-frame-spec =
     part-body-start
     part-body-end
     kind-of-requires
-    examine-whole-requires
+    look-plain-requires
+    examine-looked-requires
     enum-known-found
     enum-known-found-2
     returns-2
