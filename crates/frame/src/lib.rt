@@ -81,7 +81,11 @@ pub fn read_frame(wire: &[u8], out: &mut [u8]) -> Read
     let body = &wire[1..n - 1];
     let kind = flags::kind_of(start);
     let looked = candidate::look_plain(body);
-    let found = plain::examine_looked(kind, body, looked);
+    let found = if looked.clear {
+        plain::examine_plain(kind, body, looked.sum)
+    } else {
+        candidate::examine_stuffed(kind, body)
+    };
     match found {
         Examined::Unsound(why) => Read::Refused(why),
         Examined::Sound { header, start, len } => {
@@ -192,7 +196,11 @@ fn judge_whole(kind: Kind, s: &mut [u8]) -> Read
     ensures { λ r. ⌜ now (s .exit) ≡ leftIn (verdict (candidateOf kind (now (s .entry)))) (now (s .entry)) ⌝ }
 {
     let looked = candidate::look_plain(s);
-    let found = plain::examine_looked(kind, s, looked);
+    let found = if looked.clear {
+        plain::examine_plain(kind, s, looked.sum)
+    } else {
+        candidate::examine_stuffed(kind, s)
+    };
     match found {
         Examined::Unsound(refusal) => Read::Refused(refusal),
         Examined::Sound { header, start, len } => {

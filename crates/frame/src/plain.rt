@@ -1,28 +1,12 @@
 // A candidate in which no byte between the flags is F0 to F3, examined after one pass.
 use crate::Header;
 use crate::Kind;
-use crate::bytes::Looked;
-use crate::candidate;
 use crate::candidate::Examined;
 use answer::Refusal;
-ghost use mathlib.Core.Path.{_≡_};
-ghost use mathlib.Core.Bool.{true};
-ghost use Rattle.frame.specs.Private.{headerKind, Unescaped, UnescapedAfter, Examines, ExaminesWhole};
-
-// The verdict on what stands between a start flag of this kind and a stop flag, after a look for F0 to F3. Where a flag
-// stands in it, it is no whole candidate.
-pub(crate) fn examine_looked(kind: Kind, body: &[u8], looked: Looked) -> Examined
-    requires { ⌜ (looked .clear ≡ true → Unescaped (now body) (looked .sum)) ⌝ }
-    ensures { λ r. ⌜ ExaminesWhole kind (now (body .entry)) r ⌝ }
-{
-    if looked.clear {
-        return examine_plain(kind, body, looked.sum);
-    }
-    candidate::examine_stuffed(kind, body)
-}
+ghost use Rattle.frame.specs.Private.{headerKind, Unescaped, UnescapedAfter, Examines};
 
 // The verdict on a body in which no byte is F0 to F3 and whose exclusive or is known.
-fn examine_plain(kind: Kind, body: &[u8], sum: u8) -> Examined
+pub(crate) fn examine_plain(kind: Kind, body: &[u8], sum: u8) -> Examined
     requires { ⌜ Unescaped (now body) sum ⌝ }
     ensures { λ r. ⌜ Examines kind (now (body .entry)) r ⌝ }
 {

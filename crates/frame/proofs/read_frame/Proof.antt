@@ -1,4 +1,5 @@
 use mathlib.Core.Path.{_≡_, sym, ap, _∙_, subst}
+use mathlib.Core.Logic.{⊎-elim}
 use Prim.Native.Nat.{ℕ, _-_}
 use native.Mathlib.Omega.{arith}
 use mathlib.Core.Bool.{true, false}
@@ -12,7 +13,8 @@ use Rattle.frame.specs.declared.candidate.Examined.{Examined}
 use Rattle.frame.specs.Verdict.{Verdict, verdict}
 use Rattle.answer.specs.Answer.{result}
 use Rattle.frame.specs.Answers.{readAnswer, readOut}
-use Rattle.frame.proofs.VerdictLaws.{bounded-no, bounded-long, bounded-judged, whole-judged}
+use Rattle.frame.proofs.VerdictLaws.{bounded-no, bounded-long, bounded-judged, whole-judged, whole-examined}
+use Rattle.frame.proofs.VerdictLaws.{plain-flagless}
 use Rattle.frame.proofs.VerdictLaws.{answer-refused, answer-no-room, answer-done, header-as, contents-of}
 use Rattle.frame.proofs.ContentsLaws.{rest-length, rest-first}
 use borrow.Author.Needs.{needs}
@@ -41,14 +43,23 @@ judged k =
     ap (λ (x : _). judgeWhole x (B k)) (k .kind-of .ensures)
     ∙ bounded-judged (W (T k)) (bounded (T k)) (B k) (ap (λ (m : ℕ). take m (drop 1 (W (T k)))) n)
 
-abbrev K : tie.After-examine-looked → tie.After-kind-of
-K e = e .before .before
+abbrev K : tie.Joined2 → tie.After-kind-of
+K j = j .before .before
 
-found : (e : tie.After-examine-looked) (x : Examined) → e .examine-looked .result ≡ x
-    → ExaminesWhole (K e .kind-of .result) (B (K e)) x
-found e x q = subst (λ (y : Examined). ExaminesWhole (K e .kind-of .result) (B (K e)) y) q (e .examine-looked .ensures)
+examined : (j : tie.Joined2) → ExaminesWhole (K j .kind-of .result) (B (K j)) (j .if2 .found)
+examined j =
+    let kind = K j .kind-of .result in
+    let body = B (K j) in
+    ⊎-elim
+    (λ w. subst (ExaminesWhole kind body) (sym (w .2))
+    (whole-examined kind body (plain-flagless _ _ (j .before .look-plain .ensures (w .0 .taken))) (w .1 .result)
+    (w .1 .ensures)))
+    (λ w. subst (ExaminesWhole kind body) (sym (w .2)) (w .1 .ensures)) (j .if2 .came)
 
-abbrev E : tie.After-known-told2 → tie.After-examine-looked
+found : (j : tie.Joined2) (x : Examined) → j .if2 .found ≡ x → ExaminesWhole (K j .kind-of .result) (B (K j)) x
+found j x q = subst (ExaminesWhole (K j .kind-of .result) (B (K j))) q (examined j)
+
+abbrev E : tie.After-known-told2 → tie.Joined2
 E k = k .before .before .before
 
 sound : (k : tie.After-known-told2)
@@ -96,8 +107,11 @@ kind-of-requires c κs = search needs
 look-plain-requires : tie.Need-look-plain-requires
 look-plain-requires c κs = search needs
 
-examine-looked-requires : tie.Need-examine-looked-requires
-examine-looked-requires c κs = search needs
+examine-plain-requires : tie.Need-examine-plain-requires
+examine-plain-requires c κs = c .before .look-plain .ensures (c .if2 .taken)
+
+examine-stuffed-requires : tie.Need-examine-stuffed-requires
+examine-stuffed-requires c κs = search needs
 
 enum-known-found : tie.Need-enum-known-found
 enum-known-found c = search needs
@@ -110,7 +124,7 @@ returns-2 c =
     let k = c .before in
     let s = sound k in
     answer-no-room _ _ (St (K (E k)) .args .out .now) (accepts k)
-    (omega (arith, c .if2 .taken, s .counted, ap length (contents-of (k .before .found2 .given .0 .0) (s .contents))))
+    (omega (arith, c .if3 .taken, s .counted, ap length (contents-of (k .before .found2 .given .0 .0) (s .contents))))
 
 sub-copy-contents : tie.Need-sub-copy-contents
 sub-copy-contents c = let s = sound (c .before) in omega (arith, s .inside)
@@ -127,7 +141,7 @@ copy-contents-requires c κs =
     let s = sound k in (
       ap (λ (l : List ℕ). length (unstuffedBytes (unstuff false l))) (rest k)
           ∙ rest-length s,
-      c .before .before .if2 .left,
+      c .before .before .if3 .left,
     )
 
 read-as-requires : tie.Need-read-as-requires
@@ -148,7 +162,7 @@ returns-4 c =
     let out = St (K (E k)) .args .out .now in
     let n = ap length (contents-of (k .before .found2 .given .0 .0) (s .contents)) in
     let done = answer-done _ _ out (accepts k)
-    (omega (arith, n, s .counted, c .before .before .before .before .before .before .if2 .left)) in (
+    (omega (arith, n, s .counted, c .before .before .before .before .before .before .if3 .left)) in (
       c .read-as .ensures ∙ header-as (k .before .found2 .given .0 .0) (s .contents) _ (s .counted) ∙ done .0,
       rest-first s out _ (c .before .before .before .copy-contents .ensures
           ∙ ap (λ (l : List ℕ). take (k .before .found2 .given .0 .1 .1 .0) (unstuffedBytes (unstuff false l))
@@ -169,7 +183,8 @@ read-frame-spec =
     part-body-end
     kind-of-requires
     look-plain-requires
-    examine-looked-requires
+    examine-plain-requires
+    examine-stuffed-requires
     enum-known-found
     enum-known-found-2
     returns-2
