@@ -344,7 +344,7 @@ pub(crate) fn last_at(s: &[u8]) -> usize
     ensures { λ r. ⌜ r ≡ lastAt (now (s .entry)) ⌝ }
 {
     let n = s.len();
-    if n < 2 {
+    if s.len() < 2 {
         return 0;
     }
     let b = s[n - 2];
