@@ -12,7 +12,7 @@ use Rattle.frame.specs.Stuffing.{Unstuffed, badEscape, bytes, unstuff}
 use Rattle.frame.specs.declared.Kind.the-variants.{Standard, Extended}
 use Rattle.frame.proofs.StuffingLaws.{unstuff-shrinks, unstuff-same}
 use mathlib.Core.Path.{_≡_, sym, ap, _∙_, refl}
-use mathlib.Core.Bool.{false}
+use mathlib.Core.Bool.{true, false}
 use mathlib.Core.List.{List, [], _∷_, _++_}
 use native.Mathlib.Omega.{arith}
 use lib.Seq.{take-at, length-take-le}
@@ -21,9 +21,10 @@ use Rattle.lists.proofs.Lists.{back-in}
 use Rattle.frame.specs.Checksum.{checksum}
 use Rattle.frame.specs.Frame.{Frame, contentsOf, standard, extended}
 use Rattle.frame.specs.Answers.{leftIn, judgeAnswer, frameRead}
-use Rattle.frame.specs.Private.{frameOf, unstuffedBytes, SoundAt, judgeWhole}
+use Rattle.frame.specs.Private.{frameOf, unstuffedBytes, isSound, isEscape, lastAt, SoundAt, judgeWhole}
 use Rattle.frame.specs.declared.Kind.{Kind}
 use Rattle.frame.specs.declared.Header.{Header}
+use Rattle.frame.proofs.UndoLaws.{before-last}
 use Rattle.frame.proofs.VerdictLaws.{contents-of, candidate-verdict}
 
 -- ---- the stuffed contents and checksum of a sound body
@@ -67,6 +68,53 @@ pub shifted-plain : (s last : List ℕ) (start len : ℕ) → length (unstuffedB
     → last ≡ take len (unstuffedBytes (unstuff false (drop start s))) ++ drop len s
 shifted-plain s last start len n l e =
     e ∙ ap (λ (x : List ℕ). take len x ++ drop len s) (sym (unstuff-same (drop start s) (n ∙ sym l)))
+
+-- ---- bytes with escapes, of which the last unstuffed one is left out
+
+some-bytes : (r : Unstuffed) (len : ℕ) → length (unstuffedBytes r) ≡ len + 1 → r ≡ bytes (unstuffedBytes r)
+unfolding unstuffedBytes
+some-bytes badEscape len n = absurd (omega arith)
+some-bytes (bytes u) len n = refl
+
+module _ (rest : List ℕ) (len : ℕ) (n : length (unstuffedBytes (unstuff false rest)) ≡ len + 1)
+    (end : ℕ) (is : end ≡ lastAt rest) where
+  abbrev all : List ℕ
+  all = unstuffedBytes (unstuff false rest)
+
+  some : 1 ≤ length rest
+  some = omega (arith, unstuff-shrinks false rest)
+
+  front : unstuff false (take end rest) ≡ bytes (take len all)
+  front =
+      let m : length all - 1 ≡ len = omega arith in
+      ap (λ (k : ℕ). unstuff false (take k rest)) is
+      ∙ before-last rest all some (some-bytes (unstuff false rest) len n)
+      ∙ ap (λ (k : ℕ). bytes (take k all)) m
+
+  pub front-sound : isSound (unstuff false (take end rest)) ≡ true
+  front-sound = ap isSound front
+
+  front-bytes : unstuffedBytes (unstuff false (take end rest)) ≡ take len all
+  unfolding unstuffedBytes
+  front-bytes = ap unstuffedBytes front
+
+  pub front-length : length (unstuffedBytes (unstuff false (take end rest))) ≡ len
+  front-length = ap length front-bytes ∙ length-take-le len all (omega arith)
+
+  pub front-inside : end ≤ length rest
+  front-inside =
+      by-bool (leb 2 (length rest))
+      (λ y. by-bool (isEscape (getD rest (length rest - 2) 0))
+      (λ x. let q : end ≡ length rest - 2 = is ∙ simp (y, x) refl in omega arith)
+      (λ x. let q : end ≡ length rest - 1 = is ∙ simp (y, x) refl in omega arith))
+      (λ y. let q : end ≡ 0 = is ∙ simp y refl in omega arith)
+
+  pub front-put : (out last : List ℕ) → last ≡ splice out 0 (unstuffedBytes (unstuff false (take end rest)))
+      → last ≡ take len all ++ drop len out
+  front-put out last e =
+      let m : 0 + length (unstuffedBytes (unstuff false (take end rest))) ≡ len = omega (arith, front-length) in
+      e ∙ ap (λ (k : ℕ). unstuffedBytes (unstuff false (take end rest)) ++ drop k out) m
+      ∙ ap (λ (l : List ℕ). l ++ drop len out) front-bytes
 
 -- ---- what a verdict leaves
 

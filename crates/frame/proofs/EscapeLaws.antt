@@ -8,18 +8,21 @@ use native.Mathlib.Numerals.{add-one}
 use native.Mathlib.Omega.{arith}
 use lib.Bits.{bitAnd, bitOr, bitXor}
 use lib.Dec.{leb, eqb}
-use lib.ListN.{length, getD, take, drop, drop-of-length-le}
+use lib.ListN.{length, getD, take, drop, drop-of-length-le, take-append-drop}
 use lib.Seq.{drop-cons}
-use borrow.Author.Tests.{leb-true, leb-false, eqb-true, eqb-false, ne-eqb}
+use borrow.Author.Tests.{leb-true, leb-false, eqb-true, eqb-false, eq-eqb, ne-eqb}
 use Rattle.lists.specs.Choice.{pick, within, noneOf, countOf}
-use Rattle.lists.proofs.Cases.{by-bool}
+use Rattle.lists.proofs.Cases.{by-bool, both-true}
 use Rattle.lists.proofs.Lists.{drop-two, last-apart}
-use Rattle.lists.proofs.Tests.{within-yes, within-true, mark-all, count-last, count-none}
+use Rattle.lists.proofs.Tests.{within-yes, within-true, mark-all, mark-more, none-append, none-at, none-last}
+use Rattle.lists.proofs.Tests.{count-at, count-end, count-most}
 use Rattle.frame.specs.Stuffing.{Unstuffed, badEscape, bytes, prepend, unstuff}
 use Rattle.frame.specs.Checksum.{sumFrom, checksum}
-use Rattle.frame.specs.Private.{isSound, goodPair, lowerByte, lowered, scanFrom, unstuffedBytes}
-use Rattle.frame.specs.declared.candidate.Scan.the-variants.{Fault, Good}
-use Rattle.frame.proofs.ChecksumLaws.{sumFrom-last, sum-escape}
+use Rattle.frame.specs.Flags.{isFlag, flagless}
+use Rattle.frame.specs.Private.{isSound, goodPair, lowerByte, lowered, scanFrom, scanOf, unstuffedBytes, Tallied}
+use Rattle.frame.specs.declared.candidate.Scan.the-variants.{Flagged, Fault, Good}
+use Rattle.frame.specs.declared.candidate.Tally.{Tally}
+use Rattle.frame.proofs.ChecksumLaws.{sum-escape}
 use Rattle.frame.proofs.StuffingLaws.{prepend-inv, unstuff-plain}
 
 -- ---- one byte
@@ -33,7 +36,7 @@ escape-no b n =
     (λ m. m)
 
 -- a byte of 00 to 03 is no escape
-low-no : (e : ℕ) → leb e 3 ≡ true → eqb e 0xF3 ≡ false
+pub low-no : (e : ℕ) → leb e 3 ≡ true → eqb e 0xF3 ≡ false
 low-no e y = ne-eqb e 0xF3 (λ q. let l = leb-true e 3 y in omega arith)
 
 -- the marks of a bad pair
@@ -165,11 +168,6 @@ pub lowered-end : (acc : ℕ) (s : List ℕ) (i : ℕ) → length s ≤ i → su
 unfolding sumFrom lowered
 lowered-end acc s i h = ap (λ (l : List ℕ). sumFrom acc (lowered l)) (drop-of-length-le s h)
 
-lowered-append : (a b : List ℕ) → lowered (a ++ b) ≡ lowered a ++ lowered b
-unfolding lowered
-lowered-append [] b = refl
-lowered-append (x ∷ a) b = ap (λ (l : List ℕ). lowerByte x ∷ l) (lowered-append a b)
-
 -- the unstuffed bytes have as many bytes fewer as there are escapes, and the sum with escapes lowered
 abbrev Counts : List ℕ → List ℕ → Type 0
 Counts s u =
@@ -214,6 +212,72 @@ counts (b ∷ e ∷ s) u q =
     (λ n. let p = prepend-inv b (unstuff false (e ∷ s)) u (simp n at q) in
     counts-plain b (e ∷ s) u (p .0) n (p .2) (counts (e ∷ s) (p .0) (p .1)))
 
+-- ---- the pass over all bytes but the last
+
+pub mark-most : (t : Bool) → pick t 1 0 ≤ 1
+mark-most true = omega arith
+mark-most false = omega arith
+
+-- what it has found up to an index
+pub record TalliedTo (s : List ℕ) (i : ℕ) (t : Tally) : Type 0 where
+  pub flagged : t .flags ≡ pick (flagless (take i s)) 0 1
+  pub few : t .escapes ≤ i
+  pub paired : Paired s (t .unsound) i
+  pub counted : t .escapes + countOf (within 0xF3 0xF3) (drop i s) ≡ countOf (within 0xF3 0xF3) s
+  pub summed : sumFrom (t .sum) (lowered (drop i s)) ≡ sumFrom 0 (lowered s)
+
+pub tallied-none : (s : List ℕ) (t : Tally) → t .flags ≡ 0 → t .unsound ≡ 0 → t .escapes ≡ 0 → t .sum ≡ 0
+    → TalliedTo s 0 t
+unfolding noneOf
+tallied-none s t f u e m = record {
+  flagged = f;
+  few = omega (arith, e);
+  paired = (true, u, refl);
+  counted = ap (λ (n : ℕ). n + countOf (within 0xF3 0xF3) s) e ∙ zero-add _;
+  summed = ap (λ (n : ℕ). sumFrom n (lowered s)) m;
+}
+
+module _ (s : List ℕ) (i : ℕ) (t : Tally) (inv : TalliedTo s i t) where
+  pub tallied-more : (t′ : Tally) → i + 1 < length s
+      → t′ .flags ≡ bitOr (t .flags) (pick (isFlag (getD s i 0)) 1 0)
+      → t′ .unsound ≡ bitOr (t .unsound) (pick (goodPair (getD s i 0) (getD s (i + 1) 0)) 0 1)
+      → t′ .escapes ≡ t .escapes + pick (within 0xF3 0xF3 (getD s i 0)) 1 0
+      → t′ .sum ≡ bitXor (t .sum) (lowerByte (getD s i 0))
+      → TalliedTo s (i + 1) t′
+  tallied-more t′ h f u e m = record {
+    flagged = f ∙ mark-more isFlag s i (t .flags) _ (omega arith) (inv .flagged) refl;
+    few = omega (arith, e, mark-most (within 0xF3 0xF3 (getD s i 0)), inv .few);
+    paired =
+        let p = paired-more s (t .unsound) i _ h refl (inv .paired) in (p .0, u ∙ p .1, p .2);
+    counted = omega (arith, e, count-at (within 0xF3 0xF3) s i (omega arith), inv .counted);
+    summed =
+        ap (λ (n : ℕ). sumFrom n (lowered (drop (i + 1) s))) m ∙ sym (lowered-at (t .sum) s i (omega arith))
+        ∙ inv .summed;
+  }
+
+  pub tallied-all : i + 1 ≡ length s → Tallied s t
+  tallied-all h =
+      let n : i ≡ length s - 1 = omega arith in
+      let last = getD s (length s - 1) 0 in
+      let is : getD s i 0 ≡ last = ap (λ (k : ℕ). getD s k 0) n in
+      let k = i + 1 in
+      record {
+        flagged = inv .flagged ∙ ap (λ (k : ℕ). pick (flagless (take k s)) 0 1) n;
+        sound = λ x. paired-all s (t .unsound) i h (λ q. x (sym is ∙ q)) (inv .paired);
+        counted =
+            ap (λ (b : ℕ). t .escapes + pick (within 0xF3 0xF3 b) 1 0) (sym is)
+            ∙ omega (
+              arith,
+              count-at (within 0xF3 0xF3) s i (omega arith),
+              count-end (within 0xF3 0xF3) s (i + 1) (omega arith),
+              inv .counted,
+            );
+        summed =
+            ap (λ (b : ℕ). bitXor (t .sum) (lowerByte b)) (sym is)
+            ∙ sym (lowered-end (bitXor (t .sum) (lowerByte (getD s i 0))) s (i + 1) (omega arith))
+            ∙ sym (lowered-at (t .sum) s i (omega arith)) ∙ inv .summed;
+      }
+
 -- ---- the scan by these
 
 -- bytes without an escape
@@ -224,7 +288,7 @@ scan-as-is s n len sum p q =
     ap (λ (m : ℕ). Good m sum) (p ∙ sym (zero-add (length s))) ∙ ap (Good (0 + length s)) q
     ∙ sym (ap (scanFrom 0 0) (unstuff-plain s n))
 
-sound-bytes : (r : Unstuffed) → isSound r ≡ true → r ≡ bytes (unstuffedBytes r)
+pub sound-bytes : (r : Unstuffed) → isSound r ≡ true → r ≡ bytes (unstuffedBytes r)
 unfolding unstuffedBytes
 sound-bytes badEscape h = absurd (true≢false (sym h))
 sound-bytes (bytes u) h = refl
@@ -233,44 +297,77 @@ unsound-bad : (r : Unstuffed) → isSound r ≡ false → r ≡ badEscape
 unsound-bad badEscape h = refl
 unsound-bad (bytes u) h = absurd (true≢false h)
 
-module _ (s : List ℕ) (last : ℕ) (some : 1 ≤ length s) (is : last ≡ getD s (length s - 1) 0) where
-  parts : s ≡ take (length s - 1) s ++ (last ∷ [])
-  parts = last-apart s some ∙ ap (λ (b : ℕ). take (length s - 1) s ++ (b ∷ [])) (sym is)
+module _ (s : List ℕ) where
+  pub scan-flagged : flagless s ≡ false → Flagged ≡ scanOf s
+  scan-flagged f = simp f
 
-  pub scan-unsound : isSound (unstuff false s) ≡ false → Fault ≡ scanFrom 0 0 (unstuff false s)
+  pub scan-unsound : flagless s ≡ true → isSound (unstuff false s) ≡ false → Fault ≡ scanOf s
   unfolding scanFrom
-  scan-unsound n = sym (ap (scanFrom 0 0) (unsound-bad (unstuff false s) n))
+  scan-unsound f n = simp f (sym (ap (scanFrom 0 0) (unsound-bad (unstuff false s) n)))
 
-  pub scan-ends-bad : last ≡ 0xF3 → Fault ≡ scanFrom 0 0 (unstuff false s)
-  scan-ends-bad e =
-      scan-unsound (sym (good-unstuff s) ∙ ap good (parts ∙ ap (λ (b : ℕ). take (length s - 1) s ++ (b ∷ [])) e)
-      ∙ ends-bad (take (length s - 1) s))
-
-  -- the last byte is no escape
-  count-here : (last ≡ 0xF3 → ⊥) → countOf (within 0xF3 0xF3) (take (length s - 1) s) ≡ countOf (within 0xF3 0xF3) s
-  count-here n = count-last (within 0xF3 0xF3) s last some is (escape-no last (ne-eqb last 0xF3 n))
-
-  -- without an escape all is sound
-  pub scan-none : (count : ℕ) → (last ≡ 0xF3 → ⊥) → count ≡ countOf (within 0xF3 0xF3) (take (length s - 1) s)
-      → count ≡ 0 → isSound (unstuff false s) ≡ true
-  scan-none count n c z =
-      ap isSound (unstuff-plain s (count-none (within 0xF3 0xF3) s (sym (count-here n) ∙ sym c ∙ z)))
-
-  pub scan-counted : (len sum count : ℕ) → (last ≡ 0xF3 → ⊥) → isSound (unstuff false s) ≡ true
-      → count ≡ countOf (within 0xF3 0xF3) (take (length s - 1) s)
-      → len ≡ length s - count → sum ≡ checksum (lowered (take (length s - 1) s))
-      → Good len (bitXor sum last) ≡ scanFrom 0 0 (unstuff false s)
-  unfolding scanFrom lowered
-  scan-counted len sum count n y c′ l q =
-      let c : count ≡ countOf (within 0xF3 0xF3) s = c′ ∙ count-here n in
+  pub scan-sound : (count sum : ℕ) → flagless s ≡ true → isSound (unstuff false s) ≡ true
+      → count ≡ countOf (within 0xF3 0xF3) s → sum ≡ checksum (lowered s)
+      → Good (length s - count) sum ≡ scanOf s
+  unfolding scanFrom
+  scan-sound count sum f y c q =
       let u = unstuffedBytes (unstuff false s) in
       let e = sound-bytes (unstuff false s) y in
       let k = counts s u e in
-      let len-is : len ≡ 0 + length u = omega (arith, k .0) in
-      let low : lowerByte last ≡ last = simp (ne-eqb last 0xF3 n) in
-      let sum-is : bitXor sum last ≡ sumFrom 0 u =
-      ap (λ (m : ℕ). bitXor m last) q ∙ ap (bitXor (checksum (lowered (take (length s - 1) s)))) (sym low)
-      ∙ sym (sumFrom-last 0 (lowered (take (length s - 1) s)) (lowerByte last))
-      ∙ ap (sumFrom 0) (sym (lowered-append (take (length s - 1) s) (last ∷ [])) ∙ ap lowered (sym parts))
-      ∙ sym (k .1 0) in
-      ap (λ (m : ℕ). Good m (bitXor sum last)) len-is ∙ ap (Good (0 + length u)) sum-is ∙ sym (ap (scanFrom 0 0) e)
+      let len-is : length s - count ≡ 0 + length u = omega (arith, k .0) in
+      let sum-is : sum ≡ sumFrom 0 u = q ∙ sym (k .1 0) in
+      simp f (ap (λ (m : ℕ). Good m sum) len-is ∙ ap (Good (0 + length u)) sum-is ∙ sym (ap (scanFrom 0 0) e))
+
+  -- a list that ends with an escape
+  pub ends-unsound : 1 ≤ length s → getD s (length s - 1) 0 ≡ 0xF3 → isSound (unstuff false s) ≡ false
+  ends-unsound some e =
+      sym (good-unstuff s)
+      ∙ ap good (last-apart s some ∙ ap (λ (b : ℕ). take (length s - 1) s ++ (b ∷ [])) e)
+      ∙ ends-bad (take (length s - 1) s)
+
+-- ---- the scan by what the pass found
+
+module _ (s : List ℕ) (t : Tally) (some : 1 ≤ length s) (found : Tallied s t) where
+  abbrev last : ℕ
+  last = getD s (length s - 1) 0
+
+  pub tally-flagged : (t .flags ≡ 0 → ⊥) → Flagged ≡ scanOf s
+  tally-flagged n =
+      by-bool (flagless s)
+      (λ y. let part = both-true (flagless (take (length s - 1) s)) _
+      (sym (none-append isFlag (take (length s - 1) s) (drop (length s - 1) s))
+      ∙ ap flagless (take-append-drop (length s - 1) s) ∙ y) in
+      absurd (n (found .flagged ∙ simp (part .0))))
+      (λ y. scan-flagged s y)
+
+  pub last-flagged : isFlag last ≡ true → Flagged ≡ scanOf s
+  last-flagged f =
+      by-bool (flagless s)
+      (λ y. absurd (true≢false (sym f ∙ none-at isFlag s y (length s - 1) (omega arith))))
+      (λ y. scan-flagged s y)
+
+  module _ (none : t .flags ≡ 0) (plain : isFlag last ≡ false) where
+    unflagged : flagless s ≡ true
+    unflagged =
+        none-last isFlag s last some refl
+        (by-bool (flagless (take (length s - 1) s)) (λ y. y)
+        (λ y. let q : t .flags ≡ 1 = found .flagged ∙ simp y in absurd (omega arith)))
+        plain
+
+    pub last-escape : last ≡ 0xF3 → Fault ≡ scanOf s
+    last-escape e = scan-unsound s unflagged (ends-unsound s some e)
+
+    pub tally-unsound : (last ≡ 0xF3 → ⊥) → (t .unsound ≡ 0 → ⊥) → Fault ≡ scanOf s
+    tally-unsound n u = scan-unsound s unflagged (sym (found .sound n) ∙ ne-eqb (t .unsound) 0 u)
+
+    pub tally-sound : (last ≡ 0xF3 → ⊥) → t .unsound ≡ 0
+        → Good (length s - t .escapes) (bitXor (t .sum) last) ≡ scanOf s
+    tally-sound n u =
+        let no : within 0xF3 0xF3 last ≡ false = escape-no last (ne-eqb last 0xF3 n) in
+        let low : lowerByte last ≡ last = simp (ne-eqb last 0xF3 n) in
+        let c : t .escapes + 0 ≡ countOf (within 0xF3 0xF3) s =
+        ap (λ (x : Bool). t .escapes + pick x 1 0) (sym no) ∙ found .counted in
+        scan-sound s (t .escapes) (bitXor (t .sum) last) unflagged (sym (found .sound n) ∙ eq-eqb (t .unsound) 0 u)
+        (omega arith) (ap (bitXor (t .sum)) (sym low) ∙ found .summed)
+
+  pub tally-few : t .escapes ≤ length s
+  tally-few = omega (arith, found .counted, count-most (within 0xF3 0xF3) s)

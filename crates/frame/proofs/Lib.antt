@@ -2,6 +2,7 @@ pub mod FlagLaws
 pub mod StuffingLaws
 pub mod ChecksumLaws
 pub mod EscapeLaws
+pub mod UndoLaws
 pub mod WireLaws
 pub mod ScanLaws
 pub mod VerdictLaws

@@ -1,5 +1,5 @@
 -- Laws of stuffing and unstuffing.
-use Prim.Native.Nat.{ℕ, suc, _+_, _-_, _*_, _≤_, _<_}
+use Prim.Native.Nat.{ℕ, suc, _+_, _-_, _*_, _%_, _≤_, _<_}
 use mathlib.Core.Path.{_≡_, refl, sym, ap, _∙_}
 use mathlib.Core.Bool.{Bool, true, false, true≢false}
 use mathlib.Core.List.{List, [], _∷_, _++_, append-assoc, append-nil}
@@ -14,10 +14,10 @@ use Rattle.lists.specs.Choice.{pick, within, noneOf, countOf}
 use Rattle.lists.specs.Splice.{splice}
 use Rattle.lists.proofs.Cases.{by-bool}
 use Rattle.lists.proofs.Tests.{within-yes, within-true, none-append}
-use Rattle.lists.proofs.Splices.{splice-nil, splice-splice, length-splice}
+use Rattle.lists.proofs.Splices.{splice-nil, splice-over, length-splice}
 use Rattle.frame.specs.Flags.{isFlag, flagless}
 use Rattle.frame.specs.Stuffing.{isStuffed, stuffByte, stuff, Unstuffed, badEscape, bytes, prepend, unstuff}
-use Rattle.frame.specs.Private.{unstuffedBytes}
+use Rattle.frame.specs.Private.{unstuffedBytes, PutPair}
 
 -- ---- one byte
 
@@ -117,39 +117,105 @@ stuff-room s i h =
         ∙ ap length (sym (stuff-append (take (i + 1) s) (drop (i + 1) s)))
         ∙ ap (λ (l : List ℕ). length (stuff l)) (take-append-drop (i + 1) s)
 
--- i bytes of s are written into out₀ from index `from` on, and the next goes to `at`
-abbrev pub Stuffed : (s out₀ : List ℕ) (from i at : ℕ) (out : List ℕ) → Type 0
-Stuffed s out₀ from i at out =
-    (at ≡ from + length (stuff (take i s))) × (out ≡ splice out₀ from (stuff (take i s))) × (length out ≡ length out₀)
+-- i bytes of s are written into out₀ from index `from` on, and at most one place more; the next goes to `at`
+pub record Stuffed (s out₀ : List ℕ) (from i at : ℕ) (out : List ℕ) : Type 0 where
+  pub next : at ≡ from + length (stuff (take i s))
+  pub more : List ℕ
+  pub short : length more ≤ 1
+  pub written : out ≡ splice out₀ from (stuff (take i s) ++ more)
+  pub size : length out ≡ length out₀
+
+pub stuffByte-some : (b : ℕ) → 1 ≤ length (stuffByte b)
+stuffByte-some b =
+    by-bool (isStuffed b) (λ y. omega (arith, ap length (stuffByte-yes b y)))
+    (λ n. omega (arith, ap length (stuffByte-no b n)))
+
+-- two places written for a byte hold it, and at most one more
+pub pair-put : (b : ℕ) → (more : List ℕ) × (pick (isStuffed b) 0xF3 b ∷ (b % 4) ∷ [] ≡ stuffByte b ++ more)
+pair-put b =
+    by-bool (isStuffed b)
+    (λ y. let w = within-true 0xF0 0xF3 b y in
+    let low : b % 4 ≡ b - 0xF0 = omega arith in
+    let two : stuffByte b ++ [] ≡ 0xF3 ∷ (b - 0xF0) ∷ [] = append-nil (stuffByte b) ∙ stuffByte-yes b y in
+    ([], simp y (ap (λ (n : ℕ). 0xF3 ∷ n ∷ []) low ∙ sym two)))
+    (λ n. let one : stuffByte b ++ ((b % 4) ∷ []) ≡ b ∷ (b % 4) ∷ [] =
+    ap (λ (l : List ℕ). l ++ ((b % 4) ∷ [])) (stuffByte-no b n) in
+    ((b % 4) ∷ [], simp n (sym one)))
 
 module _ (s out₀ : List ℕ) (from : ℕ) (room : from + length (stuff s) ≤ length out₀) where
   pub stuffed-none : Stuffed s out₀ from 0 from out₀
   unfolding stuff
-  stuffed-none = (sym (add-zero from), sym (splice-nil out₀ from), refl)
+  stuffed-none =
+      record {
+        next = sym (add-zero from);
+        more = [];
+        short = omega arith;
+        written = sym (splice-nil out₀ from);
+        size = refl;
+      }
 
-  pub stuffed-more : (i at at′ : ℕ) (out out′ : List ℕ) → i < length s → Stuffed s out₀ from i at out
-      → at′ ≡ at + length (stuffByte (getD s i 0)) → out′ ≡ splice out at (stuffByte (getD s i 0))
-      → Stuffed s out₀ from (i + 1) at′ out′
-  stuffed-more i at at′ out out′ h inv e d =
-      let b = stuffByte (getD s i 0) in
-      let done = stuff (take i s) in
-      let fits : length done + length b ≤ length (stuff s) = stuff-room s i h in
-      let is : out′ ≡ splice out₀ from (done ++ b) =
-      d ∙ ap (λ (l : List ℕ). splice l at b) (inv .1) ∙ ap (λ (n : ℕ). splice (splice out₀ from done) n b) (inv .0)
-      ∙ splice-splice out₀ from done (omega arith) b in
-      let len : length (done ++ b) ≡ length done + length b = length-append done b in (
-        rw (stuff-next s i h) (omega arith),
-        rw (stuff-next s i h) is,
-        ap length is ∙ length-splice out₀ from (done ++ b) (omega arith),
-      )
+  module _ (i at : ℕ) (out : List ℕ) (h : i < length s) (inv : Stuffed s out₀ from i at out) where
+    abbrev done : List ℕ
+    done = stuff (take i s)
 
-  pub stuffed-all : (i at : ℕ) (out : List ℕ) → length s ≤ i → Stuffed s out₀ from i at out
-      → (at ≡ from + length (stuff s)) × (out ≡ splice out₀ from (stuff s))
-  stuffed-all i at out h inv =
-      let all : take i s ≡ s = take-all i s h in (
-        inv .0 ∙ ap (λ (l : List ℕ). from + length (stuff l)) all,
-        inv .1 ∙ ap (λ (l : List ℕ). splice out₀ from (stuff l)) all,
-      )
+    -- what is written next stands in the place of what was written too much
+    after : (w out′ : List ℕ) → 1 ≤ length w → from + length done + length w ≤ length out₀
+        → out′ ≡ splice out at w → out′ ≡ splice out₀ from (done ++ w)
+    after w out′ k fits d =
+        d ∙ ap (λ (l : List ℕ). splice l at w) (inv .written)
+        ∙ ap (λ (n : ℕ). splice (splice out₀ from (done ++ inv .more)) n w) (inv .next)
+        ∙ splice-over out₀ from done (inv .more) w fits (omega (arith, inv .short))
+
+    -- there is room for two places where another byte follows
+    pub stuffed-room : i + 1 < length s → at + 2 ≤ length out
+    stuffed-room k =
+        omega (
+          arith,
+          inv .next,
+          inv .size,
+          stuff-room s i h,
+          stuff-room s (i + 1) k,
+          ap length (stuff-next s i h),
+          length-append done (stuffByte (getD s i 0)),
+          stuffByte-some (getD s i 0),
+          stuffByte-some (getD s (i + 1) 0),
+        )
+
+    pub stuffed-fits : at + length (stuffByte (getD s i 0)) ≤ length out
+    stuffed-fits = omega (arith, inv .next, inv .size, stuff-room s i h)
+
+    pub stuffed-more : (at′ : ℕ) (out′ : List ℕ) → i + 1 < length s → at′ ≡ at + length (stuffByte (getD s i 0))
+        → PutPair out at (stuffByte (getD s i 0)) out′
+        → Stuffed s out₀ from (i + 1) at′ out′
+    stuffed-more at′ out′ k e p =
+        let b = stuffByte (getD s i 0) in
+        let len : length (done ++ b) ≡ length done + length b = length-append done b in
+        let is : out′ ≡ splice out₀ from (done ++ (b ++ p .0)) =
+        after (b ++ p .0) out′ (omega (arith, p .1)) (omega (arith, p .1, stuffed-room k, inv .next, inv .size)) (p .2) in
+        let all : out′ ≡ splice out₀ from ((done ++ b) ++ p .0) =
+        is ∙ ap (splice out₀ from) (sym (append-assoc done b (p .0))) in
+        record {
+          next = rw (stuff-next s i h) (omega (arith, inv .next));
+          more = p .0;
+          short = omega (arith, p .1, length-append b (p .0), stuffByte-some (getD s i 0));
+          written = rw (stuff-next s i h) all;
+          size =
+              ap length (p .2)
+              ∙ length-splice out at (b ++ p .0) (omega (arith, p .1, stuffed-room k)) ∙ inv .size;
+        }
+
+    pub stuffed-last : (at′ : ℕ) (out′ : List ℕ) → i + 1 ≡ length s → at′ ≡ at + length (stuffByte (getD s i 0))
+        → out′ ≡ splice out at (stuffByte (getD s i 0))
+        → (at′ ≡ from + length (stuff s)) × (out′ ≡ splice out₀ from (stuff s))
+    stuffed-last at′ out′ k e d =
+        let b = stuffByte (getD s i 0) in
+        let all : stuff s ≡ done ++ b =
+        ap stuff (sym (take-all (i + 1) s (omega arith))) ∙ stuff-next s i h in
+        let len : length (done ++ b) ≡ length done + length b = length-append done b in (
+          omega (arith, e, inv .next, ap length all),
+          after b out′ (stuffByte-some (getD s i 0)) (omega (arith, ap length all)) d
+              ∙ ap (splice out₀ from) (sym all),
+        )
 
 -- ---- unstuffing undoes stuffing, and stuffing unstuffing
 

@@ -23,12 +23,14 @@ use Rattle.answer.specs.Answer.{result, refused}
 use Rattle.answer.specs.Draft.{draftOut}
 use Rattle.frame.specs.Answers.{outlineOf, judgeAnswer, readAnswer, readOut}
 use Rattle.frame.specs.Private.{isBounded, frameOf, headerKind, headed, readAs, scanFrom, unstuffedBytes, SoundAt}
-use Rattle.frame.specs.Private.{Unescaped, UnescapedAfter, Examines, judgeWhole, ExaminesWhole}
+use Rattle.frame.specs.Private.{Unescaped, UnescapedAfter, Examines, judgeWhole, ExaminesWhole, scanOf}
+use Rattle.frame.specs.Private.{WithoutHeader}
 use Rattle.frame.specs.declared.Kind.{Kind}
 use Rattle.frame.specs.declared.Kind.the-variants.{Extended}
 use Rattle.frame.specs.declared.Header.{Header}
 use Rattle.frame.specs.declared.Header.the-variants.{Plain, Addressed}
-use Rattle.frame.specs.declared.candidate.Scan.the-variants.{Fault, Good}
+use Rattle.frame.specs.declared.candidate.Scan.the-variants.{Flagged, Fault, Good}
+use Rattle.frame.specs.declared.candidate.Rest.{Rest}
 use Rattle.frame.specs.declared.candidate.Examined.{Examined}
 use Rattle.frame.specs.declared.candidate.Examined.the-variants.{Unsound, Sound}
 use Rattle.frame.proofs.FlagLaws.{kind-start, start-kind, start-between, none-narrower}
@@ -283,6 +285,64 @@ module _ (h : Header) (body : List ℕ) (next : ℕ) (limit : length body ≤ 11
             follows = scanned .0 ∙ ap bytes parts;
             inside = inside;
           }
+
+-- a body that was scanned whole, without its addresses
+module _ (h : Header) (len sum : ℕ) where
+  pub headed-count : (v : Unstuffed) → Good len sum ≡ scanFrom 0 0 (headed h v) → addressCount (headerKind h) ≤ len
+  unfolding scanFrom prepend
+  headed-count v e = counted h v e
+    where
+      counted : (h : Header) (v : Unstuffed) → Good len sum ≡ scanFrom 0 0 (headed h v)
+          → addressCount (headerKind h) ≤ len
+      counted Plain v e = omega arith
+      counted (Addressed to from) badEscape e = let z : _≡_ {A = ℕ} 0 1 = cc in absurd (omega arith)
+      counted (Addressed to from) (bytes u) e = let n : len ≡ 0 + length (to ∷ from ∷ u) = cc in omega arith
+
+  pub headed-scan : (v : Unstuffed) (r : Rest) → Good len sum ≡ scanFrom 0 0 (headed h v)
+      → WithoutHeader h len sum r → Good (r .len) (r .sum) ≡ scanFrom 0 0 v
+  unfolding scanFrom prepend
+  headed-scan v r e w = scanned h v e w
+    where
+      scanned : (h : Header) (v : Unstuffed) → Good len sum ≡ scanFrom 0 0 (headed h v) → WithoutHeader h len sum r
+          → Good (r .len) (r .sum) ≡ scanFrom 0 0 v
+      scanned Plain v e w = ap (λ (n : ℕ). Good n (r .sum)) (w .0) ∙ ap (Good len) (w .1) ∙ e
+      scanned (Addressed to from) badEscape e w = let z : _≡_ {A = ℕ} 0 1 = cc in absurd (omega arith)
+      scanned (Addressed to from) (bytes u) e w =
+          let n : len ≡ 0 + length (to ∷ from ∷ u) = cc in
+          let s : sum ≡ checksum (to ∷ from ∷ u) = cc in
+          let m : r .len ≡ 0 + length u = omega (arith, w .0) in
+          ap (λ (n : ℕ). Good n (r .sum)) m
+          ∙ ap (Good (0 + length u))
+          (w .1 ∙ ap (λ (n : ℕ). bitXor n (bitXor to from)) s ∙ sum-after to from u)
+
+pub scan-clean : (body : List ℕ) (len sum : ℕ) → Good len sum ≡ scanOf body
+    → (flagless body ≡ true) × (Good len sum ≡ scanFrom 0 0 (unstuff false body))
+scan-clean body len sum e =
+    by-bool (flagless body) (λ y. (y, simp y at e))
+    (λ n. let q : Good len sum ≡ Flagged = simp n at e in
+    let z : _≡_ {A = ℕ} 0 1 = cc in absurd (omega arith))
+
+pub scan-flags : (kind : Kind) (body : List ℕ) → scanOf body ≡ Flagged → judgeWhole kind body ≡ refused 6
+unfolding scanFrom
+scan-flags kind body e =
+    by-bool (flagless body) (λ y. none (unstuff false body) (simp y at e)) (λ n. simp n)
+  where
+    none : (r : Unstuffed) → scanFrom 0 0 r ≡ Flagged → judgeWhole kind body ≡ refused 6
+    none badEscape q = let z : _≡_ {A = ℕ} 0 1 = cc in absurd (omega arith)
+    none (bytes u) q = let z : _≡_ {A = ℕ} 0 1 = cc in absurd (omega arith)
+
+pub scan-faults : (kind : Kind) (body : List ℕ) → length body ≤ 118 → scanOf body ≡ Fault
+    → judgeWhole kind body ≡ refused 3
+unfolding scanFrom
+scan-faults kind body h e =
+    by-bool (flagless body)
+    (λ y. simp y (judge-escape kind body h (bad (unstuff false body) (simp y at e))))
+    (λ n. let q : Flagged ≡ Fault = simp n at e in
+    let z : _≡_ {A = ℕ} 0 1 = cc in absurd (omega arith))
+  where
+    bad : (r : Unstuffed) → scanFrom 0 0 r ≡ Fault → r ≡ badEscape
+    bad badEscape q = refl
+    bad (bytes u) q = let z : _≡_ {A = ℕ} 0 1 = cc in absurd (omega arith)
 
 -- ---- a body between its two flags
 

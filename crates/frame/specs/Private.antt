@@ -1,11 +1,13 @@
 -- Contracts of private functions, which no caller reads.
-use Prim.Native.Nat.{ℕ, _+_, _≤_, _<_}
+use Prim.Native.Nat.{ℕ, _+_, _-_, _≤_, _<_}
 use mathlib.Core.Path.{_≡_}
 use mathlib.Core.Bool.{Bool, true, false}
 use mathlib.Core.List.{List, [], _∷_, _++_}
 use lib.Dec.{leb, ltb, eqb}
-use lib.ListN.{length, getD, drop}
-use Rattle.lists.specs.Choice.{pick, within, noneOf}
+use lib.Bits.{bitXor}
+use lib.ListN.{length, getD, take, drop}
+use Rattle.lists.specs.Choice.{pick, within, noneOf, countOf}
+use Rattle.lists.specs.Splice.{splice}
 use Rattle.answer.specs.Refusals.{numberOf}
 use Rattle.frame.specs.Stuffing.{isStuffed, stuffByte, unstuff, Unstuffed, badEscape, bytes, prepend}
 use Rattle.frame.specs.Flags.{flagless, startFlag, stopFlag, isStart}
@@ -21,7 +23,9 @@ use Rattle.frame.specs.declared.Header.the-variants.{Plain, Addressed}
 use Rattle.frame.specs.declared.candidate.Next.{Next}
 use Rattle.frame.specs.declared.candidate.Next.the-variants.{End, Bad, Byte}
 use Rattle.frame.specs.declared.candidate.Scan.{Scan}
-use Rattle.frame.specs.declared.candidate.Scan.the-variants.{Fault, Good}
+use Rattle.frame.specs.declared.candidate.Scan.the-variants.{Flagged, Fault, Good}
+use Rattle.frame.specs.declared.candidate.Tally.{Tally}
+use Rattle.frame.specs.declared.candidate.Rest.{Rest}
 use Rattle.frame.specs.declared.candidate.Addresses.{Addresses}
 use Rattle.frame.specs.declared.candidate.Addresses.the-variants.{Broken, Missing, Found}
 use Rattle.frame.specs.declared.candidate.Examined.{Examined}
@@ -47,6 +51,10 @@ headed (Addressed to from) r = prepend to (prepend from r)
 abbrev pub headerWire : Header → List ℕ
 headerWire Plain = startFlag Standard ∷ []
 headerWire (Addressed to from) = startFlag Extended ∷ (stuffByte to ++ stuffByte from)
+
+-- Bytes put in at an index, and at most one more, which whoever writes there next writes over.
+abbrev pub PutPair : List ℕ → ℕ → List ℕ → List ℕ → Type 0
+PutPair out at w last = (more : List ℕ) × (length (w ++ more) ≡ 2) × (last ≡ splice out at (w ++ more))
 
 -- ---- reading
 
@@ -91,6 +99,29 @@ unfoldable pub lowered : List ℕ → List ℕ
 lowered [] = []
 lowered (b ∷ s) = lowerByte b ∷ lowered s
 
+-- The scan of stuffed bytes. A flag among them comes first.
+abbrev pub scanOf : List ℕ → Scan
+scanOf s = pick (flagless s) (scanFrom 0 0 (unstuff false s)) Flagged
+
+-- What one pass over all bytes but the last finds, told with the last.
+pub record Tallied (s : List ℕ) (t : Tally) : Type 0 where
+  pub flagged : t .flags ≡ pick (flagless (take (length s - 1) s)) 0 1
+  pub sound : (getD s (length s - 1) 0 ≡ 0xF3 → ⊥) → eqb (t .unsound) 0 ≡ isSound (unstuff false s)
+  pub counted : t .escapes + pick (within 0xF3 0xF3 (getD s (length s - 1) 0)) 1 0 ≡ countOf (within 0xF3 0xF3) s
+  pub summed : bitXor (t .sum) (lowerByte (getD s (length s - 1) 0)) ≡ checksum (lowered s)
+
+abbrev pub isEscape : ℕ → Bool
+isEscape b = eqb b 0xF3
+
+-- What is added to a byte, as an escape stands right before it or not.
+abbrev pub lifts : Bool → ℕ
+lifts pending = pick pending 0xF0 0
+
+-- The index of the last unstuffed byte of sound stuffed bytes.
+abbrev pub lastAt : List ℕ → ℕ
+lastAt s =
+    pick (leb 2 (length s)) (pick (isEscape (getD s (length s - 2) 0)) (length s - 2) (length s - 1)) 0
+
 -- The bytes, none where an escape is bad.
 unfoldable pub unstuffedBytes : Unstuffed → List ℕ
 unstuffedBytes badEscape = []
@@ -103,6 +134,11 @@ AddressesIn kind body Missing = (u : List ℕ) × (unstuff false body ≡ bytes 
 AddressesIn kind body (Found header next) =
     (next ≤ length body) × (headerKind header ≡ kind)
     × (unstuff false body ≡ headed header (unstuff false (drop next body)))
+
+-- How many unstuffed bytes follow the addresses, and their exclusive or.
+abbrev pub WithoutHeader : Header → (len sum : ℕ) → Rest → Type 0
+WithoutHeader Plain len sum r = (r .len ≡ len) × (r .sum ≡ sum)
+WithoutHeader (Addressed to from) len sum r = (r .len ≡ len - 2) × (r .sum ≡ bitXor sum (bitXor to from))
 
 -- A sound body: its frame, and where its stuffed contents stand.
 pub record SoundAt (kind : Kind) (body : List ℕ) (header : Header) (start len : ℕ) : Type 0 where

@@ -1,10 +1,9 @@
-// Loops over bytes that the compiler turns into vector code: a look for a range of values, the exclusive or, copies.
+// Loops over bytes that the compiler turns into vector code: a look for a range of values, the exclusive or, a shift.
 ghost use mathlib.Core.Path.{_≡_};
 ghost use mathlib.Core.List.{_++_};
 ghost use Prim.Native.Nat.{_+_, _≤_};
 ghost use lib.ListN.{length, take, drop};
 ghost use Rattle.lists.specs.Choice.{within, noneOf, countOf};
-ghost use Rattle.lists.specs.Splice.{splice};
 ghost use Rattle.frame.specs.Checksum.{checksum};
 
 // What one pass over bytes finds: whether none lies between two values, and their exclusive or.
@@ -46,29 +45,14 @@ pub(crate) fn count_within(s: &[u8], low: u8, high: u8) -> u8
     count
 }
 
-// Copies a slice into another from an index on.
-pub(crate) fn copy(s: &[u8], out: &mut [u8], at: usize)
-    requires { ⌜ at + length (now s) ≤ length (now out) ⌝ }
-    ensures { λ r. ⌜ now (out .exit) ≡ splice (now (out .entry)) at (now (s .entry)) ⌝ }
+// Brings `count` bytes that stand after two others to the front. With a fixed distance the compiler moves many at once.
+pub(crate) fn shift_two(s: &mut [u8], count: usize)
+    requires { ⌜ count + 2 ≤ length (now s) ⌝ }
+    ensures { λ r. ⌜ now (s .exit) ≡ take count (drop 2 (now (s .entry))) ++ drop count (now (s .entry)) ⌝ }
 {
-    let mut i: usize = 0;
-    while i < s.len() {
-        out[at + i] = s[i];
-        i += 1;
-    }
-}
-
-// Brings `count` bytes from an index on to the front.
-pub(crate) fn shift(s: &mut [u8], from: usize, count: usize)
-    requires { ⌜ count ≤ length (drop from (now s)) ⌝ }
-    ensures { λ r. ⌜ now (s .exit) ≡ take count (drop from (now (s .entry))) ++ drop count (now (s .entry)) ⌝ }
-{
-    if from == 0 {
-        return;
-    }
     let mut k: usize = 0;
     while k < count {
-        s[k] = s[from + k];
+        s[k] = s[k + 2];
         k += 1;
     }
 }

@@ -7,14 +7,17 @@ use answer::Refusal;
 ghost use mathlib.Core.Path.{_≡_};
 ghost use mathlib.Core.Bool.{true, false};
 ghost use mathlib.Core.List.{_++_};
-ghost use Prim.Native.Nat.{_-_, _≤_};
-ghost use lib.ListN.{length, getD, take, drop};
-ghost use Rattle.lists.specs.Choice.{pick, within, countOf};
+ghost use Prim.Native.Nat.{_+_, _≤_, _<_};
+ghost use lib.Bits.{bitOr, bitXor};
+ghost use lib.ListN.{length, take, drop};
+ghost use Rattle.lists.specs.Choice.{pick, within};
+ghost use Rattle.lists.specs.Splice.{splice};
+ghost use Rattle.frame.specs.Flags.{isFlag};
 ghost use Rattle.frame.specs.Stuffing.{unstuff, prepend};
-ghost use Rattle.frame.specs.Checksum.{checksum};
-ghost use Rattle.frame.specs.Private.{isBounded, nextAt, scanFrom, isSound, goodPair, lowerByte, lowered};
-ghost use Rattle.frame.specs.Private.{unstuffedBytes, headerKind, AddressesIn, Unescaped, Examines};
-ghost use Rattle.frame.specs.Private.{ExaminesWhole};
+ghost use Rattle.frame.specs.Verdict.{addressCount};
+ghost use Rattle.frame.specs.Private.{isBounded, nextAt, scanOf, isSound, goodPair, lowerByte, isEscape, lifts};
+ghost use Rattle.frame.specs.Private.{unstuffedBytes, lastAt, headerKind, AddressesIn, Unescaped};
+ghost use Rattle.frame.specs.Private.{Tallied, WithoutHeader, ExaminesWhole};
 
 // The most bytes that may stand between the flags.
 const BODY_LIMIT: usize = 118;
@@ -29,16 +32,27 @@ pub(crate) enum Next {
     Byte(u8, usize),
 }
 
-// The number of unstuffed bytes and their exclusive or.
+// What stuffed bytes are: with a flag among them; with an unsound escape; or so many unstuffed bytes with this exclusive
+// or.
 pub(crate) enum Scan {
+    Flagged,
     Fault,
     Good { len: usize, sum: u8 },
 }
 
-// What one pass over stuffed bytes finds.
-struct Escapes {
-    escapes: u8,
-    sum: u8,
+// What one pass over stuffed bytes finds: marks for flags and for unsound escapes, the number of escapes, and the
+// exclusive or with an escape taken as F0.
+pub(crate) struct Tally {
+    pub(crate) flags: u8,
+    pub(crate) unsound: u8,
+    pub(crate) escapes: u8,
+    pub(crate) sum: u8,
+}
+
+// The number of unstuffed bytes after the addresses, and their exclusive or.
+pub(crate) struct Rest {
+    pub(crate) len: usize,
+    pub(crate) sum: u8,
 }
 
 // The addresses at the start of a body, and the index after them.
@@ -105,44 +119,66 @@ pub(crate) fn next_at(s: &[u8], at: usize) -> Next
 // not turned into vector code.
 fn scan_bytes(s: &[u8]) -> Scan
     requires { ⌜ length (now s) ≤ 118 ⌝ }
-    ensures { λ r. ⌜ r ≡ scanFrom 0 0 (unstuff false (now (s .entry))) ⌝ }
+    ensures { λ r. ⌜ r ≡ scanOf (now (s .entry)) ⌝ }
 {
     let n = s.len();
     if n == 0 {
         return Scan::Good { len: 0, sum: 0 };
     }
     let last = s[n - 1];
+    let found = tally_pairs(s);
+    if found.flags != 0 {
+        return Scan::Flagged;
+    }
+    if flags::is_flag(last) {
+        return Scan::Flagged;
+    }
     if last == flags::ESCAPE {
         return Scan::Fault;
     }
-    let found = tally_escapes(&s[..n - 1]);
-    let sum = found.sum ^ last;
-    if found.escapes == 0 {
-        return Scan::Good { len: n, sum };
-    }
-    if !escapes_sound(s) {
+    if found.unsound != 0 {
         return Scan::Fault;
     }
     Scan::Good {
         len: n - found.escapes as usize,
-        sum,
+        sum: found.sum ^ last,
     }
 }
 
-// Whether 00 to 03 stands after each escape, the last byte being none. The loop has no branch on the bytes.
-fn escapes_sound(s: &[u8]) -> bool
+// Looks at every byte but the last, each with the one after it, in one pass. The loop has no branch on the bytes.
+fn tally_pairs(s: &[u8]) -> Tally
     requires { ⌜ 1 ≤ length (now s) ⌝ }
-    requires { ⌜ (getD (now s) (length (now s) - 1) 0 ≡ 0xF3 → ⊥) ⌝ }
-    ensures { λ r. ⌜ r ≡ isSound (unstuff false (now (s .entry))) ⌝ }
+    requires { ⌜ length (now s) ≤ 255 ⌝ }
+    ensures { λ r. ⌜ Tallied (now (s .entry)) r ⌝ }
 {
     let n = s.len();
-    let mut bad: u8 = 0;
+    let mut found = Tally {
+        flags: 0,
+        unsound: 0,
+        escapes: 0,
+        sum: 0,
+    };
     let mut i: usize = 0;
     while i < n - 1 {
-        bad = bad | unsound(s[i], s[i + 1]);
+        found = with_pair(found, s[i], s[i + 1]);
         i += 1;
     }
-    bad == 0
+    found
+}
+
+fn with_pair(found: Tally, b: u8, after: u8) -> Tally
+    requires { ⌜ found .escapes < 255 ⌝ }
+    ensures { λ r. ⌜ r .flags ≡ bitOr (found .flags) (pick (isFlag b) 1 0) ⌝ }
+    ensures { λ r. ⌜ r .unsound ≡ bitOr (found .unsound) (pick (goodPair b after) 0 1) ⌝ }
+    ensures { λ r. ⌜ r .escapes ≡ found .escapes + pick (within 0xF3 0xF3 b) 1 0 ⌝ }
+    ensures { λ r. ⌜ r .sum ≡ bitXor (found .sum) (lowerByte b) ⌝ }
+{
+    Tally {
+        flags: found.flags | lists::mark(b, flags::EXTENDED_START, flags::STOP),
+        unsound: found.unsound | unsound(b, after),
+        escapes: found.escapes + lists::mark(b, flags::ESCAPE, flags::ESCAPE),
+        sum: found.sum ^ lower(b),
+    }
 }
 
 // 1 for an escape with none of 00 to 03 after it, else 0.
@@ -150,23 +186,6 @@ fn unsound(b: u8, after: u8) -> u8
     ensures { λ r. ⌜ r ≡ pick (goodPair b after) 0 1 ⌝ }
 {
     lists::mark(b, flags::ESCAPE, flags::ESCAPE) & lists::mark(after, ESCAPED_LIMIT + 1, 0xFF)
-}
-
-// How many bytes are escapes, and the exclusive or of all with an escape taken as F0.
-fn tally_escapes(s: &[u8]) -> Escapes
-    requires { ⌜ length (now s) ≤ 255 ⌝ }
-    ensures { λ r. ⌜ r .escapes ≡ countOf (within 0xF3 0xF3) (now (s .entry)) ⌝ }
-    ensures { λ r. ⌜ r .sum ≡ checksum (lowered (now (s .entry))) ⌝ }
-{
-    let mut escapes: u8 = 0;
-    let mut sum: u8 = 0;
-    let mut i: usize = 0;
-    while i < s.len() {
-        escapes = escapes + lists::mark(s[i], flags::ESCAPE, flags::ESCAPE);
-        sum = sum ^ lower(s[i]);
-        i += 1;
-    }
-    Escapes { escapes, sum }
 }
 
 fn lower(b: u8) -> u8
@@ -247,108 +266,141 @@ pub(crate) fn look_plain(body: &[u8]) -> Looked
 
 // The verdict on what stands between a start flag of this kind and a stop flag. Where a flag stands in it, it is no
 // whole candidate.
-pub(crate) fn examine_flagged(kind: Kind, body: &[u8]) -> Examined
+pub(crate) fn examine_stuffed(kind: Kind, body: &[u8]) -> Examined
+    ensures { λ r. ⌜ ExaminesWhole kind (now (body .entry)) r ⌝ }
+{
+    if BODY_LIMIT < body.len() {
+        return examine_long(kind, body);
+    }
+    let scanned = scan_bytes(body);
+    match scanned {
+        Scan::Flagged => Examined::Unsound(Refusal::Truncated),
+        Scan::Fault => Examined::Unsound(Refusal::BadEscape),
+        Scan::Good { len, sum } => examine_scanned(kind, body, len, sum),
+    }
+}
+
+fn examine_long(kind: Kind, body: &[u8]) -> Examined
+    requires { ⌜ 118 < length (now body) ⌝ }
     ensures { λ r. ⌜ ExaminesWhole kind (now (body .entry)) r ⌝ }
 {
     if lists::none_within(body, flags::EXTENDED_START, flags::STOP) {
-        return examine(kind, body);
+        return Examined::Unsound(Refusal::TooLong);
     }
     Examined::Unsound(Refusal::Truncated)
 }
 
-// The verdict on what stands between a start flag of this kind and the stop flag.
-pub(crate) fn examine(kind: Kind, body: &[u8]) -> Examined
-    ensures { λ r. ⌜ Examines kind (now (body .entry)) r ⌝ }
+// The verdict on a body without a flag and with sound escapes, whose unstuffed bytes are counted and summed.
+fn examine_scanned(kind: Kind, body: &[u8], len: usize, sum: u8) -> Examined
+    requires { ⌜ length (now body) ≤ 118 ⌝ }
+    requires { ⌜ Scan.Good len sum ≡ scanOf (now body) ⌝ }
+    ensures { λ r. ⌜ ExaminesWhole kind (now (body .entry)) r ⌝ }
 {
-    if BODY_LIMIT < body.len() {
-        return Examined::Unsound(Refusal::TooLong);
-    }
     let found = addresses_in(kind, body);
     match found {
         Addresses::Broken => Examined::Unsound(Refusal::BadEscape),
         Addresses::Missing => Examined::Unsound(Refusal::TooShort),
-        Addresses::Found { header, next } => examine_rest(header, body, next),
+        Addresses::Found { header, next } => examine_after(header, body, next, len, sum),
     }
 }
 
-// Examines what follows the header: the contents and the checksum, whose exclusive or is 0.
-fn examine_rest(header: Header, body: &[u8], next: usize) -> Examined
+// The same, where the addresses are known: the contents and the checksum follow, whose exclusive or is 0.
+fn examine_after(header: Header, body: &[u8], next: usize, len: usize, sum: u8) -> Examined
     requires { ⌜ length (now body) ≤ 118 ⌝ }
+    requires { ⌜ Scan.Good len sum ≡ scanOf (now body) ⌝ }
     requires { ⌜ AddressesIn (headerKind header) (now body) (Addresses.Found header next) ⌝ }
-    ensures { λ r. ⌜ Examines (headerKind header) (now (body .entry)) r ⌝ }
+    ensures { λ r. ⌜ ExaminesWhole (headerKind header) (now (body .entry)) r ⌝ }
 {
-    let scanned = scan_bytes(&body[next..]);
-    match scanned {
-        Scan::Fault => Examined::Unsound(Refusal::BadEscape),
-        Scan::Good { len, sum } => {
-            if len < 1 {
-                return Examined::Unsound(Refusal::TooShort);
-            }
-            if sum != 0 {
-                return Examined::Unsound(Refusal::BadChecksum);
-            }
-            Examined::Sound {
-                header,
-                start: next,
-                len: len - 1,
-            }
-        }
+    let rest = without_header(header, len, sum);
+    if rest.len < 1 {
+        return Examined::Unsound(Refusal::TooShort);
+    }
+    if rest.sum != 0 {
+        return Examined::Unsound(Refusal::BadChecksum);
+    }
+    Examined::Sound {
+        header,
+        start: next,
+        len: rest.len - 1,
     }
 }
 
-// An unstuffed byte and the index after it, where the stuffed bytes are known to be sound.
-struct Unit {
-    byte: u8,
-    after: usize,
-}
-
-fn unit_at(s: &[u8], at: usize) -> Unit
-    requires { ⌜ (nextAt (now s) at ≡ Next.End → ⊥) ⌝ }
-    requires { ⌜ (nextAt (now s) at ≡ Next.Bad → ⊥) ⌝ }
-    ensures { λ r. ⌜ nextAt (now (s .entry)) at ≡ Next.Byte (r .byte) (r .after) ⌝ }
+// How many unstuffed bytes follow the addresses, and their exclusive or.
+fn without_header(header: Header, len: usize, sum: u8) -> Rest
+    requires { ⌜ addressCount (headerKind header) ≤ len ⌝ }
+    ensures { λ r. ⌜ WithoutHeader header len sum r ⌝ }
 {
-    let b = s[at];
-    if b != flags::ESCAPE {
-        return Unit {
-            byte: b,
-            after: at + 1,
-        };
-    }
-    Unit {
-        byte: 0xF0 + s[at + 1],
-        after: at + 2,
+    match header {
+        Header::Plain => Rest { len, sum },
+        Header::Addressed { to, from } => Rest {
+            len: len - 2,
+            sum: sum ^ (to ^ from),
+        },
     }
 }
 
-// Puts the first `count` unstuffed bytes first in the output.
-pub(crate) fn unstuff_into(s: &[u8], count: usize, out: &mut [u8])
-    requires { ⌜ count ≤ length (unstuffedBytes (unstuff false (now s))) ⌝ }
-    requires { ⌜ count ≤ length (now out) ⌝ }
-    ensures { λ r. ⌜ now (out .exit) ≡ take count (unstuffedBytes (unstuff false (now (s .entry))))
-        ++ drop count (now (out .entry)) ⌝ }
+// Where the last unstuffed byte of sound stuffed bytes begins: it may be sent as two.
+pub(crate) fn last_at(s: &[u8]) -> usize
+    ensures { λ r. ⌜ r ≡ lastAt (now (s .entry)) ⌝ }
 {
-    let mut at: usize = 0;
+    let n = s.len();
+    if s.len() < 2 {
+        return 0;
+    }
+    let b = s[n - 2];
+    if b == flags::ESCAPE { n - 2 } else { n - 1 }
+}
+
+// What an escape adds to the byte after it.
+fn lift(b: u8) -> u8
+    ensures { λ r. ⌜ r ≡ lifts (isEscape b) ⌝ }
+{
+    if b == flags::ESCAPE { 0xF0 } else { 0 }
+}
+
+// How many places of the output a stuffed byte fills: none where it is an escape.
+fn fills(b: u8) -> usize
+    ensures { λ r. ⌜ r ≡ pick (isEscape b) 0 1 ⌝ }
+{
+    if b == flags::ESCAPE { 0 } else { 1 }
+}
+
+// Puts sound stuffed bytes, unstuffed, first in the output. An escape is written too, and the byte after it takes its
+// place, so the loop has no branch on the bytes.
+pub(crate) fn unstuff_into(s: &[u8], out: &mut [u8])
+    requires { ⌜ isSound (unstuff false (now s)) ≡ true ⌝ }
+    requires { ⌜ length (unstuffedBytes (unstuff false (now s))) ≤ length (now out) ⌝ }
+    ensures { λ r. ⌜ now (out .exit) ≡ splice (now (out .entry)) 0
+        (unstuffedBytes (unstuff false (now (s .entry)))) ⌝ }
+{
+    let mut above: u8 = 0;
     let mut k: usize = 0;
-    while k < count {
-        let unit = unit_at(s, at);
-        out[k] = unit.byte;
-        at = unit.after;
-        k += 1;
+    let mut i: usize = 0;
+    while i < s.len() {
+        let b = s[i];
+        out[k] = b + above;
+        above = lift(b);
+        k += fills(b);
+        i += 1;
     }
 }
 
-// Brings the first `count` unstuffed bytes, from an index of the stuffed bytes on, to the front.
-pub(crate) fn unstuff_front(s: &mut [u8], from: usize, count: usize)
-    requires { ⌜ count ≤ length (unstuffedBytes (unstuff false (drop from (now s)))) ⌝ }
-    ensures { λ r. ⌜ now (s .exit) ≡ take count (unstuffedBytes (unstuff false (drop from (now (s .entry)))))
-        ++ drop count (now (s .entry)) ⌝ }
+// The same within a slice: brings the bytes between two indices, unstuffed, to the front.
+pub(crate) fn unstuff_front(s: &mut [u8], from: usize, end: usize)
+    requires { ⌜ from ≤ end ⌝ }
+    requires { ⌜ end ≤ length (now s) ⌝ }
+    requires { ⌜ isSound (unstuff false (drop from (take end (now s)))) ≡ true ⌝ }
+    ensures { λ r. ⌜ now (s .exit) ≡ splice (now (s .entry)) 0
+        (unstuffedBytes (unstuff false (drop from (take end (now (s .entry)))))) ⌝ }
 {
-    let mut at = from;
+    let mut above: u8 = 0;
     let mut k: usize = 0;
-    while k < count {
-        let unit = unit_at(s, at);
-        s[k] = unit.byte;
-        at = unit.after;
-        k += 1;
+    let mut i = from;
+    while i < end {
+        let b = s[i];
+        s[k] = b + above;
+        above = lift(b);
+        k += fills(b);
+        i += 1;
     }
 }

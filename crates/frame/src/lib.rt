@@ -19,9 +19,9 @@ ghost use Rattle.answer.specs.Draft.{draftAnswer, draftOut, writtenMeans};
 ghost use Rattle.frame.specs.Flags.{candidateOf};
 ghost use Rattle.frame.specs.Stuffing.{unstuff};
 ghost use Rattle.frame.specs.Frame.{standard, extended};
-ghost use Rattle.frame.specs.Verdict.{judge, verdict};
+ghost use Rattle.frame.specs.Verdict.{verdict};
 ghost use Rattle.frame.specs.Answers.{frameDraft, readMeans, judgeAnswer, readAnswer, readOut, leftIn};
-ghost use Rattle.frame.specs.Private.{frameOf, headerKind, readAs, unstuffedBytes, Unescaped, UnescapedAfter};
+ghost use Rattle.frame.specs.Private.{frameOf, readAs, unstuffedBytes};
 
 // The longest frame on the wire, flags and escapes included.
 const WIRE_LIMIT: usize = 120;
@@ -81,10 +81,11 @@ pub fn read_frame(wire: &[u8], out: &mut [u8]) -> Read
     let body = &wire[1..n - 1];
     let kind = flags::kind_of(start);
     let looked = candidate::look_plain(body);
-    if looked.clear {
-        return read_plain(kind, body, looked.sum, out);
-    }
-    let found = candidate::examine_flagged(kind, body);
+    let found = if looked.clear {
+        plain::examine_plain(kind, body, looked.sum)
+    } else {
+        candidate::examine_stuffed(kind, body)
+    };
     match found {
         Examined::Unsound(why) => Read::Refused(why),
         Examined::Sound { header, start, len } => {
@@ -135,48 +136,6 @@ fn write_frame(header: Header, contents: &[u8], out: &mut [u8]) -> Written
     Written::Length(n)
 }
 
-// Reads a body in which no byte is F0 to F3 and whose exclusive or is known.
-fn read_plain(kind: Kind, body: &[u8], sum: u8, out: &mut [u8]) -> Read
-    requires { ⌜ Unescaped (now body) sum ⌝ }
-    ensures { λ r. ⌜ readMeans r ≡ readAnswer (judge kind (now (body .entry))) (length (now (out .entry))) ⌝ }
-    ensures { λ r. ⌜ now (out .exit) ≡ readOut (judge kind (now (body .entry))) (now (out .entry)) ⌝ }
-{
-    match kind {
-        Kind::Standard => read_after(Header::Plain, body, 0, sum, out),
-        Kind::Extended => {
-            if body.len() < 2 {
-                return Read::Refused(Refusal::TooShort);
-            }
-            let to = body[0];
-            let from = body[1];
-            let rest = sum ^ (to ^ from);
-            read_after(Header::Addressed { to, from }, body, 2, rest, out)
-        }
-    }
-}
-
-// Reads what follows the header, whose addresses are known, with the exclusive or of it.
-fn read_after(header: Header, body: &[u8], start: usize, sum: u8, out: &mut [u8]) -> Read
-    requires { ⌜ UnescapedAfter header (now body) start sum ⌝ }
-    ensures { λ r. ⌜ readMeans r ≡ readAnswer (judge (headerKind header) (now (body .entry)))
-        (length (now (out .entry))) ⌝ }
-    ensures { λ r. ⌜ now (out .exit) ≡ readOut (judge (headerKind header) (now (body .entry))) (now (out .entry)) ⌝ }
-{
-    let n = body.len();
-    if n <= start {
-        return Read::Refused(Refusal::TooShort);
-    }
-    if sum != 0 {
-        return Read::Refused(Refusal::BadChecksum);
-    }
-    let len = n - start - 1;
-    if out.len() < len {
-        return Read::Refused(Refusal::NoRoom);
-    }
-    bytes::copy(&body[start..n - 1], out, 0);
-    read_as(header, len)
-}
-
 fn read_as(header: Header, len: usize) -> Read
     ensures { λ r. ⌜ readMeans r ≡ readAs header len ⌝ }
 {
@@ -195,10 +154,11 @@ fn copy_contents(rest: &[u8], len: usize, out: &mut [u8])
         ++ drop len (now (out .entry)) ⌝ }
 {
     if rest.len() == len + 1 {
-        bytes::copy(&rest[..len], out, 0);
+        lists::copy_short(&rest[..len], out, 0);
         return;
     }
-    candidate::unstuff_into(rest, len, out)
+    let end = candidate::last_at(rest);
+    candidate::unstuff_into(&rest[..end], out)
 }
 
 // Brings the first `len` unstuffed bytes after an index to the front; one more stands after them.
@@ -209,10 +169,16 @@ fn bring_contents(s: &mut [u8], start: usize, len: usize)
         ++ drop len (now (s .entry)) ⌝ }
 {
     if s.len() - start == len + 1 {
-        bytes::shift(s, start, len);
-        return;
+        if start == 0 {
+            return;
+        }
+        if start == 2 {
+            bytes::shift_two(s, len);
+            return;
+        }
     }
-    candidate::unstuff_front(s, start, len)
+    let end = start + candidate::last_at(&s[start..]);
+    candidate::unstuff_front(s, start, end)
 }
 
 // Judges the first bytes of a slice of any length, as `judge_array` does those of an array.
@@ -229,7 +195,12 @@ fn judge_whole(kind: Kind, s: &mut [u8]) -> Read
     ensures { λ r. ⌜ readMeans r ≡ judgeAnswer (verdict (candidateOf kind (now (s .entry)))) ⌝ }
     ensures { λ r. ⌜ now (s .exit) ≡ leftIn (verdict (candidateOf kind (now (s .entry)))) (now (s .entry)) ⌝ }
 {
-    let found = plain::examine_whole(kind, s);
+    let looked = candidate::look_plain(s);
+    let found = if looked.clear {
+        plain::examine_plain(kind, s, looked.sum)
+    } else {
+        candidate::examine_stuffed(kind, s)
+    };
     match found {
         Examined::Unsound(refusal) => Read::Refused(refusal),
         Examined::Sound { header, start, len } => {

@@ -1,25 +1,12 @@
 // A candidate in which no byte between the flags is F0 to F3, examined after one pass.
 use crate::Header;
 use crate::Kind;
-use crate::candidate;
 use crate::candidate::Examined;
 use answer::Refusal;
-ghost use Rattle.frame.specs.Private.{headerKind, Unescaped, UnescapedAfter, Examines, ExaminesWhole};
-
-// The verdict on what stands between a start flag of this kind and a stop flag. Where a flag stands in it, it is no
-// whole candidate.
-pub(crate) fn examine_whole(kind: Kind, body: &[u8]) -> Examined
-    ensures { λ r. ⌜ ExaminesWhole kind (now (body .entry)) r ⌝ }
-{
-    let looked = candidate::look_plain(body);
-    if looked.clear {
-        return examine_plain(kind, body, looked.sum);
-    }
-    candidate::examine_flagged(kind, body)
-}
+ghost use Rattle.frame.specs.Private.{headerKind, Unescaped, UnescapedAfter, Examines};
 
 // The verdict on a body in which no byte is F0 to F3 and whose exclusive or is known.
-fn examine_plain(kind: Kind, body: &[u8], sum: u8) -> Examined
+pub(crate) fn examine_plain(kind: Kind, body: &[u8], sum: u8) -> Examined
     requires { ⌜ Unescaped (now body) sum ⌝ }
     ensures { λ r. ⌜ Examines kind (now (body .entry)) r ⌝ }
 {

@@ -4,10 +4,10 @@ use crate::flags;
 ghost use mathlib.Core.Path.{_≡_};
 ghost use Prim.Native.Nat.{_+_, _≤_};
 ghost use lib.ListN.{length};
-ghost use Rattle.lists.specs.Choice.{noneOf};
+ghost use Rattle.lists.specs.Choice.{pick, noneOf};
 ghost use Rattle.lists.specs.Splice.{splice};
 ghost use Rattle.frame.specs.Stuffing.{isStuffed, stuff, stuffByte};
-ghost use Rattle.frame.specs.Private.{headerWire};
+ghost use Rattle.frame.specs.Private.{headerWire, PutPair};
 
 // How many bytes a byte takes on the wire.
 pub(crate) fn width(b: u8) -> usize
@@ -82,22 +82,51 @@ pub(crate) fn put_stuffed(s: &[u8], stuffed: usize, out: &mut [u8], from: usize)
     ensures { λ r. ⌜ now (out .exit) ≡ splice (now (out .entry)) from (stuff (now (s .entry))) ⌝ }
 {
     if stuffed == s.len() {
-        crate::bytes::copy(s, out, from);
+        lists::copy(s, out, from);
         return from + stuffed;
     }
     put_each(s, out, from)
 }
 
+// The last byte is taken by itself: every other has a byte after it, which is written over a second place that it does
+// not need.
 fn put_each(s: &[u8], out: &mut [u8], from: usize) -> usize
     requires { ⌜ from + length (stuff (now s)) ≤ length (now out) ⌝ }
     ensures { λ r. ⌜ r ≡ from + length (stuff (now (s .entry))) ⌝ }
     ensures { λ r. ⌜ now (out .exit) ≡ splice (now (out .entry)) from (stuff (now (s .entry))) ⌝ }
 {
+    let n = s.len();
+    if n == 0 {
+        return from;
+    }
     let mut at = from;
     let mut i: usize = 0;
-    while i < s.len() {
-        at = put_byte(s[i], out, at);
+    while i < n - 1 {
+        at = put_pair(s[i], out, at);
         i += 1;
     }
-    at
+    put_byte(s[n - 1], out, at)
+}
+
+// Writes a byte, stuffed, at an index, and answers the next index. It writes two places in any case, so there is no
+// branch on the byte.
+fn put_pair(b: u8, out: &mut [u8], at: usize) -> usize
+    requires { ⌜ at + 2 ≤ length (now out) ⌝ }
+    ensures { λ r. ⌜ r ≡ at + length (stuffByte b) ⌝ }
+    ensures { λ r. ⌜ PutPair (now (out .entry)) at (stuffByte b) (now (out .exit)) ⌝ }
+{
+    out[at] = first_of(b);
+    out[at + 1] = b % 4;
+    at + width(b)
+}
+
+// The first byte that is sent for a byte.
+fn first_of(b: u8) -> u8
+    ensures { λ r. ⌜ r ≡ pick (isStuffed b) 0xF3 b ⌝ }
+{
+    if flags::is_stuffed(b) {
+        flags::ESCAPE
+    } else {
+        b
+    }
 }

@@ -7,7 +7,7 @@ use native.Mathlib.Omega.{arith}
 use lib.Dec.{leb}
 use lib.ListN.{length, getD, take, drop, set, length-drop, take-append-drop}
 use lib.Seq.{take-suc, drop-cons, set-at, length-take-le, drop-drop, drop-append-add, drop-append-le, getD-drop}
-use lib.Seq.{take-all}
+use lib.Seq.{take-all, take-add, drop-at}
 use borrow.Author.Tests.{leb-true, leb-false}
 use Rattle.lists.specs.Choice.{pick}
 use Rattle.lists.proofs.Cases.{by-bool}
@@ -94,3 +94,21 @@ pub last-apart : (s : List ℕ) → 1 ≤ length s → s ≡ take (length s - 1)
 last-apart s h =
     let n : suc (length s - 1) ≡ length s = omega arith in
     sym (take-all (suc (length s - 1)) s (omega arith)) ∙ take-suc s (length s - 1) 0 (omega arith)
+
+-- A store right after the first elements, over at most one other that was changed there.
+pub set-over : (p out out₀ more : List ℕ) (k v : ℕ) → length p ≡ k → length more ≤ 1 → k < length out₀
+    → out ≡ p ++ (more ++ drop (k + length more) out₀)
+    → set out k v ≡ p ++ (v ∷ drop (k + 1) out₀)
+set-over p out out₀ [] k v l m h e =
+    let n : k + 0 ≡ k = omega arith in
+    ap (λ (x : List ℕ). set x k v)
+    (e ∙ ap (λ (i : ℕ). p ++ drop i out₀) n ∙ ap (λ (x : List ℕ). p ++ x) (drop-cons out₀ k 0 h))
+    ∙ set-at p (getD out₀ k 0) (drop (suc k) out₀) v k l ∙ ap (λ (i : ℕ). p ++ (v ∷ drop i out₀)) (sym (add-one k))
+set-over p out out₀ (x ∷ []) k v l m h e = ap (λ (y : List ℕ). set y k v) e ∙ set-at p x (drop (k + 1) out₀) v k l
+set-over p out out₀ (x ∷ y ∷ more) k v l m h e = absurd (omega arith)
+
+-- The first elements from an index on.
+pub drop-take : (a k : ℕ) (s : List ℕ) → a + k ≤ length s → drop a (take (a + k) s) ≡ take k (drop a s)
+drop-take a k s h =
+    let n : length (take a s) ≡ a = length-take-le a s (omega arith) in
+    ap (drop a) (take-add a k s) ∙ drop-at (take a s) (take k (drop a s)) a n

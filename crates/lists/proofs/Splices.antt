@@ -1,6 +1,6 @@
 -- The laws of a list put into another at an index.
 use Prim.Native.Nat.{ℕ, _+_, _≤_, _<_, _-_}
-use mathlib.Core.Path.{_≡_, sym, ap, _∙_}
+use mathlib.Core.Path.{_≡_, refl, sym, ap, _∙_}
 use mathlib.Core.List.{List, [], _∷_, _++_, append-assoc, append-nil}
 use native.Mathlib.Nat.{add-zero, add-assoc}
 use native.Mathlib.Numerals.{add-one}
@@ -8,7 +8,8 @@ use native.Mathlib.Omega.{arith}
 use lib.ListN.{length, getD, take, drop, set, length-append, take-append-drop, length-drop, length-set}
 use lib.ListN.{drop-of-length-le}
 use lib.Seq.{set-split, take-at, take-all, drop-drop, length-take-le, drop-append-add, paste, paste-suc, take-length}
-use Rattle.lists.specs.Splice.{splice}
+use borrow.Author.Tests.{le-leb, lt-leb}
+use Rattle.lists.specs.Splice.{splice, copied}
 
 pub splice-nil : (out : List ℕ) (at : ℕ) → splice out at [] ≡ out
 splice-nil out at = ap (λ (n : ℕ). take at out ++ drop n out) (add-zero at) ∙ take-append-drop at out
@@ -58,6 +59,31 @@ splice-next out at v w a room p q r =
     r ∙ ap (λ (l : List ℕ). splice l a w) p ∙ ap (λ (n : ℕ). splice (splice out at v) n w) q
     ∙ splice-splice out at v room w
 
+-- A list put in over the end of another that was put in before it.
+pub splice-over : (out : List ℕ) (at : ℕ) (v m w : List ℕ) → at + length v + length w ≤ length out
+    → length m ≤ length w
+    → splice (splice out at (v ++ m)) (at + length v) w ≡ splice out at (v ++ w)
+splice-over out at v m w room short =
+    let f = take at out ++ v in
+    let d = drop (at + length (v ++ m)) out in
+    let n : length f ≡ at + length v =
+    length-append (take at out) v ∙ ap (λ (i : ℕ). i + length v) (length-take-le at out (omega arith)) in
+    let x : splice out at (v ++ m) ≡ f ++ (m ++ d) =
+    ap (λ (l : List ℕ). take at out ++ l) (append-assoc v m d) ∙ sym (append-assoc (take at out) v (m ++ d)) in
+    let i : length m + (length w - length m) ≡ length w = omega arith in
+    let j : at + length (v ++ m) + (length w - length m) ≡ at + length (v ++ w) =
+    omega (arith, length-append v m, length-append v w) in
+    let past : drop (at + length v + length w) (f ++ (m ++ d)) ≡ drop (at + length (v ++ w)) out =
+    ap (λ (k : ℕ). drop (k + length w) (f ++ (m ++ d))) (sym n) ∙ drop-append-add f (m ++ d) (length w)
+    ∙ ap (λ (k : ℕ). drop k (m ++ d)) (sym i) ∙ drop-append-add m d (length w - length m)
+    ∙ drop-drop (length w - length m) (at + length (v ++ m)) out ∙ ap (λ (k : ℕ). drop k out) j in
+    ap (λ (l : List ℕ). splice l (at + length v) w) x
+    ∙ ap (λ (l : List ℕ). l ++ (w ++ drop (at + length v + length w) (f ++ (m ++ d))))
+    (take-at f (m ++ d) (at + length v) n)
+    ∙ ap (λ (l : List ℕ). f ++ (w ++ l)) past
+    ∙ append-assoc (take at out) v (w ++ drop (at + length (v ++ w)) out)
+    ∙ ap (λ (l : List ℕ). take at out ++ l) (sym (append-assoc v w (drop (at + length (v ++ w)) out)))
+
 -- One store.
 pub set-splice : (out : List ℕ) (at b : ℕ) → at < length out → set out at b ≡ splice out at (b ∷ [])
 set-splice out at b h = set-split out at b h ∙ ap (λ (n : ℕ). take at out ++ b ∷ drop n out) (sym (add-one at))
@@ -101,3 +127,19 @@ pub copied-first : (s out last : List ℕ) → last ≡ take (length s) s ++ dro
 copied-first s out last e =
     let z : 0 + length s ≡ length s = omega arith in
     e ∙ ap (λ (l : List ℕ). l ++ drop (length s) out) (take-length s) ∙ ap (λ (n : ℕ). s ++ drop n out) (sym z)
+
+-- a list put in at the front of others stands there
+pub front-put : (s out last : List ℕ) → last ≡ splice out 0 s → take (length s) last ≡ s
+front-put s out last e = ap (take (length s)) e ∙ take-at s (drop (0 + length s) out) (length s) refl
+
+-- a list copied where it fits is put in
+pub copied-fits : (s out last : List ℕ) (at : ℕ) → at + length s ≤ length out → last ≡ copied out at s
+    → last ≡ splice out at s
+copied-fits s out last at h e = e ∙ simp (le-leb (at + length s) (length out) h) refl
+
+pub fits-copied : (s out last : List ℕ) (at : ℕ) → at + length s ≤ length out → last ≡ splice out at s
+    → last ≡ copied out at s
+fits-copied s out last at h e = e ∙ sym (copied-fits s out _ at h refl)
+
+pub past-copied : (s out : List ℕ) (at : ℕ) → length out < at + length s → out ≡ copied out at s
+past-copied s out at h = simp (lt-leb (at + length s) (length out) h)

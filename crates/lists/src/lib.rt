@@ -5,9 +5,13 @@ ghost use Prim.Native.Nat.{_+_, _≤_};
 ghost use lib.Dec.{leb};
 ghost use lib.ListN.{length, drop};
 ghost use Rattle.lists.specs.Choice.{pick, within, noneOf, countBefore};
+ghost use Rattle.lists.specs.Splice.{splice, copied};
 
 // How many bytes are tested together.
 pub const BLOCK: usize = 32;
+
+// How many bytes are copied through an array.
+const SHORT: usize = 128;
 
 // The lesser of two numbers.
 pub fn lesser(a: usize, b: usize) -> usize
@@ -62,6 +66,50 @@ pub fn count_before(s: &[u8], low: u8, high: u8) -> usize
         i += 1;
     }
     i
+}
+
+// Copies a slice into another from an index on, where it fits.
+pub fn copy(s: &[u8], out: &mut [u8], at: usize)
+    ensures { λ r. ⌜ now (out .exit) ≡ copied (now (out .entry)) at (now (s .entry)) ⌝ }
+{
+    if out.len() < at {
+        return;
+    }
+    if out.len() - at < s.len() {
+        return;
+    }
+    copy_each(s, out, at)
+}
+
+// As `copy`, for a slice that is short: through an array, which overlaps neither slice, so that the compiler calls the
+// C library for it.
+pub fn copy_short(s: &[u8], out: &mut [u8], at: usize)
+    ensures { λ r. ⌜ now (out .exit) ≡ copied (now (out .entry)) at (now (s .entry)) ⌝ }
+{
+    if SHORT < s.len() {
+        copy(s, out, at);
+        return;
+    }
+    if out.len() < at {
+        return;
+    }
+    if out.len() - at < s.len() {
+        return;
+    }
+    let mut held = [0u8; SHORT];
+    copy_each(s, &mut held, 0);
+    copy_each(&held[..s.len()], out, at);
+}
+
+fn copy_each(s: &[u8], out: &mut [u8], at: usize)
+    requires { ⌜ at + length (now s) ≤ length (now out) ⌝ }
+    ensures { λ r. ⌜ now (out .exit) ≡ splice (now (out .entry)) at (now (s .entry)) ⌝ }
+{
+    let mut i: usize = 0;
+    while i < s.len() {
+        out[at + i] = s[i];
+        i += 1;
+    }
 }
 
 fn blocks_before(s: &[u8], low: u8, high: u8) -> usize

@@ -1,4 +1,5 @@
 use mathlib.Core.Path.{_≡_, sym, ap, _∙_, subst}
+use mathlib.Core.Logic.{⊎-elim}
 use Prim.Native.Nat.{ℕ, _-_}
 use native.Mathlib.Omega.{arith}
 use mathlib.Core.Bool.{true, false}
@@ -12,7 +13,8 @@ use Rattle.frame.specs.declared.candidate.Examined.{Examined}
 use Rattle.frame.specs.Verdict.{Verdict, verdict}
 use Rattle.answer.specs.Answer.{result}
 use Rattle.frame.specs.Answers.{readAnswer, readOut}
-use Rattle.frame.proofs.VerdictLaws.{bounded-no, bounded-long, bounded-judged, whole-judged, plain-whole}
+use Rattle.frame.proofs.VerdictLaws.{bounded-no, bounded-long, bounded-judged, whole-judged, whole-examined}
+use Rattle.frame.proofs.VerdictLaws.{plain-flagless}
 use Rattle.frame.proofs.VerdictLaws.{answer-refused, answer-no-room, answer-done, header-as, contents-of}
 use Rattle.frame.proofs.ContentsLaws.{rest-length, rest-first}
 use borrow.Author.Needs.{needs}
@@ -41,14 +43,23 @@ judged k =
     ap (λ (x : _). judgeWhole x (B k)) (k .kind-of .ensures)
     ∙ bounded-judged (W (T k)) (bounded (T k)) (B k) (ap (λ (m : ℕ). take m (drop 1 (W (T k)))) n)
 
-abbrev K : tie.After-examine-flagged → tie.After-kind-of
-K e = e .before .before .before
+abbrev K : tie.Joined2 → tie.After-kind-of
+K j = j .before .before
 
-found : (e : tie.After-examine-flagged) (x : Examined) → e .examine-flagged .result ≡ x
-    → ExaminesWhole (K e .kind-of .result) (B (K e)) x
-found e x q = subst (λ (y : Examined). ExaminesWhole (K e .kind-of .result) (B (K e)) y) q (e .examine-flagged .ensures)
+examined : (j : tie.Joined2) → ExaminesWhole (K j .kind-of .result) (B (K j)) (j .if2 .found)
+examined j =
+    let kind = K j .kind-of .result in
+    let body = B (K j) in
+    ⊎-elim
+    (λ w. subst (ExaminesWhole kind body) (sym (w .2))
+    (whole-examined kind body (plain-flagless _ _ (j .before .look-plain .ensures (w .0 .taken))) (w .1 .result)
+    (w .1 .ensures)))
+    (λ w. subst (ExaminesWhole kind body) (sym (w .2)) (w .1 .ensures)) (j .if2 .came)
 
-abbrev E : tie.After-known-told2 → tie.After-examine-flagged
+found : (j : tie.Joined2) (x : Examined) → j .if2 .found ≡ x → ExaminesWhole (K j .kind-of .result) (B (K j)) x
+found j x q = subst (ExaminesWhole (K j .kind-of .result) (B (K j))) q (examined j)
+
+abbrev E : tie.After-known-told2 → tie.Joined2
 E k = k .before .before .before
 
 sound : (k : tie.After-known-told2)
@@ -96,27 +107,11 @@ kind-of-requires c κs = search needs
 look-plain-requires : tie.Need-look-plain-requires
 look-plain-requires c κs = search needs
 
-read-plain-requires : tie.Need-read-plain-requires
-read-plain-requires c κs = let l = c .before .before in l .look-plain .ensures (c .before .if2 .taken)
+examine-plain-requires : tie.Need-examine-plain-requires
+examine-plain-requires c κs = c .before .look-plain .ensures (c .if2 .taken)
 
-same-length : tie.Need-same-length
-same-length c = search needs
-
-returns-2 : tie.Need-returns-2
-returns-2 c =
-    let r = c .before .before in
-    let l = r .before .before .before in
-    let k = l .before in
-    let out = St k .args .out .now in
-    let same = plain-whole (B k) _ (l .look-plain .ensures (r .before .before .if2 .taken)) (k .kind-of .result)
-    ∙ judged k in (
-      r .read-plain .ensures .0 ∙ ap (λ (v : Verdict). readAnswer v (length out)) same,
-      r .read-plain .ensures .1
-          ∙ ap (λ (v : Verdict). readOut v out) same,
-    )
-
-examine-flagged-requires : tie.Need-examine-flagged-requires
-examine-flagged-requires c κs = search needs
+examine-stuffed-requires : tie.Need-examine-stuffed-requires
+examine-stuffed-requires c κs = search needs
 
 enum-known-found : tie.Need-enum-known-found
 enum-known-found c = search needs
@@ -124,8 +119,8 @@ enum-known-found c = search needs
 enum-known-found-2 : tie.Need-enum-known-found-2
 enum-known-found-2 c = search needs
 
-returns-3 : tie.Need-returns-3
-returns-3 c =
+returns-2 : tie.Need-returns-2
+returns-2 c =
     let k = c .before in
     let s = sound k in
     answer-no-room _ _ (St (K (E k)) .args .out .now) (accepts k)
@@ -152,16 +147,16 @@ copy-contents-requires c κs =
 read-as-requires : tie.Need-read-as-requires
 read-as-requires c κs = search needs
 
-returns-4 : tie.Need-returns-4
-returns-4 c =
+returns-3 : tie.Need-returns-3
+returns-3 c =
     let e = c .before .before .before in
     answer-refused _ _ (St (K e) .args .out .now) (sym (judged (K e)) ∙ found e _ (c .before .found .given .1))
 
-same-length-2 : tie.Need-same-length-2
-same-length-2 c = search needs
+same-length : tie.Need-same-length
+same-length c = search needs
 
-returns-5 : tie.Need-returns-5
-returns-5 c =
+returns-4 : tie.Need-returns-4
+returns-4 c =
     let k = c .before .before .before .before .before .before .before in
     let s = sound k in
     let out = St (K (E k)) .args .out .now in
@@ -188,18 +183,16 @@ read-frame-spec =
     part-body-end
     kind-of-requires
     look-plain-requires
-    read-plain-requires
-    same-length
-    returns-2
-    examine-flagged-requires
+    examine-plain-requires
+    examine-stuffed-requires
     enum-known-found
     enum-known-found-2
-    returns-3
+    returns-2
     sub-copy-contents
     part-copy-contents-start
     part-copy-contents-end
     copy-contents-requires
     read-as-requires
-    returns-4
-    same-length-2
-    returns-5)
+    returns-3
+    same-length
+    returns-4)

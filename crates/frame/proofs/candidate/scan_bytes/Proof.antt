@@ -1,34 +1,31 @@
 use mathlib.Core.Path.{_≡_, refl, sym, ap, _∙_}
-use Prim.Native.Nat.{ℕ, _-_, _≤_}
+use Prim.Native.Nat.{ℕ, _≤_}
 use mathlib.Core.List.{List, [], _∷_}
 use native.Mathlib.Omega.{arith}
-use lib.ListN.{length, take}
-use lib.Seq.{length-take-le}
-use borrow.Author.Tests.{not-true, not-false}
-use Rattle.lists.specs.Choice.{within, noneOf}
-use Rattle.lists.proofs.Tests.{count-most}
-use Rattle.frame.specs.Checksum.{sumFrom, checksum}
-use Rattle.frame.proofs.EscapeLaws.{scan-as-is, scan-ends-bad, scan-unsound, scan-none, scan-counted}
+use lib.ListN.{length}
+use Rattle.lists.specs.Choice.{noneOf}
+use Rattle.frame.specs.Stuffing.{unstuff}
+use Rattle.frame.specs.Checksum.{sumFrom}
+use Rattle.frame.specs.Private.{scanFrom, scanOf}
+use Rattle.frame.specs.declared.candidate.Scan.the-variants.{Good}
+use Rattle.frame.proofs.EscapeLaws.{tally-flagged, last-flagged, last-escape, tally-unsound, tally-sound, tally-few}
 use borrow.Author.Needs.{needs}
 use Rattle.frame.proofs.candidate.scan_bytes.Statement.{statement}
 use Rattle.frame.proofs.candidate.scan_bytes.Tie as tie
 
-empty : (s : List ℕ) → length s ≡ 0 → s ≡ []
+abbrev S : tie.After-tally-pairs → List ℕ
+S t = t .before .before .before .before .args .s .now
+
+some : (t : tie.After-tally-pairs) → 1 ≤ length (S t)
+some t = omega (arith, t .before .before .if1 .left)
+
+empty : (s : List ℕ) → length s ≡ 0 → Good 0 0 ≡ scanOf s
+unfolding noneOf unstuff scanFrom sumFrom
 empty [] h = refl
 empty (b ∷ s) h = absurd (omega arith)
 
-abbrev S : tie.After-tally-escapes → List ℕ
-S t = t .before .before .before .before .before .before .args .s .now
-
-some : (t : tie.After-tally-escapes) → 1 ≤ length (S t)
-some t = omega (arith, t .before .before .before .before .if1 .left)
-
 returns : tie.Need-returns
-unfolding noneOf sumFrom
-returns c =
-    let s = c .before .before .args .s .now in
-    scan-as-is s (ap (noneOf (within 0xF3 0xF3)) (empty s (c .if1 .taken))) 0 0 (sym (c .if1 .taken))
-    (sym (ap checksum (empty s (c .if1 .taken))))
+returns c = empty _ (c .if1 .taken)
 
 sub-last : tie.Need-sub-last
 sub-last c = search needs
@@ -36,59 +33,49 @@ sub-last c = search needs
 shared-slice-read-last : tie.Need-shared-slice-read-last
 shared-slice-read-last c = search needs
 
+tally-pairs-requires : tie.Need-tally-pairs-requires
+tally-pairs-requires c κs = search needs
+
 returns-2 : tie.Need-returns-2
 returns-2 c =
-    let s = c .before .before .before .before .args .s .now in scan-ends-bad s _ (omega arith) refl (c .if2 .taken)
+    let t = c .before .before in tally-flagged (S t) _ (some t) (t .tally-pairs .ensures) (c .if2 .taken)
 
-sub-tally-escapes : tie.Need-sub-tally-escapes
-sub-tally-escapes c = search needs
-
-slice-aggregate-tally-escapes : tie.Need-slice-aggregate-tally-escapes
-slice-aggregate-tally-escapes c =
-    let s = c .before .before .before .before .before .args .s .now in
-    sym (length-take-le (length s - 1) s (omega arith))
-
-tally-escapes-requires : tie.Need-tally-escapes-requires
-tally-escapes-requires c κs =
-    let s = c .before .before .before .before .before .args .s .now in
-    omega (arith, length-take-le (length s - 1) s (omega arith), c .before .before .before .before .before .pre)
+is-flag-requires : tie.Need-is-flag-requires
+is-flag-requires c κs = search needs
 
 returns-3 : tie.Need-returns-3
 returns-3 c =
-    let t = c .before .before .before in
-    let n = t .before .before .if2 .left in
-    let k = t .tally-escapes .ensures in
-    scan-counted (S t) _ (some t) refl _ _ _ n (scan-none (S t) _ (some t) refl _ n (k .0) (c .if3 .taken)) (k .0)
-    (omega (arith, c .if3 .taken)) (k .1)
-
-escapes-sound-requires : tie.Need-escapes-sound-requires
-escapes-sound-requires c κs = search needs
+    let t = c .before .before .before .before in
+    last-flagged (S t) _ (some t) (t .tally-pairs .ensures) (sym (c .before .is-flag .ensures) ∙ c .if3 .taken)
 
 returns-4 : tie.Need-returns-4
 returns-4 c =
     let t = c .before .before .before .before .before in
-    scan-unsound (S t) _ (some t) refl (sym (c .before .escapes-sound .ensures) ∙ not-true _ (c .if4 .taken))
-
-cast-t7 : tie.Need-cast-t7
-cast-t7 c = search needs
-
-sub-t13 : tie.Need-sub-t13
-sub-t13 c =
-    let t = c .before .before .before .before .before .before in
-    omega (
-      arith,
-      count-most (within 0xF3 0xF3) (take (length (S t) - 1) (S t)),
-      length-take-le (length (S t) - 1) (S t)
-          (omega arith),
-      t .tally-escapes .ensures .0,
-    )
+    last-escape (S t) _ (some t) (t .tally-pairs .ensures) (c .before .before .before .if2 .left)
+    (sym (c .before .before .is-flag .ensures) ∙ c .before .if3 .left) (c .if4 .taken)
 
 returns-5 : tie.Need-returns-5
 returns-5 c =
-    let t = c .before .before .before .before .before .before in
-    let k = t .tally-escapes .ensures in
-    scan-counted (S t) _ (some t) refl _ _ _ (t .before .before .if2 .left)
-    (sym (c .before .before .escapes-sound .ensures) ∙ not-false _ (c .before .if4 .left)) (k .0) refl (k .1)
+    let e = c .before .before in
+    let t = e .before .before .before .before .before in
+    tally-unsound (S t) _ (some t) (t .tally-pairs .ensures) (e .before .before .before .if2 .left)
+    (sym (e .before .before .is-flag .ensures) ∙ e .before .if3 .left) (e .if4 .left) (c .if5 .taken)
+
+cast-t6 : tie.Need-cast-t6
+cast-t6 c = search needs
+
+sub-t10 : tie.Need-sub-t10
+sub-t10 c =
+    let t = c .before .before .before .before .before .before .before .before in
+    tally-few (S t) _ (some t) (t .tally-pairs .ensures)
+
+returns-6 : tie.Need-returns-6
+returns-6 c =
+    let f = c .before .before in
+    let e = f .before .before in
+    let t = e .before .before .before .before .before in
+    tally-sound (S t) _ (some t) (t .tally-pairs .ensures) (e .before .before .before .if2 .left)
+    (sym (e .before .before .is-flag .ensures) ∙ e .before .if3 .left) (e .if4 .left) (f .if5 .left)
 
 pub scan-bytes-spec : {M : Type 1} → statement M
 scan-bytes-spec =
@@ -97,13 +84,12 @@ scan-bytes-spec =
     returns
     sub-last
     shared-slice-read-last
+    tally-pairs-requires
     returns-2
-    sub-tally-escapes
-    slice-aggregate-tally-escapes
-    tally-escapes-requires
+    is-flag-requires
     returns-3
-    escapes-sound-requires
     returns-4
-    cast-t7
-    sub-t13
-    returns-5)
+    returns-5
+    cast-t6
+    sub-t10
+    returns-6)

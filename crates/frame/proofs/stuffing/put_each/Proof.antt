@@ -1,31 +1,51 @@
-use Prim.Native.Nat.{_-_, _≤_}
+use mathlib.Core.Path.{_≡_, refl, sym, ap, _∙_}
+use Prim.Native.Nat.{ℕ, _+_, _-_, _≤_}
+use native.Mathlib.Nat.{add-zero}
+use mathlib.Core.List.{List, [], _∷_}
+use Rattle.lists.specs.Splice.{splice}
+use Rattle.lists.proofs.Splices.{splice-nil}
+use Rattle.frame.specs.Stuffing.{stuff, stuffByte}
 use native.Mathlib.Omega.{arith}
-use lib.ListN.{length}
-use Rattle.frame.proofs.StuffingLaws.{Stuffed, stuffed-none, stuffed-more, stuffed-all, stuff-room}
+use lib.ListN.{length, getD}
+use Rattle.frame.proofs.StuffingLaws.{Stuffed, stuffed-none, stuffed-more, stuffed-last, stuffed-room, stuffed-fits}
 use borrow.Author.Needs.{needs}
 use Rattle.frame.proofs.stuffing.put_each.Statement.{statement}
 use Rattle.frame.proofs.stuffing.put_each.Tie as tie
 
 abbrev Inv-loop : tie.InvT-loop
-Inv-loop s out₀ from at₀ i₀ out at i = (i ≤ length s) × Stuffed s out₀ from i at out
+Inv-loop s out₀ from n at₀ i₀ out at i = (i + 1 ≤ n) × (n ≡ length s) × Stuffed s out₀ from i at out
 
 abbrev μ-loop : tie.MeasureT-loop
-μ-loop s out₀ from at₀ i₀ out at i = length s - i
+μ-loop s out₀ from n at₀ i₀ out at i = n - i
+
+empty : (s out : List ℕ) (from : ℕ) → length s ≡ 0
+    → (from ≡ from + length (stuff s)) × (out ≡ splice out from (stuff s))
+unfolding stuff
+empty [] out from h = (sym (add-zero from), sym (splice-nil out from))
+empty (b ∷ s) out from h = absurd (omega arith)
+
+returns : tie.Need-returns Inv-loop μ-loop
+returns c =
+    let a = c .before .before .before .args in
+    let e = empty (a .s .now) (a .out .now) (a .from) (c .if1 .taken) in (e .0, e .1)
 
 loop-holds : tie.Need-loop-holds Inv-loop μ-loop
-loop-holds c = (search needs, stuffed-none _ _ _ (c .before .before .pre))
+loop-holds c =
+    let s = c .before .before .before in (omega (arith, c .if1 .left), refl, stuffed-none _ _ _ (s .pre))
 
-shared-slice-read-put-byte : tie.Need-shared-slice-read-put-byte Inv-loop μ-loop
-shared-slice-read-put-byte c = search needs
+sub-loop : tie.Need-sub-loop Inv-loop μ-loop
+sub-loop c = search needs
 
-put-byte-requires : tie.Need-put-byte-requires Inv-loop μ-loop
-put-byte-requires c κs =
+shared-slice-read-put-pair : tie.Need-shared-slice-read-put-pair Inv-loop μ-loop
+shared-slice-read-put-pair c = search needs
+
+put-pair-requires : tie.Need-put-pair-requires Inv-loop μ-loop
+put-pair-requires c κs =
     let l = c .before .before .before in
-    omega (
-      arith,
-      stuff-room (l .before .before .before .args .s .now) (l .loop .i)
-          (c .before .before .loop-test .taken),
-    )
+    let s = l .before .before .before .before in
+    let t = c .before .before .loop-test .taken in
+    stuffed-room (s .args .s .now) (s .args .out .now) (s .args .from) (s .pre) (l .loop .i) (l .loop .at) _
+    (omega (arith, l .loop .inv .1)) (l .loop .inv .2) (omega (arith, l .loop .inv .1))
 
 add-i : tie.Need-add-i Inv-loop μ-loop
 add-i c = search needs
@@ -36,20 +56,48 @@ loop-less c = search needs
 loop-again : tie.Need-loop-again Inv-loop μ-loop
 loop-again c =
     let p = c .before .before in
-    let l = p .before .before .before .before in (
+    let l = p .before .before .before .before in
+    let s = l .before .before .before .before in
+    let t = p .before .before .before .loop-test .taken in (
       search needs,
-      stuffed-more _ _ _ (l .before .before .before .pre) _ _ _ _ _
-          (p .before .before .before .loop-test .taken) (l .loop .inv .1)
-          (p .put-byte .ensures .0) (p .put-byte .ensures .1),
+      refl,
+      stuffed-more (s .args .s .now) (s .args .out .now) (s .args .from) (s .pre) (l .loop .i) (l .loop .at) _
+          (omega (arith, l .loop .inv .1)) (l .loop .inv .2) _ _ (omega (arith, l .loop .inv .1))
+          (p .put-pair .ensures .0) (p .put-pair .ensures .1),
+    )
+
+sub-put-byte : tie.Need-sub-put-byte Inv-loop μ-loop
+sub-put-byte c = search needs
+
+shared-slice-read-put-byte : tie.Need-shared-slice-read-put-byte Inv-loop μ-loop
+shared-slice-read-put-byte c = search needs
+
+put-byte-requires : tie.Need-put-byte-requires Inv-loop μ-loop
+put-byte-requires c κs =
+    let l = c .before .before .before in
+    let s = l .before .before .before .before in
+    let e : length (s .args .s .now) - 1 ≡ l .loop .i = omega (arith, l .loop .inv .0, l .loop .inv .1) in
+    omega (
+      arith,
+      ap (λ (k : ℕ). length (stuffByte (getD (s .args .s .now) k 0))) e,
+      stuffed-fits (s .args .s .now) (s .args .out .now) (s .args .from) (s .pre) (l .loop .i) (l .loop .at) _
+          (omega (arith, l .loop .inv .0, l .loop .inv .1)) (l .loop .inv .2),
     )
 
 same-length : tie.Need-same-length Inv-loop μ-loop
-same-length c = c .before .loop .inv .1 .2
+same-length c =
+    let z = c .before .before .before .before .before .before .loop .inv .2 .size in search needs
 
-returns : tie.Need-returns Inv-loop μ-loop
-returns c =
-    let l = c .before in
-    let r = stuffed-all _ _ _ (l .before .before .before .pre) _ _ _ (c .loop-test .left) (l .loop .inv .1) in
+returns-2 : tie.Need-returns-2 Inv-loop μ-loop
+returns-2 c =
+    let p = c .before .before in
+    let l = p .before .before .before .before in
+    let s = l .before .before .before .before in
+    let e : length (s .args .s .now) - 1 ≡ l .loop .i = omega (arith, l .loop .inv .0, l .loop .inv .1) in
+    let r = stuffed-last (s .args .s .now) (s .args .out .now) (s .args .from) (s .pre) (l .loop .i) (l .loop .at) _
+    (omega (arith, l .loop .inv .0, l .loop .inv .1)) (l .loop .inv .2) _ _ (omega (arith, l .loop .inv .0, l .loop .inv .1))
+    (p .put-byte .ensures .0 ∙ ap (λ (k : ℕ). l .loop .at + length (stuffByte (getD (s .args .s .now) k 0))) e)
+    (p .put-byte .ensures .1 ∙ ap (λ (k : ℕ). splice (l .loop .out) (l .loop .at) (stuffByte (getD (s .args .s .now) k 0))) e) in
     (r .0, r .1)
 
 pub put-each-spec : {M : Type 1} → statement M
@@ -58,11 +106,16 @@ put-each-spec =
     (tie.spec
     Inv-loop
     μ-loop
+    returns
     loop-holds
-    shared-slice-read-put-byte
-    put-byte-requires
+    sub-loop
+    shared-slice-read-put-pair
+    put-pair-requires
     add-i
     loop-less
     loop-again
+    sub-put-byte
+    shared-slice-read-put-byte
+    put-byte-requires
     same-length
-    returns)
+    returns-2)

@@ -1,7 +1,10 @@
 use mathlib.Core.Path.{_≡_, sym, ap, _∙_}
 use Prim.Native.Nat.{ℕ, _+_}
 use Rattle.frame.specs.Stuffing.{stuff}
+use native.Mathlib.Omega.{arith}
+use lib.ListN.{length}
 use Rattle.lists.specs.Splice.{splice}
+use Rattle.lists.proofs.Splices.{copied-fits}
 use Rattle.frame.proofs.StuffingLaws.{stuff-same}
 use borrow.Author.Needs.{needs}
 use Rattle.frame.proofs.stuffing.put_stuffed.Statement.{statement}
@@ -23,7 +26,8 @@ returns c =
     let plain : stuff (a .s .now) ≡ a .s .now =
     stuff-same (a .s .now) (sym (s .pre .0) ∙ c .before .before .before .before .if1 .taken) in (
       ap (λ (n : ℕ). a .from + n) (s .pre .0),
-      c .before .before .copy .ensures
+      copied-fits (a .s .now) (a .out .now) _ (a .from) (omega (arith, s .pre .1, ap length plain))
+          (c .before .before .copy .ensures)
           ∙ ap (splice (a .out .now) (a .from)) (sym plain),
     )
 

@@ -3,10 +3,10 @@ use Prim.Native.Nat.{_+_, _-_, _≤_}
 use native.Mathlib.Omega.{arith}
 use lib.ListN.{length, length-set}
 use lib.Seq.{paste, paste-zero}
 use Rattle.lists.proofs.Splices.{paste-more, paste-all}
 use borrow.Author.Needs.{needs}
-use Rattle.frame.proofs.bytes.copy.Statement.{statement}
-use Rattle.frame.proofs.bytes.copy.Tie as tie
+use Rattle.lists.proofs.copy_each.Statement.{statement}
+use Rattle.lists.proofs.copy_each.Tie as tie
 
 abbrev Inv-loop : tie.InvT-loop
 Inv-loop s out₀ at i₀ out i = (i ≤ length s) × (length out ≡ length out₀) × (out ≡ paste out₀ at s i)
@@ -53,8 +53,8 @@ returns c =
     paste-all (a .out .now) (a .at) (a .s .now) (l .loop .out) (l .loop .i) (l .loop .inv .2) (l .loop .inv .0)
     (c .loop-test .left)
 
-pub copy-spec : {M : Type 1} → statement M
-copy-spec =
+pub copy-each-spec : {M : Type 1} → statement M
+copy-each-spec =
     tie.close
     (tie.spec
     Inv-loop
