@@ -362,6 +362,13 @@ module _ (body : List ℕ) (sum : ℕ) (p : Unescaped body sum) where
   pub plain-flagless : flagless body ≡ true
   plain-flagless = none-narrower 0xF0 0xF3 0xF0 0xF2 body (omega arith) (omega arith) (p .clear)
 
+  -- what stands after an index is as long as it is unstuffed
+  pub plain-rest : (start : ℕ) → length (drop start body) ≡ length (unstuffedBytes (unstuff false (drop start body)))
+  unfolding unstuffedBytes
+  plain-rest start =
+      sym (ap (λ (r : Unstuffed). length (unstuffedBytes r))
+      (unstuff-plain (drop start body) (none-drop (within 0xF3 0xF3) start body escapeless)))
+
   pub plain-whole : (kind : Kind) → judge kind body ≡ judgeWhole kind body
   plain-whole kind = sym (whole-judged kind body plain-flagless)
 

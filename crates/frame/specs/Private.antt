@@ -148,6 +148,10 @@ pub record SoundAt (kind : Kind) (body : List ℕ) (header : Header) (start len 
   pub follows : unstuff false (drop start body) ≡ bytes (contents ++ (checksum contents ∷ []))
   pub inside : start ≤ length body
 
+-- A body that is neither empty nor too long, and whose last byte is none of F0 to F3.
+abbrev pub EndsPlain : List ℕ → Type 0
+EndsPlain body = (1 ≤ length body) × (length body ≤ 118) × (isStuffed (lastOf body) ≡ false)
+
 -- A body in which no byte is F0 to F3, and its exclusive or.
 pub record Unescaped (body : List ℕ) (sum : ℕ) : Type 0 where
   pub limit : length body ≤ 118

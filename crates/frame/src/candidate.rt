@@ -16,7 +16,7 @@ ghost use Rattle.frame.specs.Flags.{isFlag};
 ghost use Rattle.frame.specs.Stuffing.{unstuff, prepend};
 ghost use Rattle.frame.specs.Verdict.{addressCount};
 ghost use Rattle.frame.specs.Private.{isBounded, nextAt, scanOf, isSound, goodPair, lowerByte, isEscape, lifts};
-ghost use Rattle.frame.specs.Private.{unstuffedBytes, lastAt, headerKind, AddressesIn, Unescaped};
+ghost use Rattle.frame.specs.Private.{unstuffedBytes, lastAt, headerKind, AddressesIn, EndsPlain, Unescaped};
 ghost use Rattle.frame.specs.Private.{Tallied, WithoutHeader, ExaminesWhole};
 
 // The most bytes that may stand between the flags.
@@ -232,31 +232,28 @@ fn source_after(body: &[u8], to: u8, at: usize) -> Addresses
     }
 }
 
-// Whether no byte of a body is F0 to F3, and then their exclusive or, in one pass. Bodies that are empty or too long
-// are left to the other way.
-pub(crate) fn look_plain(body: &[u8]) -> Looked
-    ensures { λ r. ⌜ (r .clear ≡ true → Unescaped (now (body .entry)) (r .sum)) ⌝ }
+// Whether a body may be without F0 to F3: it is neither empty nor too long, and its last byte is none of them.
+pub(crate) fn ends_plain(body: &[u8]) -> bool
+    ensures { λ r. ⌜ (r ≡ true → EndsPlain (now (body .entry))) ⌝ }
 {
     let n = body.len();
     if n == 0 {
-        return Looked {
-            clear: false,
-            sum: 0,
-        };
+        return false;
     }
     if BODY_LIMIT < n {
-        return Looked {
-            clear: false,
-            sum: 0,
-        };
+        return false;
     }
     let last = body[n - 1];
-    if flags::is_stuffed(last) {
-        return Looked {
-            clear: false,
-            sum: 0,
-        };
-    }
+    !flags::is_stuffed(last)
+}
+
+// Whether no byte of such a body is F0 to F3, and then their exclusive or, in one pass.
+pub(crate) fn look_plain(body: &[u8]) -> Looked
+    requires { ⌜ EndsPlain (now body) ⌝ }
+    ensures { λ r. ⌜ (r .clear ≡ true → Unescaped (now (body .entry)) (r .sum)) ⌝ }
+{
+    let n = body.len();
+    let last = body[n - 1];
     let looked = crate::bytes::look(&body[..n - 1], flags::EXTENDED_START, flags::ESCAPE);
     Looked {
         clear: looked.clear,
@@ -343,12 +340,12 @@ fn without_header(header: Header, len: usize, sum: u8) -> Rest
 pub(crate) fn last_at(s: &[u8]) -> usize
     ensures { λ r. ⌜ r ≡ lastAt (now (s .entry)) ⌝ }
 {
-    let n = s.len();
-    if s.len() < 2 {
+    let len = s.len();
+    if len < 2 {
         return 0;
     }
-    let b = s[n - 2];
-    if b == flags::ESCAPE { n - 2 } else { n - 1 }
+    let b = s[len - 2];
+    if b == flags::ESCAPE { len - 2 } else { len - 1 }
 }
 
 // What an escape adds to the byte after it.

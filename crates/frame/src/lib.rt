@@ -19,9 +19,9 @@ ghost use Rattle.answer.specs.Draft.{draftAnswer, draftOut, writtenMeans};
 ghost use Rattle.frame.specs.Flags.{candidateOf};
 ghost use Rattle.frame.specs.Stuffing.{unstuff};
 ghost use Rattle.frame.specs.Frame.{standard, extended};
-ghost use Rattle.frame.specs.Verdict.{verdict};
+ghost use Rattle.frame.specs.Verdict.{judge, verdict};
 ghost use Rattle.frame.specs.Answers.{frameDraft, readMeans, judgeAnswer, readAnswer, readOut, leftIn};
-ghost use Rattle.frame.specs.Private.{frameOf, readAs, unstuffedBytes};
+ghost use Rattle.frame.specs.Private.{frameOf, readAs, unstuffedBytes, judgeWhole, Unescaped, ExaminesWhole};
 
 // The longest frame on the wire, flags and escapes included.
 const WIRE_LIMIT: usize = 120;
@@ -80,22 +80,14 @@ pub fn read_frame(wire: &[u8], out: &mut [u8]) -> Read
     let start = wire[0];
     let body = &wire[1..n - 1];
     let kind = flags::kind_of(start);
-    let looked = candidate::look_plain(body);
-    let found = if looked.clear {
-        plain::examine_plain(kind, body, looked.sum)
-    } else {
-        candidate::examine_stuffed(kind, body)
-    };
-    match found {
-        Examined::Unsound(why) => Read::Refused(why),
-        Examined::Sound { header, start, len } => {
-            if out.len() < len {
-                return Read::Refused(Refusal::NoRoom);
-            }
-            copy_contents(&body[start..], len, out);
-            read_as(header, len)
+    if candidate::ends_plain(body) {
+        let looked = candidate::look_plain(body);
+        if looked.clear {
+            return read_plain(kind, body, looked.sum, out);
         }
+        return read_stuffed(kind, body, out);
     }
+    read_stuffed(kind, body, out)
 }
 
 // Judges the candidate that a start flag of this kind, the first `len` bytes of an array (all where it has fewer) and
@@ -134,6 +126,44 @@ fn write_frame(header: Header, contents: &[u8], out: &mut [u8]) -> Written
     let c = stuffing::put_byte(sum, out, b);
     out[c] = flags::STOP;
     Written::Length(n)
+}
+
+// Reads a body in which no byte is F0 to F3 and whose exclusive or is known: its contents are copied as they are.
+fn read_plain(kind: Kind, body: &[u8], sum: u8, out: &mut [u8]) -> Read
+    requires { ⌜ Unescaped (now body) sum ⌝ }
+    ensures { λ r. ⌜ readMeans r ≡ readAnswer (judge kind (now (body .entry))) (length (now (out .entry))) ⌝ }
+    ensures { λ r. ⌜ now (out .exit) ≡ readOut (judge kind (now (body .entry))) (now (out .entry)) ⌝ }
+{
+    let found = plain::examine_plain(kind, body, sum);
+    match found {
+        Examined::Unsound(why) => Read::Refused(why),
+        Examined::Sound { header, start, len } => {
+            let room = out.len();
+            if room < len {
+                return Read::Refused(Refusal::NoRoom);
+            }
+            lists::copy_short(&body[start..start + len], out, 0);
+            read_as(header, len)
+        }
+    }
+}
+
+// Reads any body. It is called from two places, so that the compiler keeps it apart from the plain one.
+fn read_stuffed(kind: Kind, body: &[u8], out: &mut [u8]) -> Read
+    ensures { λ r. ⌜ readMeans r ≡ readAnswer (judgeWhole kind (now (body .entry))) (length (now (out .entry))) ⌝ }
+    ensures { λ r. ⌜ now (out .exit) ≡ readOut (judgeWhole kind (now (body .entry))) (now (out .entry)) ⌝ }
+{
+    let found = candidate::examine_stuffed(kind, body);
+    match found {
+        Examined::Unsound(why) => Read::Refused(why),
+        Examined::Sound { header, start, len } => {
+            if out.len() < len {
+                return Read::Refused(Refusal::NoRoom);
+            }
+            copy_contents(&body[start..], len, out);
+            read_as(header, len)
+        }
+    }
 }
 
 fn read_as(header: Header, len: usize) -> Read
@@ -191,16 +221,24 @@ fn judge_first(kind: Kind, s: &mut [u8], len: usize) -> Read
     judge_whole(kind, &mut s[..n])
 }
 
+// The verdict on what stands between a start flag of this kind and a stop flag.
+fn examine_whole(kind: Kind, body: &[u8]) -> Examined
+    ensures { λ r. ⌜ ExaminesWhole kind (now (body .entry)) r ⌝ }
+{
+    if candidate::ends_plain(body) {
+        let looked = candidate::look_plain(body);
+        if looked.clear {
+            return plain::examine_plain(kind, body, looked.sum);
+        }
+    }
+    candidate::examine_stuffed(kind, body)
+}
+
 fn judge_whole(kind: Kind, s: &mut [u8]) -> Read
     ensures { λ r. ⌜ readMeans r ≡ judgeAnswer (verdict (candidateOf kind (now (s .entry)))) ⌝ }
     ensures { λ r. ⌜ now (s .exit) ≡ leftIn (verdict (candidateOf kind (now (s .entry)))) (now (s .entry)) ⌝ }
 {
-    let looked = candidate::look_plain(s);
-    let found = if looked.clear {
-        plain::examine_plain(kind, s, looked.sum)
-    } else {
-        candidate::examine_stuffed(kind, s)
-    };
+    let found = examine_whole(kind, s);
     match found {
         Examined::Unsound(refusal) => Read::Refused(refusal),
         Examined::Sound { header, start, len } => {

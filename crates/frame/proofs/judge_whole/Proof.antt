@@ -1,42 +1,28 @@
-use mathlib.Core.Path.{_≡_, _∙_, sym, subst}
-use mathlib.Core.Logic.{⊎-elim}
+use mathlib.Core.Path.{_≡_, _∙_, subst}
 use Rattle.frame.specs.Private.{ExaminesWhole, SoundAt}
 use Rattle.frame.specs.declared.candidate.Examined.{Examined}
 use Rattle.frame.proofs.VerdictLaws.{judge-refused, judge-accepted, header-as, candidate-verdict}
-use Rattle.frame.proofs.VerdictLaws.{whole-verdict, whole-examined, plain-flagless}
+use Rattle.frame.proofs.VerdictLaws.{whole-verdict}
 use Rattle.frame.proofs.ContentsLaws.{rest-length, rest-first, left-refused, left-accepted}
 use borrow.Author.Needs.{needs}
 use Rattle.frame.proofs.judge_whole.Statement.{statement}
 use Rattle.frame.proofs.judge_whole.Tie as tie
 
-abbrev St : tie.Joined1 → tie.Start
-St j = j .before .before .before .before
+abbrev St : tie.After-examine-whole → tie.Start
+St e = e .before .before .before
 
-examined : (j : tie.Joined1) → ExaminesWhole (St j .args .kind) (St j .args .s .now) (j .if1 .found)
-examined j =
-    let a = St j .args in
-    ⊎-elim
-    (λ w. subst (ExaminesWhole (a .kind) (a .s .now)) (sym (w .3))
-    (whole-examined (a .kind) (a .s .now) (plain-flagless _ _ (j .before .look-plain .ensures (w .0 .taken)))
-    (w .2 .result) (w .2 .ensures)))
-    (λ w. subst (ExaminesWhole (a .kind) (a .s .now)) (sym (w .3)) (w .2 .ensures)) (j .if1 .came)
-
-found : (j : tie.Joined1) (x : Examined) → j .if1 .found ≡ x → ExaminesWhole (St j .args .kind) (St j .args .s .now) x
-found j x q = subst (ExaminesWhole (St j .args .kind) (St j .args .s .now)) q (examined j)
+found : (e : tie.After-examine-whole) (x : Examined) → e .examine-whole .result ≡ x
+    → ExaminesWhole (St e .args .kind) (St e .args .s .now) x
+found e x q =
+    subst (λ (y : Examined). ExaminesWhole (St e .args .kind) (St e .args .s .now) y) q (e .examine-whole .ensures)
 
 sound : (k : tie.After-known-told2)
     → SoundAt (St (k .before .before .before) .args .kind) (St (k .before .before .before) .args .s .now)
     (k .before .found2 .given .0 .0) (k .before .found2 .given .0 .1 .0) (k .before .found2 .given .0 .1 .1 .0)
 sound k = found (k .before .before .before) _ (k .before .found2 .given .1) .1
 
-look-plain-requires : tie.Need-look-plain-requires
-look-plain-requires c κs = search needs
-
-examine-plain-requires : tie.Need-examine-plain-requires
-examine-plain-requires c κs = c .before .before .look-plain .ensures (c .before .if1 .taken)
-
-examine-stuffed-requires : tie.Need-examine-stuffed-requires
-examine-stuffed-requires c κs = search needs
+examine-whole-requires : tie.Need-examine-whole-requires
+examine-whole-requires c κs = search needs
 
 enum-known-found : tie.Need-enum-known-found
 enum-known-found c = search needs
@@ -76,9 +62,7 @@ pub judge-whole-spec : {M : Type 1} → statement M
 judge-whole-spec =
     tie.close
     (tie.spec
-    look-plain-requires
-    examine-plain-requires
-    examine-stuffed-requires
+    examine-whole-requires
     enum-known-found
     enum-known-found-2
     bring-contents-requires

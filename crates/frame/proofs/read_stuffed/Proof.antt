@@ -1,0 +1,123 @@
+use mathlib.Core.Path.{_≡_, sym, ap, _∙_, subst}
+use Prim.Native.Nat.{ℕ, _-_}
+use native.Mathlib.Omega.{arith}
+use mathlib.Core.Bool.{false}
+use mathlib.Core.List.{List, _++_}
+use lib.ListN.{length, take, drop, length-drop}
+use lib.Seq.{take-all}
+use Rattle.frame.specs.Stuffing.{unstuff}
+use Rattle.frame.specs.Private.{frameOf, judgeWhole, ExaminesWhole, SoundAt, unstuffedBytes}
+use Rattle.frame.specs.declared.candidate.Examined.{Examined}
+use Rattle.answer.specs.Answer.{result}
+use Rattle.frame.proofs.VerdictLaws.{whole-judged, answer-refused, answer-no-room, answer-done, header-as}
+use Rattle.frame.proofs.VerdictLaws.{contents-of}
+use Rattle.frame.proofs.ContentsLaws.{rest-length, rest-first}
+use borrow.Author.Needs.{needs}
+use Rattle.frame.proofs.read_stuffed.Statement.{statement}
+use Rattle.frame.proofs.read_stuffed.Tie as tie
+
+abbrev St : tie.After-examine-stuffed → tie.Start
+St e = e .before .before .before
+
+found : (e : tie.After-examine-stuffed) (x : Examined) → e .examine-stuffed .result ≡ x
+    → ExaminesWhole (St e .args .kind) (St e .args .body .now) x
+found e x q = subst (ExaminesWhole (St e .args .kind) (St e .args .body .now)) q (e .examine-stuffed .ensures)
+
+abbrev E : tie.After-known-told2 → tie.After-examine-stuffed
+E k = k .before .before .before
+
+sound : (k : tie.After-known-told2)
+    → SoundAt (St (E k) .args .kind) (St (E k) .args .body .now) (k .before .found2 .given .0 .0)
+    (k .before .found2 .given .0 .1 .0) (k .before .found2 .given .0 .1 .1 .0)
+sound k = found (E k) _ (k .before .found2 .given .1) .1
+
+accepts : (k : tie.After-known-told2)
+    → judgeWhole (St (E k) .args .kind) (St (E k) .args .body .now)
+    ≡ result (frameOf (k .before .found2 .given .0 .0) (sound k .contents))
+accepts k = whole-judged _ _ (found (E k) _ (k .before .found2 .given .1) .0) ∙ sound k .judged
+
+-- the part from the contents on
+rest : (k : tie.After-known-told2)
+    → take (length (St (E k) .args .body .now) - k .before .found2 .given .0 .1 .0)
+    (drop (k .before .found2 .given .0 .1 .0) (St (E k) .args .body .now))
+    ≡ drop (k .before .found2 .given .0 .1 .0) (St (E k) .args .body .now)
+rest k =
+    take-all (length (St (E k) .args .body .now) - k .before .found2 .given .0 .1 .0)
+    (drop (k .before .found2 .given .0 .1 .0) (St (E k) .args .body .now))
+    (omega (arith, length-drop (k .before .found2 .given .0 .1 .0) (St (E k) .args .body .now)))
+
+examine-stuffed-requires : tie.Need-examine-stuffed-requires
+examine-stuffed-requires c κs = search needs
+
+enum-known-found : tie.Need-enum-known-found
+enum-known-found c = search needs
+
+enum-known-found-2 : tie.Need-enum-known-found-2
+enum-known-found-2 c = search needs
+
+returns : tie.Need-returns
+returns c =
+    let k = c .before in
+    let s = sound k in
+    answer-no-room _ _ (St (E k) .args .out .now) (accepts k)
+    (omega (arith, c .if1 .taken, s .counted, ap length (contents-of (k .before .found2 .given .0 .0) (s .contents))))
+
+sub-copy-contents : tie.Need-sub-copy-contents
+sub-copy-contents c = let s = sound (c .before) in omega (arith, s .inside)
+
+part-copy-contents-start : tie.Need-part-copy-contents-start
+part-copy-contents-start c = let s = sound (c .before) in omega (arith, s .inside)
+
+part-copy-contents-end : tie.Need-part-copy-contents-end
+part-copy-contents-end c = search needs
+
+copy-contents-requires : tie.Need-copy-contents-requires
+copy-contents-requires c κs =
+    let k = c .before .before .before in
+    let s = sound k in (
+      ap (λ (l : List ℕ). length (unstuffedBytes (unstuff false l))) (rest k) ∙ rest-length s,
+      c .before .before .if1 .left,
+    )
+
+read-as-requires : tie.Need-read-as-requires
+read-as-requires c κs = search needs
+
+returns-2 : tie.Need-returns-2
+returns-2 c =
+    let e = c .before .before .before in
+    answer-refused _ _ (St e .args .out .now) (found e _ (c .before .found .given .1))
+
+same-length : tie.Need-same-length
+same-length c = search needs
+
+returns-3 : tie.Need-returns-3
+returns-3 c =
+    let k = c .before .before .before .before .before .before .before in
+    let s = sound k in
+    let out = St (E k) .args .out .now in
+    let n = ap length (contents-of (k .before .found2 .given .0 .0) (s .contents)) in
+    let done = answer-done _ _ out (accepts k)
+    (omega (arith, n, s .counted, c .before .before .before .before .before .before .if1 .left)) in (
+      c .read-as .ensures ∙ header-as (k .before .found2 .given .0 .0) (s .contents) _ (s .counted) ∙ done .0,
+      rest-first s out _ (c .before .before .before .copy-contents .ensures
+          ∙ ap (λ (l : List ℕ). take (k .before .found2 .given .0 .1 .1 .0) (unstuffedBytes (unstuff false l))
+          ++ drop (k .before .found2 .given .0 .1 .1 .0) out) (rest k))
+          ∙ done .1,
+    )
+
+pub read-stuffed-spec : {M : Type 1} → statement M
+read-stuffed-spec =
+    tie.close
+    (tie.spec
+    examine-stuffed-requires
+    enum-known-found
+    enum-known-found-2
+    returns
+    sub-copy-contents
+    part-copy-contents-start
+    part-copy-contents-end
+    copy-contents-requires
+    read-as-requires
+    returns-2
+    same-length
+    returns-3)
