@@ -4,6 +4,7 @@
 mod commands;
 mod leases;
 mod lines;
+mod operations;
 mod print;
 mod replies;
 mod wire;
@@ -12,33 +13,6 @@ mod workouts;
 
 use command::entries;
 
-// Operations, by their index among those that `operation` knows.
-const FRAME: usize = 0;
-
-const CONTENTS: usize = 1;
-
-const STANDARD: usize = 2;
-
-const EXTENDED: usize = 3;
-
-const NUMBER: usize = 4;
-
-const COMMAND: usize = 5;
-
-const STEP: usize = 7;
-
-const ITEM: usize = 8;
-
-const STATUS: usize = 9;
-
-const TIME: usize = 11;
-
-const LEASE: usize = 12;
-
-const LINE: usize = 13;
-
-const NAMES: usize = 14;
-
 fn main() {
     let mut text = io::large_buffer();
     let n = io::read_full(libc::STDIN_FILENO, &mut text);
@@ -46,60 +20,38 @@ fn main() {
 }
 
 fn run_all(text: &[u8]) {
-    let mut at = 0;
-    while at < text.len() {
-        let line = words::upto(&text[at..], b'\n');
-        run_line(line);
-        let end = at + line.len();
-        if end == text.len() {
-            return;
-        }
-        at = end + 1;
+    let n = words::parts(text, b'\n');
+    let mut k = 0;
+    while k < n {
+        run_line(words::nth(text, b'\n', k));
+        k += 1;
     }
 }
 
+// Empty lines and comments are passed over.
 fn run_line(line: &[u8]) {
-    if !is_example(line) {
-        return;
+    match words::byte_at(line, 0) {
+        0 | b'#' => {}
+        _ => {
+            print::text(words::nth(line, b' ', 0));
+            run(
+                operations::named(words::nth(line, b' ', 1)),
+                words::after(line, b' ', 2),
+            );
+            print::say(print::LINE_END, 0, 0, 0);
+        }
     }
-    print::text(words::nth(line, 0));
-    run(operation(words::nth(line, 1)), words::after(line, b' ', 2));
-    print::character(b'\n');
-}
-
-// Not empty, and no comment.
-fn is_example(line: &[u8]) -> bool {
-    if line.len() == 0 {
-        return false;
-    }
-    line[0] != b'#'
-}
-
-fn operation(name: &[u8]) -> usize {
-    words::index_among(
-        b"frame contents standard extended number command inside step item status distance time lease line names",
-        15,
-        name,
-    )
 }
 
 fn run(operation: usize, arguments: &[u8]) {
-    if operation <= STATUS {
-        return run_on_bytes(operation, arguments);
+    match operation {
+        operations::DISTANCE => workouts::write(false, arguments),
+        operations::TIME => workouts::write(true, arguments),
+        operations::LEASE => leases::run_calls(arguments),
+        operations::LINE => lines::run_calls(arguments),
+        operations::NAMES => replies::print_names(),
+        _ => run_on_bytes(operation, arguments),
     }
-    if operation <= TIME {
-        return workouts::write(operation == TIME, arguments);
-    }
-    if operation == LEASE {
-        return leases::run_calls(arguments);
-    }
-    if operation == LINE {
-        return lines::run_calls(arguments);
-    }
-    if operation == NAMES {
-        return replies::print_names();
-    }
-    print::character(b'?');
 }
 
 // The arguments are bytes.
@@ -110,51 +62,47 @@ fn run_on_bytes(operation: usize, arguments: &[u8]) {
 }
 
 fn run_bytes(operation: usize, bytes: &[u8]) {
-    if operation == FRAME {
-        return wire::read(bytes);
+    match operation {
+        operations::FRAME => wire::read(bytes),
+        operations::CONTENTS => wire::print_contents(bytes),
+        operations::STANDARD => wire::print_again(print::STANDARD, 0, 0, bytes),
+        operations::NUMBER => wire::print_number(bytes),
+        _ => run_at(
+            operation,
+            words::byte_at(bytes, 0),
+            entries::part(bytes, 1, bytes.len()),
+        ),
     }
-    if operation == CONTENTS {
-        return wire::print_contents(bytes);
-    }
-    if operation == STANDARD {
-        return wire::print_standard(bytes);
-    }
-    if operation == NUMBER {
-        return wire::print_number(bytes);
-    }
-    run_at(
-        operation,
-        words::byte_at(bytes, 0),
-        entries::part(bytes, 1, bytes.len()),
-    )
 }
 
 // The first of the bytes is a number or an address.
 fn run_at(operation: usize, n: u8, bytes: &[u8]) {
-    if operation == COMMAND {
-        return commands::print_command(bytes, n as usize);
+    match operation {
+        operations::COMMAND => commands::print_command(bytes, n as usize),
+        operations::STEP => {
+            commands::print_step(print::STEP, bytes, n as usize, print::NEXT);
+        }
+        operations::ITEM => commands::print_numbered(commands::ITEMS, bytes, 0, n as usize),
+        _ => run_between(
+            operation,
+            n,
+            words::byte_at(bytes, 0),
+            entries::part(bytes, 1, bytes.len()),
+        ),
     }
-    if operation == STEP {
-        return commands::print_step_from(bytes, n as usize);
-    }
-    if operation == ITEM {
-        return replies::print_nth_item(bytes, n as usize);
-    }
-    run_between(
-        operation,
-        n,
-        words::byte_at(bytes, 0),
-        entries::part(bytes, 1, bytes.len()),
-    )
 }
 
 // The first two are.
 fn run_between(operation: usize, first: u8, second: u8, bytes: &[u8]) {
-    if operation == EXTENDED {
-        return wire::print_extended(first, second, bytes);
+    match operation {
+        operations::EXTENDED => wire::print_again(print::EXTENDED, first, second, bytes),
+        operations::INSIDE => commands::print_numbered(
+            commands::INSIDE,
+            bytes,
+            first as usize,
+            second as usize,
+        ),
+        operations::STATUS => replies::print_status_of(first, second, words::byte_at(bytes, 0)),
+        _ => print::say(print::UNKNOWN, 0, 0, 0),
     }
-    if operation == STATUS {
-        return replies::print_status_of(first, second, words::byte_at(bytes, 0));
-    }
-    commands::print_inside(bytes, first as usize, second as usize)
 }

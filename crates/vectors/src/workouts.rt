@@ -11,69 +11,67 @@ use workout::Seconds;
 use workout::Workout;
 use workout::WorkoutRead;
 
-// The words of an answer, by index.
-const WORKOUT: usize = 0;
-
-const DISTANCE: usize = 1;
-
-const TIME: usize = 2;
-
-const SPLIT: usize = 3;
-
-const WATTS: usize = 4;
-
-const WRITTEN: usize = 5;
-
-fn word(index: usize) {
-    print::nth_word(
-        b" workout=|distance:|time:|,split:|,watts:|,written:",
-        index,
-    );
-}
-
 pub(crate) fn print_workout(contents: &[u8]) {
-    word(WORKOUT);
+    print::say(print::WORKOUT, 0, 0, 0);
     let read = workout::read_workout(contents);
     match read {
         WorkoutRead::Workout(workout) => {
-            print_goal(workout);
-            print_rewritten(workout);
+            print_numbers(workout);
+            print_again(workout, false);
         }
-        WorkoutRead::Refused(why) => print::refusal(why),
+        WorkoutRead::Refused(why) => print::refusal(print::REFUSED, why),
     }
 }
 
-fn print_goal(workout: Workout) {
+fn print_numbers(workout: Workout) {
     let goal = workout.goal;
+    let watts = workout.watts as usize;
     match goal {
-        Goal::Distance { goal, split } => print_numbers(DISTANCE, goal.0, split.0),
-        Goal::Time { goal, split } => print_numbers(TIME, goal.0, split.0),
+        Goal::Distance { goal, split } => print::say(
+            print::DISTANCE,
+            goal.0 as usize,
+            split.0 as usize,
+            watts,
+        ),
+        Goal::Time { goal, split } => print::say(
+            print::TIME,
+            goal.0 as usize,
+            split.0 as usize,
+            watts,
+        ),
     }
 }
 
-fn print_numbers(kind: usize, goal: u32, split: u32) {
-    word(kind);
-    print::number(goal as u64);
-    word(SPLIT);
-    print::number(split as u64);
-}
-
-fn print_rewritten(workout: Workout) {
-    word(WATTS);
-    print::number(workout.watts as u64);
-    word(WRITTEN);
+// A workout's contents, and the standard frame that has them where that is asked for.
+fn print_again(workout: Workout, framed: bool) {
     let mut room = io::buffer();
     let written = workout::write_workout(workout, &mut room);
     wire::print_written(written, &room);
+    if framed {
+        print_framed(written, &room);
+    }
 }
 
-// A workout's contents, and the standard frame that has them.
+fn print_framed(written: Written, contents: &[u8]) {
+    match written {
+        Written::Length(n) => wire::print_again(
+            print::STANDARD,
+            0,
+            0,
+            entries::part(contents, 0, n),
+        ),
+        Written::Refused(_) => {}
+    }
+}
+
+// The numbers of an example fit their fields.
 pub(crate) fn write(is_time: bool, arguments: &[u8]) {
-    let goal = words::number32(words::nth(arguments, 0));
-    let split = words::number32(words::nth(arguments, 1));
-    let watts = words::number16(words::nth(arguments, 2));
+    let goal = (words::number(words::nth(arguments, b' ', 0)) % 0x100000000) as u32;
+    let split = (words::number(words::nth(arguments, b' ', 1)) % 0x100000000) as u32;
+    let watts = (words::number(words::nth(arguments, b' ', 2)) % 0x10000) as u16;
     let goal = goal_of(is_time, goal, split);
-    write_workout(Workout { goal, watts })
+    print::say(print::CONTENTS, 0, 0, 0);
+    print_again(Workout { goal, watts }, true)
 }
 
 fn goal_of(is_time: bool, goal: u32, split: u32) -> Goal {
@@ -86,16 +84,5 @@ fn goal_of(is_time: bool, goal: u32, split: u32) -> Goal {
     Goal::Distance {
         goal: Metres(goal),
         split: Metres(split),
-    }
-}
-
-fn write_workout(workout: Workout) {
-    let mut room = io::buffer();
-    let written = workout::write_workout(workout, &mut room);
-    print::word(print::CONTENTS);
-    wire::print_written(written, &room);
-    match written {
-        Written::Length(n) => wire::print_standard(entries::part(&room, 0, n)),
-        Written::Refused(_) => {}
     }
 }

@@ -1,18 +1,25 @@
 use Prim.Native.Nat.{_≤_, _-_}
-use lib.ListN.{length}
 use borrow.Author.Needs.{needs}
 use Rattle.vectors.proofs.commands.print_list.Statement.{statement}
 use Rattle.vectors.proofs.commands.print_list.Tie as tie
 use Rattle.vectors.proofs.commands.print_nth.Reads as print-nth-reads
+use Rattle.vectors.proofs.print.say.Reads as say-reads
+use Rattle.vectors.proofs.print.separator.Reads as separator-reads
 
 abbrev Inv-loop : tie.InvT-loop
-Inv-loop contents n₀ n = n ≤ length contents
+Inv-loop list contents w count n₀ n = n ≤ count
 
 abbrev μ-loop : tie.MeasureT-loop
-μ-loop contents n₀ n = length contents - n
+μ-loop list contents w count n₀ n = count - n
 
 loop-holds : tie.Need-loop-holds Inv-loop μ-loop
 loop-holds c = search needs
+
+separator-requires : tie.Need-separator-requires Inv-loop μ-loop
+separator-requires c κs = search needs
+
+say-requires : tie.Need-say-requires Inv-loop μ-loop
+say-requires c κs = search needs
 
 print-nth-requires : tie.Need-print-nth-requires Inv-loop μ-loop
 print-nth-requires c κs = search needs
@@ -32,4 +39,14 @@ returns c = search needs
 pub print-list-spec : {M : Type 1} → statement M
 print-list-spec =
     tie.close
-    (tie.spec Inv-loop μ-loop loop-holds print-nth-requires add-n loop-less loop-again returns)
+    (tie.spec
+    Inv-loop
+    μ-loop
+    loop-holds
+    separator-requires
+    say-requires
+    print-nth-requires
+    add-n
+    loop-less
+    loop-again
+    returns)

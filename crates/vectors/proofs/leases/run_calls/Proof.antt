@@ -2,9 +2,9 @@ use Prim.Native.Nat.{_≤_, _-_}
 use borrow.Author.Needs.{needs}
 use Rattle.vectors.proofs.leases.run_calls.Statement.{statement}
 use Rattle.vectors.proofs.leases.run_calls.Tie as tie
-use Rattle.vectors.proofs.leases.run_call.Reads as run-call-reads
-use Rattle.vectors.proofs.words.group.Reads as group-reads
-use Rattle.vectors.proofs.words.groups.Reads as groups-reads
+use Rattle.vectors.proofs.leases.run_from.Reads as run-from-reads
+use Rattle.vectors.proofs.words.after.Reads as after-reads
+use Rattle.vectors.proofs.words.parts.Reads as parts-reads
 
 abbrev Inv-loop : tie.InvT-loop
 Inv-loop calls table₀ n k₀ table k = k ≤ n
@@ -12,17 +12,17 @@ Inv-loop calls table₀ n k₀ table k = k ≤ n
 abbrev μ-loop : tie.MeasureT-loop
 μ-loop calls table₀ n k₀ table k = n - k
 
-groups-requires : tie.Need-groups-requires Inv-loop μ-loop
-groups-requires c κs = search needs
+parts-requires : tie.Need-parts-requires Inv-loop μ-loop
+parts-requires c κs = search needs
 
 loop-holds : tie.Need-loop-holds Inv-loop μ-loop
 loop-holds c = search needs
 
-group-requires : tie.Need-group-requires Inv-loop μ-loop
-group-requires c κs = search needs
+after-requires : tie.Need-after-requires Inv-loop μ-loop
+after-requires c κs = search needs
 
-run-call-requires : tie.Need-run-call-requires Inv-loop μ-loop
-run-call-requires c κs = search needs
+run-from-requires : tie.Need-run-from-requires Inv-loop μ-loop
+run-from-requires c κs = search needs
 
 add-k : tie.Need-add-k Inv-loop μ-loop
 add-k c = search needs
@@ -42,10 +42,10 @@ run-calls-spec =
     (tie.spec
     Inv-loop
     μ-loop
-    groups-requires
+    parts-requires
     loop-holds
-    group-requires
-    run-call-requires
+    after-requires
+    run-from-requires
     add-k
     loop-less
     loop-again

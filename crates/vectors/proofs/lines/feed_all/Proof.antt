@@ -3,10 +3,11 @@ use lib.ListN.{length}
 use borrow.Author.Needs.{needs}
 use Rattle.vectors.proofs.lines.feed_all.Statement.{statement}
 use Rattle.vectors.proofs.lines.feed_all.Tie as tie
-use Rattle.vectors.proofs.lines.feed_some.Reads as feed-some-reads
+use Rattle.line.proofs.feed_in.Reads as feed-in-reads
 use Rattle.vectors.proofs.lines.finish.Reads as finish-reads
+use Rattle.vectors.proofs.lines.past.Reads as past-reads
 use Rattle.vectors.proofs.lines.print_told.Reads as print-told-reads
-use Rattle.vectors.proofs.lines.word.Reads as word-reads
+use Rattle.vectors.proofs.print.say.Reads as say-reads
 
 abbrev Inv-loop : tie.InvT-loop
 Inv-loop held₀ bytes s₀ i₀ held s i = i ≤ length bytes
@@ -14,26 +15,26 @@ Inv-loop held₀ bytes s₀ i₀ held s i = i ≤ length bytes
 abbrev μ-loop : tie.MeasureT-loop
 μ-loop held₀ bytes s₀ i₀ held s i = length bytes - i
 
-word-requires : tie.Need-word-requires Inv-loop μ-loop
-word-requires c κs = search needs
+say-requires : tie.Need-say-requires Inv-loop μ-loop
+say-requires c κs = search needs
 
 loop-holds : tie.Need-loop-holds Inv-loop μ-loop
 loop-holds c = search needs
 
-sub-feed-some : tie.Need-sub-feed-some Inv-loop μ-loop
-sub-feed-some c = search needs
+sub-feed-in : tie.Need-sub-feed-in Inv-loop μ-loop
+sub-feed-in c = search needs
 
-part-feed-some-start : tie.Need-part-feed-some-start Inv-loop μ-loop
-part-feed-some-start c = search needs
+part-feed-in-start : tie.Need-part-feed-in-start Inv-loop μ-loop
+part-feed-in-start c = search needs
 
-part-feed-some-end : tie.Need-part-feed-some-end Inv-loop μ-loop
-part-feed-some-end c = search needs
+part-feed-in-end : tie.Need-part-feed-in-end Inv-loop μ-loop
+part-feed-in-end c = search needs
 
-feed-some-requires : tie.Need-feed-some-requires Inv-loop μ-loop
-feed-some-requires c κs = search needs
+feed-in-requires : tie.Need-feed-in-requires Inv-loop μ-loop
+feed-in-requires c κs = search needs
 
-add-i : tie.Need-add-i Inv-loop μ-loop
-add-i c = search needs
+past-requires : tie.Need-past-requires Inv-loop μ-loop
+past-requires c κs = search needs
 
 sub-print-told : tie.Need-sub-print-told Inv-loop μ-loop
 sub-print-told c = search needs
@@ -59,13 +60,13 @@ feed-all-spec =
     (tie.spec
     Inv-loop
     μ-loop
-    word-requires
+    say-requires
     loop-holds
-    sub-feed-some
-    part-feed-some-start
-    part-feed-some-end
-    feed-some-requires
-    add-i
+    sub-feed-in
+    part-feed-in-start
+    part-feed-in-end
+    feed-in-requires
+    past-requires
     sub-print-told
     print-told-requires
     loop-less

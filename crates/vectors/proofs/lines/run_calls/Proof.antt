@@ -8,8 +8,8 @@ use Rattle.line.proofs.LineReader.new.Reads as new-reads
 use Rattle.vectors.proofs.lines.feed_all.Reads as feed-all-reads
 use Rattle.vectors.proofs.lines.step_all.Reads as step-all-reads
 use Rattle.vectors.proofs.words.bytes.Reads as bytes-reads
-use Rattle.vectors.proofs.words.group.Reads as group-reads
-use Rattle.vectors.proofs.words.groups.Reads as groups-reads
+use Rattle.vectors.proofs.words.nth.Reads as nth-reads
+use Rattle.vectors.proofs.words.parts.Reads as parts-reads
 
 abbrev Inv-loop : tie.InvT-loop
 Inv-loop calls reader₀ held₀ state₀ n k₀ reader held state k = k ≤ n
@@ -20,8 +20,8 @@ abbrev μ-loop : tie.MeasureT-loop
 new-requires : tie.Need-new-requires Inv-loop μ-loop
 new-requires c κs = search needs
 
-groups-requires : tie.Need-groups-requires Inv-loop μ-loop
-groups-requires c κs = search needs
+parts-requires : tie.Need-parts-requires Inv-loop μ-loop
+parts-requires c κs = search needs
 
 loop-holds : tie.Need-loop-holds Inv-loop μ-loop
 loop-holds c = search needs
@@ -29,8 +29,8 @@ loop-holds c = search needs
 buffer-requires : tie.Need-buffer-requires Inv-loop μ-loop
 buffer-requires c κs = search needs
 
-group-requires : tie.Need-group-requires Inv-loop μ-loop
-group-requires c κs = search needs
+nth-requires : tie.Need-nth-requires Inv-loop μ-loop
+nth-requires c κs = search needs
 
 slice-aggregate-bytes : tie.Need-slice-aggregate-bytes Inv-loop μ-loop
 slice-aggregate-bytes c = search needs
@@ -75,10 +75,10 @@ run-calls-spec =
     Inv-loop
     μ-loop
     new-requires
-    groups-requires
+    parts-requires
     loop-holds
     buffer-requires
-    group-requires
+    nth-requires
     slice-aggregate-bytes
     bytes-requires
     slice-aggregate-part

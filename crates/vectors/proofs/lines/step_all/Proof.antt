@@ -5,8 +5,8 @@ use Rattle.vectors.proofs.lines.step_all.Statement.{statement}
 use Rattle.vectors.proofs.lines.step_all.Tie as tie
 use Rattle.line.proofs.LineReader.finish.Reads as finish-reads
 use Rattle.line.proofs.LineReader.step.Reads as step-reads
-use Rattle.vectors.proofs.lines.print_answer.Reads as print-answer-reads
-use Rattle.vectors.proofs.lines.word.Reads as word-reads
+use Rattle.vectors.proofs.lines.print_stepped.Reads as print-stepped-reads
+use Rattle.vectors.proofs.print.say.Reads as say-reads
 
 abbrev Inv-loop : tie.InvT-loop
 Inv-loop bytes r₀ i₀ r i = i ≤ length bytes
@@ -14,8 +14,8 @@ Inv-loop bytes r₀ i₀ r i = i ≤ length bytes
 abbrev μ-loop : tie.MeasureT-loop
 μ-loop bytes r₀ i₀ r i = length bytes - i
 
-word-requires : tie.Need-word-requires Inv-loop μ-loop
-word-requires c κs = search needs
+say-requires : tie.Need-say-requires Inv-loop μ-loop
+say-requires c κs = search needs
 
 loop-holds : tie.Need-loop-holds Inv-loop μ-loop
 loop-holds c = search needs
@@ -26,8 +26,8 @@ shared-slice-read-step c = search needs
 step-requires : tie.Need-step-requires Inv-loop μ-loop
 step-requires c κs = search needs
 
-print-answer-requires : tie.Need-print-answer-requires Inv-loop μ-loop
-print-answer-requires c κs = search needs
+print-stepped-requires : tie.Need-print-stepped-requires Inv-loop μ-loop
+print-stepped-requires c κs = search needs
 
 add-i : tie.Need-add-i Inv-loop μ-loop
 add-i c = search needs
@@ -41,8 +41,8 @@ loop-again c = search needs
 finish-requires : tie.Need-finish-requires Inv-loop μ-loop
 finish-requires c κs = search needs
 
-print-answer-requires-2 : tie.Need-print-answer-requires-2 Inv-loop μ-loop
-print-answer-requires-2 c κs = search needs
+print-stepped-requires-2 : tie.Need-print-stepped-requires-2 Inv-loop μ-loop
+print-stepped-requires-2 c κs = search needs
 
 returns : tie.Need-returns Inv-loop μ-loop
 returns c = search needs
@@ -53,14 +53,14 @@ step-all-spec =
     (tie.spec
     Inv-loop
     μ-loop
-    word-requires
+    say-requires
     loop-holds
     shared-slice-read-step
     step-requires
-    print-answer-requires
+    print-stepped-requires
     add-i
     loop-less
     loop-again
     finish-requires
-    print-answer-requires-2
+    print-stepped-requires-2
     returns)

@@ -4,30 +4,22 @@ use lib.ListN.{length}
 use borrow.Author.Needs.{needs}
 use Rattle.vectors.proofs.words.bytes.Statement.{statement}
 use Rattle.vectors.proofs.words.bytes.Tie as tie
+use Rattle.vectors.proofs.words.put_digit.Reads as put-digit-reads
 
 abbrev Inv-loop : tie.InvT-loop
-Inv-loop s out₀ n₀ i₀ out n i = (i ≤ length s) × (length out ≡ length out₀)
+Inv-loop s out₀ digits₀ i₀ out digits i = (i ≤ length s) × (length out ≡ length out₀)
 
 abbrev μ-loop : tie.MeasureT-loop
-μ-loop s out₀ n₀ i₀ out n i = length s - i
+μ-loop s out₀ digits₀ i₀ out digits i = length s - i
 
 loop-holds : tie.Need-loop-holds Inv-loop μ-loop
 loop-holds c = search needs
 
-pair-at-requires : tie.Need-pair-at-requires Inv-loop μ-loop
-pair-at-requires c κs = search needs
+shared-slice-read-put-digit : tie.Need-shared-slice-read-put-digit Inv-loop μ-loop
+shared-slice-read-put-digit c = search needs
 
-put-requires : tie.Need-put-requires Inv-loop μ-loop
-put-requires c κs = search needs
-
-sub-if1 : tie.Need-sub-if1 Inv-loop μ-loop
-sub-if1 c = search needs
-
-same-length : tie.Need-same-length Inv-loop μ-loop
-same-length c = search needs
-
-returns : tie.Need-returns Inv-loop μ-loop
-returns c = search needs
+put-digit-requires : tie.Need-put-digit-requires Inv-loop μ-loop
+put-digit-requires c κs = search needs
 
 add-i : tie.Need-add-i Inv-loop μ-loop
 add-i c = search needs
@@ -38,11 +30,11 @@ loop-less c = search needs
 loop-again : tie.Need-loop-again Inv-loop μ-loop
 loop-again c = search needs
 
-same-length-2 : tie.Need-same-length-2 Inv-loop μ-loop
-same-length-2 c = search needs
+same-length : tie.Need-same-length Inv-loop μ-loop
+same-length c = search needs
 
-returns-2 : tie.Need-returns-2 Inv-loop μ-loop
-returns-2 c = search needs
+returns : tie.Need-returns Inv-loop μ-loop
+returns c = search needs
 
 pub bytes-spec : {M : Type 1} → statement M
 bytes-spec =
@@ -51,13 +43,10 @@ bytes-spec =
     Inv-loop
     μ-loop
     loop-holds
-    pair-at-requires
-    put-requires
-    sub-if1
-    same-length
-    returns
+    shared-slice-read-put-digit
+    put-digit-requires
     add-i
     loop-less
     loop-again
-    same-length-2
-    returns-2)
+    same-length
+    returns)

@@ -1,15 +1,15 @@
 use Prim.Native.Nat.{_≤_, _-_}
 use lib.ListN.{length}
 use borrow.Author.Needs.{needs}
-use Rattle.vectors.proofs.words.count_of.Statement.{statement}
-use Rattle.vectors.proofs.words.count_of.Tie as tie
+use Rattle.vectors.proofs.words.parts.Statement.{statement}
+use Rattle.vectors.proofs.words.parts.Tie as tie
 use Rattle.std.proofs.num.wrapping_add_usize.Reads as wrapping-add-usize-reads
 
 abbrev Inv-loop : tie.InvT-loop
-Inv-loop s value n₀ i₀ n i = i ≤ length s
+Inv-loop s mark n₀ i₀ n i = i ≤ length s
 
 abbrev μ-loop : tie.MeasureT-loop
-μ-loop s value n₀ i₀ n i = length s - i
+μ-loop s mark n₀ i₀ n i = length s - i
 
 loop-holds : tie.Need-loop-holds Inv-loop μ-loop
 loop-holds c = search needs
@@ -32,8 +32,8 @@ loop-again c = search needs
 returns : tie.Need-returns Inv-loop μ-loop
 returns c = search needs
 
-pub count-of-spec : {M : Type 1} → statement M
-count-of-spec =
+pub parts-spec : {M : Type 1} → statement M
+parts-spec =
     tie.close
     (tie.spec
     Inv-loop

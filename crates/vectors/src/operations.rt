@@ -1,0 +1,49 @@
+// What an example or a call on a lease table asks for, by the index of its name in the text of `named`.
+use crate::words;
+
+pub(crate) const FRAME: usize = 0;
+
+pub(crate) const CONTENTS: usize = 1;
+
+pub(crate) const STANDARD: usize = 2;
+
+pub(crate) const EXTENDED: usize = 3;
+
+pub(crate) const NUMBER: usize = 4;
+
+pub(crate) const COMMAND: usize = 5;
+
+pub(crate) const INSIDE: usize = 6;
+
+pub(crate) const STEP: usize = 7;
+
+pub(crate) const ITEM: usize = 8;
+
+pub(crate) const STATUS: usize = 9;
+
+pub(crate) const DISTANCE: usize = 10;
+
+pub(crate) const TIME: usize = 11;
+
+pub(crate) const LEASE: usize = 12;
+
+pub(crate) const LINE: usize = 13;
+
+pub(crate) const NAMES: usize = 14;
+
+pub(crate) const HOLD: usize = 15;
+
+pub(crate) const RELEASE: usize = 16;
+
+pub(crate) const STOP: usize = 17;
+
+pub(crate) const OWN_BYTES: usize = 18;
+
+pub(crate) const COUNT: usize = 19;
+
+pub(crate) fn named(name: &[u8]) -> usize {
+    let names =
+        b"frame contents standard extended number command inside step item status distance time lease line names \
+        hold release stop bytes";
+    words::index_among(names, COUNT, name)
+}
