@@ -3,7 +3,7 @@ ghost use mathlib.Core.Path.{_≡_};
 ghost use mathlib.Core.List.{_++_};
 ghost use Prim.Native.Nat.{_+_, _≤_};
 ghost use lib.ListN.{length, take, drop};
-ghost use Rattle.lists.specs.Choice.{within, noneOf, countOf};
+ghost use Rattle.lists.specs.Choice.{pick, within, noneOf, countOf};
 ghost use Rattle.frame.specs.Checksum.{checksum};
 
 // What one pass over bytes finds: whether none lies between two values, and their exclusive or.
@@ -21,7 +21,7 @@ pub(crate) fn look(s: &[u8], low: u8, high: u8) -> Looked
     let mut sum: u8 = 0;
     let mut i: usize = 0;
     while i < s.len() {
-        seen = seen | lists::mark(s[i], low, high);
+        seen = see(seen, s[i], low, high);
         sum = sum ^ s[i];
         i += 1;
     }
@@ -29,6 +29,19 @@ pub(crate) fn look(s: &[u8], low: u8, high: u8) -> Looked
         clear: seen == 0,
         sum,
     }
+}
+
+// The mark with one byte more: 1 as soon as a byte lies between two values, both included.
+fn see(seen: u8, b: u8, low: u8, high: u8) -> u8
+    ensures { λ r. ⌜ r ≡ pick (within low high b) 1 seen ⌝ }
+{
+    if b < low {
+        return seen;
+    }
+    if high < b {
+        return seen;
+    }
+    1
 }
 
 // How many bytes lie between two values, both included. A number of eight bits is counted faster than a wider one.

@@ -148,7 +148,7 @@ fn read_plain(kind: Kind, body: &[u8], sum: u8, out: &mut [u8]) -> Read
     }
 }
 
-// Reads any body. It is called from two places, so that the compiler keeps it apart from the plain one.
+// Reads any body, flags and escapes among its bytes.
 fn read_stuffed(kind: Kind, body: &[u8], out: &mut [u8]) -> Read
     ensures { λ r. ⌜ readMeans r ≡ readAnswer (judgeWhole kind (now (body .entry))) (length (now (out .entry))) ⌝ }
     ensures { λ r. ⌜ now (out .exit) ≡ readOut (judgeWhole kind (now (body .entry))) (now (out .entry)) ⌝ }

@@ -50,19 +50,37 @@ module _ (p : ℕ → Bool) where
   at-none [] h = refl
   at-none (x ∷ s) h = simp (h 0 (omega arith), at-none s (λ i k. h (suc i) (omega arith)))
 
+  -- the first elements with one more
+  more : (s : List ℕ) (i : ℕ) → i < length s
+      → noneOf p (take (i + 1) s) ≡ pick (noneOf p (take i s)) (pick (p (getD s i 0)) false true) false
+  unfolding noneOf
+  more s i h =
+      ap (λ (n : ℕ). noneOf p (take n s)) (add-one i) ∙ ap (noneOf p) (take-suc s i 0 h)
+      ∙ none-append (take i s) (getD s i 0 ∷ [])
+
   -- a loop that gathers, as 0 or 1, whether an element has passed
   pub mark-more : (s : List ℕ) (i seen hit : ℕ) → i < length s → seen ≡ pick (noneOf p (take i s)) 0 1
       → hit ≡ pick (p (getD s i 0)) 1 0
       → bitOr seen hit ≡ pick (noneOf p (take (i + 1) s)) 0 1
-  unfolding noneOf
   mark-more s i seen hit h e f =
       ap (λ (m : ℕ). bitOr m hit) e ∙ ap (bitOr (pick (noneOf p (take i s)) 0 1)) f
       ∙ joined (noneOf p (take i s)) (p (getD s i 0))
-      ∙ sym (ap (λ (t : Bool). pick {A = ℕ} t 0 1)
-      (ap (λ (n : ℕ). noneOf p (take n s)) (add-one i) ∙ ap (noneOf p) (take-suc s i 0 h)
-      ∙ none-append (take i s) (getD s i 0 ∷ [])))
+      ∙ sym (ap (λ (t : Bool). pick {A = ℕ} t 0 1) (more s i h))
     where
       joined : (t u : Bool) → bitOr (pick t 0 1) (pick u 1 0) ≡ pick (pick t (pick u false true) false) 0 1
+      joined true true = refl
+      joined true false = refl
+      joined false true = refl
+      joined false false = refl
+
+  -- the same, where the mark is set as soon as an element passes
+  pub see-more : (s : List ℕ) (i seen : ℕ) → i < length s → seen ≡ pick (noneOf p (take i s)) 0 1
+      → pick (p (getD s i 0)) 1 seen ≡ pick (noneOf p (take (i + 1) s)) 0 1
+  see-more s i seen h e =
+      ap (pick (p (getD s i 0)) 1) e ∙ joined (noneOf p (take i s)) (p (getD s i 0))
+      ∙ sym (ap (λ (t : Bool). pick {A = ℕ} t 0 1) (more s i h))
+    where
+      joined : (t u : Bool) → pick u 1 (pick t 0 1) ≡ pick {A = ℕ} (pick t (pick u false true) false) 0 1
       joined true true = refl
       joined true false = refl
       joined false true = refl

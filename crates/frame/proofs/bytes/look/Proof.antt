@@ -4,7 +4,7 @@ use lib.ListN.{length, take, drop}
 use lib.Dec.{eqb}
 use lib.Seq.{take-all}
 use Rattle.lists.specs.Choice.{pick, within, noneOf}
-use Rattle.lists.proofs.Tests.{mark-more, mark-all}
+use Rattle.lists.proofs.Tests.{see-more, mark-all}
 use Rattle.frame.specs.Checksum.{sumFrom}
 use Rattle.frame.proofs.ChecksumLaws.{sumFrom-at, sumFrom-end}
 use borrow.Author.Needs.{needs}
@@ -22,11 +22,11 @@ loop-holds : tie.Need-loop-holds Inv-loop μ-loop
 unfolding noneOf
 loop-holds c = (search needs, refl, refl)
 
-shared-slice-read-mark : tie.Need-shared-slice-read-mark Inv-loop μ-loop
-shared-slice-read-mark c = search needs
+shared-slice-read-see : tie.Need-shared-slice-read-see Inv-loop μ-loop
+shared-slice-read-see c = search needs
 
-mark-requires : tie.Need-mark-requires Inv-loop μ-loop
-mark-requires c κs = search needs
+see-requires : tie.Need-see-requires Inv-loop μ-loop
+see-requires c κs = search needs
 
 shared-slice-read-sum : tie.Need-shared-slice-read-sum Inv-loop μ-loop
 shared-slice-read-sum c = search needs
@@ -43,7 +43,7 @@ loop-again c =
     let a = l .before .before .args in
     let h = c .before .before .before .loop-test .taken in (
       search needs,
-      mark-more (within (a .low) (a .high)) _ _ _ _ h (l .loop .inv .1) (c .before .mark .ensures),
+      c .before .see .ensures ∙ see-more (within (a .low) (a .high)) _ _ _ h (l .loop .inv .1),
       sym
           (sumFrom-at _ _ _ h) ∙ l .loop .inv .2,
     )
@@ -65,8 +65,8 @@ look-spec =
     Inv-loop
     μ-loop
     loop-holds
-    shared-slice-read-mark
-    mark-requires
+    shared-slice-read-see
+    see-requires
     shared-slice-read-sum
     add-i
     loop-less
