@@ -4,7 +4,6 @@ use mathlib.Core.Bool.{true, false, true≢false}
 use mathlib.Core.List.{List, [], _∷_, _++_}
 use native.Mathlib.Nat.{add-zero, zero-add}
 use native.Mathlib.Omega.{arith}
-use lib.Dec.{leb}
 use lib.ListN.{length, take, drop, getD, set, length-drop, length-set, take-append-drop}
 use lib.Seq.{getD-drop, drop-drop, length-take-le, take-all}
 use Prim.Native.Nat.{ℕ, suc, _+_, _-_, _≤_, _<_}
@@ -29,6 +28,14 @@ use Rattle.line.proofs.FeedLaws.{plus-zero, plus-plus, fromTurn}
 use Rattle.line.proofs.ReaderLaws.{held-byte, unheld-byte}
 
 -- ---- where it ends
+
+pub stays : (s : List ℕ) (from at : ℕ) (r : LineReader) → from ≤ length s → at ≡ from → Reaches s from r at r
+stays s from at r h e =
+    record {
+      onward = omega arith;
+      inside = omega arith;
+      same = ap (λ (i : ℕ). laterBy i (feedOf r (drop i s))) (sym e);
+    }
 
 -- at once, where a flag stands
 pub ends-here : (s : List ℕ) (from : ℕ) (flag : isFlag (getD s from 0) ≡ true) → from < length s
@@ -118,32 +125,30 @@ module _ (m : Mode) (h : isHeld m ≡ true) where
       ∙ splice-splice bytes len (b ∷ []) (omega arith) run) n
 
   -- where there is no room for any
-  full-run : (run bytes : List ℕ) (len : ℕ) → capacity ≤ len → 0 < length run
-      → afterRun (reader bytes len m) run ≡ reader bytes 0 Overlong
+  pub full-run : (run bytes : List ℕ) (len : ℕ) → capacity ≤ len → 0 < length run
+      → reader bytes 0 Overlong ≡ afterRun (reader bytes len m) run
   full-run [] bytes len full some = absurd (omega arith)
   full-run (b ∷ run) bytes len full some =
-      ap (λ (u : LineReader). afterRun u run) (held-byte m bytes len b h ∙ simp (le-ltb len capacity full))
-      ∙ sym (unheld-run (reader bytes 0 Overlong) refl run)
+      unheld-run (reader bytes 0 Overlong) refl run
+      ∙ ap (λ (u : LineReader). afterRun u run) (sym (held-byte m bytes len b h ∙ simp (le-ltb len capacity full)))
 
-  -- as the code copies them, with a length of 118 or more for a full array
-  module _ (bytes : List ℕ) (len room : ℕ) (a : length bytes ≡ capacity) (r : room ≡ capacity - len) where
-    pub kept-all : (run left : List ℕ) → length run ≤ room → left ≡ copied bytes len run
-        → reader left (len + length run) m ≡ afterRun (reader bytes len m) run
-    kept-all [] left l e =
-        ap₂ (λ (x : List ℕ) (n : ℕ). reader x n m)
-        (e ∙ by-bool (leb (len + 0) (length bytes)) (λ y. simp y (splice-nil bytes len)) (λ y. simp y))
-        (add-zero len)
-    kept-all (b ∷ run) left l e =
-        ap (λ (x : List ℕ). reader x (len + length (b ∷ run)) m) (copied-fits (b ∷ run) bytes left len (omega arith) e)
-        ∙ sym (held-run (b ∷ run) bytes len a (omega arith))
+  -- as the code copies them, all or those that there is room for
+  pub kept-all : (run bytes left : List ℕ) (len : ℕ) → length bytes ≡ capacity → len < capacity
+      → length run ≤ capacity - len → left ≡ copied bytes len run
+      → reader left (len + length run) m ≡ afterRun (reader bytes len m) run
+  kept-all run bytes left len a below l e =
+      ap (λ (x : List ℕ). reader x (len + length run) m) (copied-fits run bytes left len (omega arith) e)
+      ∙ sym (held-run run bytes len a (omega arith))
 
-    pub kept-first : (run left : List ℕ) → room < length run → left ≡ copied bytes len (take room run)
-        → reader left 0 Overlong ≡ afterRun (reader bytes len m) run
-    kept-first run left l e =
-        let k = length-take-le room run (omega arith) in
-        sym
-        (ap (afterRun (reader bytes len m)) (sym (take-append-drop room run))
-        ∙ left-append (λ (u : LineReader) (b : ℕ). roleStep plain u b .next) (reader bytes len m) (take room run)
-        (drop room run)
-        ∙ ap (λ (u : LineReader). afterRun u (drop room run)) (sym (kept-all (take room run) left (omega arith) e))
-        ∙ full-run (drop room run) left (len + length (take room run)) (omega arith) (omega (arith, length-drop room run)))
+  pub kept-first : (run bytes left : List ℕ) (len : ℕ) → length bytes ≡ capacity → len < capacity
+      → capacity - len < length run → left ≡ copied bytes len (take (capacity - len) run)
+      → reader left 0 Overlong ≡ afterRun (reader bytes len m) run
+  kept-first run bytes left len a below l e =
+      let room = capacity - len in
+      let first = take room run in
+      let k = length-take-le room run (omega arith) in
+      full-run (drop room run) left (len + length first) (omega arith) (omega (arith, length-drop room run))
+      ∙ ap (λ (u : LineReader). afterRun u (drop room run))
+      (kept-all first bytes left len a below (omega arith) e)
+      ∙ sym (left-append (λ (u : LineReader) (b : ℕ). roleStep plain u b .next) (reader bytes len m) first (drop room run))
+      ∙ ap (afterRun (reader bytes len m)) (take-append-drop room run)

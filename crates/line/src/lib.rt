@@ -245,12 +245,13 @@ fn terminated(bytes: &mut [u8; 118], len: usize, mode: Mode) -> Told
         (terminatedIn rowing rowingBounds (modeSeen mode) (now (bytes .entry)) len) ⌝ }
     ensures { λ r. ⌜ now (bytes .exit) ≡ leftByStop rowing rowingBounds (modeSeen mode) (now (bytes .entry)) len ⌝ }
 {
-    match mode {
-        Mode::Outside => Told::Nothing,
-        Mode::InStandard => told_of(frame::judge_array(Kind::Standard, bytes, len)),
-        Mode::InExtended => told_of(frame::judge_array(Kind::Extended, bytes, len)),
-        Mode::Overlong => Told::Refused(Refusal::TooLong),
-    }
+    let kind = match mode {
+        Mode::Outside => return Told::Nothing,
+        Mode::InStandard => Kind::Standard,
+        Mode::InExtended => Kind::Extended,
+        Mode::Overlong => return Told::Refused(Refusal::TooLong),
+    };
+    told_of(frame::judge_array(kind, bytes, len))
 }
 
 fn told_of(read: Read) -> Told

@@ -4,11 +4,11 @@ use crate::State;
 use frame::flags;
 ghost use mathlib.Core.Path.{_≡_};
 ghost use mathlib.Core.Bool.{true};
-ghost use Prim.Native.Nat.{_+_, _-_, _<_};
+ghost use Prim.Native.Nat.{_+_, _<_};
 ghost use lib.ListN.{length, drop};
 ghost use Rattle.lists.specs.Choice.{countBefore};
 ghost use Rattle.frame.specs.Flags.{isFlag};
-ghost use Rattle.line.specs.Reader.{lentReader};
+ghost use Rattle.line.specs.Reader.{lentReader, reader};
 ghost use Rattle.line.specs.Private.{isHeld, Reaches, afterRun};
 
 // Where a run ends, and the state of the reader there.
@@ -23,13 +23,23 @@ pub(crate) fn consume(bytes: &mut [u8; 118], state: State, input: &[u8], from: u
     ensures { λ r. ⌜ Reaches (now (input .entry)) from (lentReader (now (bytes .entry)) state) (r .at)
         (lentReader (now (bytes .exit)) (r .state)) ⌝ }
 {
-    let at = run_end(input, from);
+    let len = state.len;
     let mode = state.mode;
+    let at = run_end(input, from);
+    if at == from {
+        return Consumed {
+            at,
+            state: State { len, mode },
+        };
+    }
     if is_held(mode) {
-        let held = hold(bytes, state, &input[from..at]);
+        let held = hold(bytes, len, mode, &input[from..at]);
         return Consumed { at, state: held };
     }
-    Consumed { at, state }
+    Consumed {
+        at,
+        state: State { len, mode },
+    }
 }
 
 // The index of the first flag from an index on, or the end. The byte at the index is looked at by itself, because a
@@ -56,34 +66,25 @@ fn is_held(mode: Mode) -> bool
 }
 
 // Holds a run behind the bytes that are held. One that is longer than the room left makes the candidate over-long.
-fn hold(bytes: &mut [u8; 118], state: State, run: &[u8]) -> State
-    requires { ⌜ isHeld (state .mode) ≡ true ⌝ }
+fn hold(bytes: &mut [u8; 118], len: usize, mode: Mode, run: &[u8]) -> State
+    requires { ⌜ isHeld mode ≡ true ⌝ }
+    requires { ⌜ 0 < length (now run) ⌝ }
     ensures { λ r. ⌜ lentReader (now (bytes .exit)) r
-        ≡ afterRun (lentReader (now (bytes .entry)) state) (now (run .entry)) ⌝ }
+        ≡ afterRun (reader (now (bytes .entry)) len mode) (now (run .entry)) ⌝ }
 {
-    let len = state.len;
-    let mode = state.mode;
-    let room = room_after(len);
-    if run.len() <= room {
-        lists::copy_short(run, bytes, len);
-        return State {
-            len: len + run.len(),
-            mode,
-        };
+    if len < crate::ROOM {
+        let room = crate::ROOM - len;
+        if run.len() <= room {
+            lists::copy_short(run, bytes, len);
+            return State {
+                len: len + run.len(),
+                mode,
+            };
+        }
+        lists::copy_short(&run[..room], bytes, len);
     }
-    lists::copy_short(&run[..room], bytes, len);
     State {
         len: crate::FRESH,
         mode: Mode::Overlong,
     }
-}
-
-// How many bytes more may be held.
-fn room_after(len: usize) -> usize
-    ensures { λ r. ⌜ r ≡ 118 - len ⌝ }
-{
-    if len < crate::ROOM {
-        return crate::ROOM - len;
-    }
-    0
 }

@@ -3,13 +3,16 @@ use native.Mathlib.Omega.{arith}
 use lib.ListN.{take, drop}
 use Prim.Native.Nat.{_-_}
 use Rattle.line.specs.Reader.{lentReader}
-use Rattle.line.proofs.RunLaws.{run-inside, run-reaches, unheld-run}
+use Rattle.line.proofs.RunLaws.{stays, run-inside, run-reaches, unheld-run}
 use borrow.Author.Needs.{needs}
 use Rattle.line.proofs.runs.consume.Statement.{statement}
 use Rattle.line.proofs.runs.consume.Tie as tie
 
 run-end-requires : tie.Need-run-end-requires
 run-end-requires c κs = search needs
+
+returns : tie.Need-returns
+returns c = stays _ _ _ _ (omega (arith, c .before .before .before .pre)) (c .if1 .taken)
 
 is-held-requires : tie.Need-is-held-requires
 is-held-requires c κs = search needs
@@ -22,28 +25,28 @@ part-hold-start c = search needs
 
 part-hold-end : tie.Need-part-hold-end
 part-hold-end c =
-    let e = c .before .before .before in
+    let e = c .before .before .before .before in
     let p = e .before .before in
     run-inside (p .args .input .now) (p .args .from) _ (omega (arith, p .pre)) (e .run-end .ensures)
 
 hold-requires : tie.Need-hold-requires
-hold-requires c κs = sym (c .before .before .before .is-held .ensures) ∙ c .before .before .if1 .taken
+hold-requires c κs = search needs
 
-returns : tie.Need-returns
-returns c =
-    let e = c .before .before .before .before .before in
+returns-2 : tie.Need-returns-2
+returns-2 c =
+    let e = c .before .before .before .before .before .before in
     let p = e .before .before in
     run-reaches (p .args .input .now) (p .args .from) _ (omega (arith, p .pre)) (e .run-end .ensures) _ _
     (c .hold .ensures)
 
-returns-2 : tie.Need-returns-2
-returns-2 c =
-    let e = c .before .before in
+returns-3 : tie.Need-returns-3
+returns-3 c =
+    let e = c .before .before .before in
     let p = e .before .before in
     let s = p .args .input .now in
     let r = lentReader (p .args .bytes .now) (p .args .state) in
     run-reaches s (p .args .from) _ (omega (arith, p .pre)) (e .run-end .ensures) r r
-    (unheld-run r (sym (c .before .is-held .ensures) ∙ c .if1 .left)
+    (unheld-run r (sym (c .before .is-held .ensures) ∙ c .if2 .left)
     (take (e .run-end .result - p .args .from) (drop (p .args .from) s)))
 
 pub consume-spec : {M : Type 1} → statement M
@@ -51,10 +54,11 @@ consume-spec =
     tie.close
     (tie.spec
     run-end-requires
+    returns
     is-held-requires
     sub-hold
     part-hold-start
     part-hold-end
     hold-requires
-    returns
-    returns-2)
+    returns-2
+    returns-3)
