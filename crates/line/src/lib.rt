@@ -144,7 +144,7 @@ pub fn finish_in(state: State) -> LentStep
 }
 
 // Feeds bytes to a reader whose array is lent, up to the first that is answered; with no answer it takes all of them.
-// Runs of bytes that are no flags have loops of their own, and the flags go through `step_in`.
+// Runs of bytes that are no flags are taken whole, and the flags go through `step_in`.
 pub fn feed_in(bytes: &mut [u8; 118], state: State, input: &[u8]) -> ChunkStep
     ensures { λ r. ⌜ ChunkStepIs (now (bytes .exit)) r
         (feedOf (lentReader (now (bytes .entry)) state) (now (input .entry))) ⌝ }
