@@ -1,4 +1,5 @@
-use mathlib.Core.Path.{_≡_}
+use mathlib.Core.Path.{_≡_, sym}
+use native.Mathlib.Nat.{zero-add}
 use native.Mathlib.Omega.{arith}
 use lib.ListN.{length, drop}
 use Prim.Native.Nat.{_+_, _-_, _≤_}
@@ -9,17 +10,20 @@ use Rattle.lists.proofs.count_before.Statement.{statement}
 use Rattle.lists.proofs.count_before.Tie as tie
 
 abbrev Inv-loop : tie.InvT-loop
-Inv-loop s low high i₀ i =
+Inv-loop s low high passed i₀ i =
     (i ≤ length s) × (countBefore (within low high) s ≡ i + countBefore (within low high) (drop i s))
 
 abbrev μ-loop : tie.MeasureT-loop
-μ-loop s low high i₀ i = length s - i
+μ-loop s low high passed i₀ i = length s - i
 
 blocks-before-requires : tie.Need-blocks-before-requires Inv-loop μ-loop
-blocks-before-requires c κs = search needs
+blocks-before-requires c κs = (omega arith, (omega arith, sym (zero-add _)))
+
+blocks-before-requires-2 : tie.Need-blocks-before-requires-2 Inv-loop μ-loop
+blocks-before-requires-2 c κs = (omega arith, (c .blocks-before .ensures .0, c .blocks-before .ensures .1))
 
 loop-holds : tie.Need-loop-holds Inv-loop μ-loop
-loop-holds c = (c .blocks-before .ensures .0, c .blocks-before .ensures .1)
+loop-holds c = (c .blocks-before2 .ensures .0, c .blocks-before2 .ensures .1)
 
 shared-slice-read-mark : tie.Need-shared-slice-read-mark Inv-loop μ-loop
 shared-slice-read-mark c = search needs
@@ -57,6 +61,7 @@ count-before-spec =
     Inv-loop
     μ-loop
     blocks-before-requires
+    blocks-before-requires-2
     loop-holds
     shared-slice-read-mark
     mark-requires
