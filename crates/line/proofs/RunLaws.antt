@@ -29,14 +29,6 @@ use Rattle.line.proofs.ReaderLaws.{held-byte, unheld-byte}
 
 -- ---- where it ends
 
-pub stays : (s : List ℕ) (from at : ℕ) (r : LineReader) → from ≤ length s → at ≡ from → Reaches s from r at r
-stays s from at r h e =
-    record {
-      onward = omega arith;
-      inside = omega arith;
-      same = ap (λ (i : ℕ). laterBy i (feedOf r (drop i s))) (sym e);
-    }
-
 -- at once, where a flag stands
 pub ends-here : (s : List ℕ) (from : ℕ) (flag : isFlag (getD s from 0) ≡ true) → from < length s
     → from ≡ from + countBefore isFlag (drop from s)
@@ -67,6 +59,15 @@ feed-run (b ∷ run) rest r clear =
     ∙ ap (laterBy 1) (feed-run run rest next (simp n at clear))
     ∙ plus-plus 1 (length run) (suc (length run)) (feedOf (afterRun next run) rest) k)
 
+-- a run of no bytes
+pub stays : (s : List ℕ) (from at : ℕ) (r : LineReader) → at ≡ from → Reaches s from r at r
+stays s from at r e =
+    record {
+      onward = omega arith;
+      same = ap (λ (i : ℕ). laterBy i (feedOf r (drop i s))) (sym e);
+    }
+
+-- any run
 module _ (s : List ℕ) (from at : ℕ) (h : from ≤ length s) (e : at ≡ from + countBefore isFlag (drop from s)) where
   pub run-inside : at ≤ length s
   run-inside = omega (arith, before-fits isFlag (drop from s), length-drop from s)
@@ -75,7 +76,6 @@ module _ (s : List ℕ) (from at : ℕ) (h : from ≤ length s) (e : at ≡ from
   run-reaches r next q =
       record {
         onward = omega arith;
-        inside = run-inside;
         same =
             ap (λ (l : List ℕ). laterBy from (feedOf r l)) (sym (take-append-drop (at - from) (drop from s)))
             ∙ ap (laterBy from) (feed-run run (drop (at - from) (drop from s)) r clear)

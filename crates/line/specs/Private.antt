@@ -4,7 +4,7 @@ use mathlib.Core.Path.{_≡_}
 use mathlib.Core.Bool.{Bool, true, false}
 use mathlib.Core.List.{List, []}
 use lib.Dec.{ltb}
-use lib.ListN.{length, take, drop, set}
+use lib.ListN.{take, drop, set}
 use Rattle.lists.specs.Choice.{pick}
 use Rattle.lists.specs.Machine.{leftAfter}
 use Rattle.framing.specs.Reference.{plain}
@@ -50,5 +50,4 @@ afterRun r run = leftAfter (λ r b. roleStep plain r b .next) r run
 -- the beginning of s.
 pub record Reaches (s : List ℕ) (from : ℕ) (r : LineReader) (at : ℕ) (next : LineReader) : Type 0 where
   pub onward : from ≤ at
-  pub inside : at ≤ length s
   pub same : laterBy from (feedOf r (drop from s)) ≡ laterBy at (feedOf next (drop at s))

@@ -17,7 +17,8 @@ pub(crate) struct Consumed {
     pub(crate) state: State,
 }
 
-// Takes the bytes from an index on up to a flag or to the end.
+// Takes the bytes from an index on up to a flag or to the end. A state is made of its fields, because a copy of the
+// struct copies its unused bytes too.
 pub(crate) fn consume(bytes: &mut [u8; 118], state: State, input: &[u8], from: usize) -> Consumed
     requires { ⌜ from < length (now input) ⌝ }
     ensures { λ r. ⌜ Reaches (now (input .entry)) from (lentReader (now (bytes .entry)) state) (r .at)

@@ -12,7 +12,7 @@ run-end-requires : tie.Need-run-end-requires
 run-end-requires c κs = search needs
 
 returns : tie.Need-returns
-returns c = stays _ _ _ _ (omega (arith, c .before .before .before .pre)) (c .if1 .taken)
+returns c = stays _ _ _ _ (c .if1 .taken)
 
 is-held-requires : tie.Need-is-held-requires
 is-held-requires c κs = search needs
