@@ -41,7 +41,7 @@ module _ (r : LineReader) (s : List ℕ) (i : ℕ) (below : i < length s) where
       pick t (chunkTurn (stepOf r (getD s i 0) .answer) (stepOf r (getD s i 0) .next) 1)
       (laterBy 1 (feedOf (stepOf r (getD s i 0) .next) (drop (i + 1) s)))
 
-  pub not-answered : isAnswer (stepOf r (getD s i 0) .answer) ≡ false
+  not-answered : isAnswer (stepOf r (getD s i 0) .answer) ≡ false
       → laterBy i (feedOf r (drop i s)) ≡ laterBy (i + 1) (feedOf (stepOf r (getD s i 0) .next) (drop (i + 1) s))
   not-answered e =
       ap (laterBy i) (first ∙ ap at e)

@@ -1,127 +1,154 @@
--- Laws of a run of bytes that are no flags, over the loops that skip or hold them.
-use mathlib.Core.Path.{_≡_, refl, sym, ap, _∙_, subst}
-use mathlib.Core.Bool.{Bool, true, false}
-use mathlib.Core.List.{List}
-use native.Mathlib.Nat.{add-zero}
+-- Laws of a run of bytes that are no flags: where it ends, and the reader after it.
+use mathlib.Core.Path.{_≡_, refl, sym, ap, ap₂, _∙_}
+use mathlib.Core.Bool.{true, false, true≢false}
+use mathlib.Core.List.{List, [], _∷_, _++_}
+use native.Mathlib.Nat.{add-zero, zero-add}
 use native.Mathlib.Omega.{arith}
-use lib.ListN.{length, take, drop, getD, set, length-drop}
-use lib.Seq.{getD-take, getD-drop, length-take-le, take-all}
-use lib.Dec.{leb}
-use Prim.Native.Nat.{ℕ, zero, suc, _+_, _-_, _≤_, _<_}
-use borrow.Author.Tests.{lt-ltb, leb-true, leb-false}
-use Rattle.lists.specs.Choice.{pick, noneOf, countBefore}
+use lib.ListN.{length, take, drop, getD, set, length-drop, length-set, take-append-drop}
+use lib.Seq.{getD-drop, drop-drop, length-take-le, take-all}
+use Prim.Native.Nat.{ℕ, suc, _+_, _-_, _≤_, _<_}
+use borrow.Author.Tests.{lt-ltb, le-ltb}
+use Rattle.lists.specs.Choice.{noneOf, countBefore}
+use Rattle.lists.specs.Splice.{splice, copied}
 use Rattle.lists.proofs.Cases.{by-bool}
-use Rattle.lists.proofs.Tests.{none-at}
-use Rattle.lists.proofs.Before.{before-fits, before-clear}
+use Rattle.lists.proofs.Before.{before-here, before-fits, before-clear}
+use Rattle.lists.proofs.Machines.{left-append}
+use Rattle.lists.proofs.Splices.{splice-nil, splice-splice, set-splice, copied-fits}
 use Rattle.framing.specs.Reference.{Role, plain}
 use Rattle.frame.specs.Flags.{isFlag}
 use Rattle.frame.proofs.FlagLaws.{no-flag}
-use Rattle.line.specs.Outcome.{nothing}
-use Rattle.lists.specs.Machine.{turn}
-use Rattle.line.specs.Reader.{ReaderTurn, reader, roleStep, stepOf}
-use Rattle.line.specs.Feed.{isAnswer, laterBy, feedOf}
-use Rattle.line.specs.Private.{isHeld, Reaches}
+use Rattle.line.specs.Outcome.{capacity}
+use Rattle.line.specs.Reader.{reader, roleStep}
+use Rattle.line.specs.Feed.{laterBy, feedOf}
+use Rattle.line.specs.Private.{isHeld, afterRun, Reaches}
 use Rattle.line.specs.declared.LineReader.{LineReader}
 use Rattle.line.specs.declared.Mode.{Mode}
-use Rattle.line.proofs.FeedLaws.{not-answered}
+use Rattle.line.specs.declared.Mode.the-variants.{Overlong}
+use Rattle.line.proofs.FeedLaws.{plus-zero, plus-plus, fromTurn}
 use Rattle.line.proofs.ReaderLaws.{held-byte, unheld-byte}
 
-pub stays : (s : List ℕ) (from : ℕ) (r : LineReader) → from ≤ length s → Reaches s from r from r
-stays s from r h = record { onward = omega arith; inside = h; same = refl }
+-- ---- where it ends
 
-pub goes-on : {s : List ℕ} {from mid at : ℕ} {r now next : LineReader} → Reaches s from r mid now
-    → Reaches s mid now at next → Reaches s from r at next
-goes-on p q = record { onward = omega (arith, p .onward, q .onward); inside = q .inside; same = p .same ∙ q .same }
+-- at once, where a flag stands
+pub ends-here : (s : List ℕ) (from : ℕ) (flag : isFlag (getD s from 0) ≡ true) → from < length s
+    → from ≡ from + countBefore isFlag (drop from s)
+ends-here s from flag h =
+    let n = before-here isFlag (drop from s) 0 (omega (arith, length-drop from s))
+    (ap isFlag (getD-drop from s 0 0 ∙ ap (λ (i : ℕ). getD s i 0) (add-zero from)) ∙ flag)
+    (sym (zero-add (countBefore isFlag (drop from s)))) in
+    omega (arith, n)
 
--- one byte more of a run
-plain-more : (s : List ℕ) (from : ℕ) (r : LineReader) (i : ℕ) (now next : LineReader) → Reaches s from r i now
-    → i < length s → isFlag (getD s i 0) ≡ false
-    → roleStep plain now (getD s i 0) .next ≡ next → Reaches s from r (i + 1) next
-plain-more s from r i now next so-far below e grown =
-    let q : stepOf now (getD s i 0) ≡ turn nothing next =
-    ap (λ (ρ : Role). roleStep ρ now (getD s i 0)) (no-flag (getD s i 0) e) ∙ ap (turn nothing) grown in
+-- or where the search in the part from an index on ends, as the code takes it
+pub search-ends : (s : List ℕ) (from n : ℕ) → n ≡ countBefore isFlag (take (length s - from) (drop from s))
+    → from + n ≡ from + countBefore isFlag (drop from s)
+search-ends s from n e =
+    ap (λ (k : ℕ). from + k)
+    (e ∙ ap (countBefore isFlag) (take-all (length s - from) (drop from s) (omega (arith, length-drop from s))))
+
+-- the bytes of a run, with any bytes after them, as they are fed
+feed-run : (run rest : List ℕ) (r : LineReader) → noneOf isFlag run ≡ true
+    → feedOf r (run ++ rest) ≡ laterBy (length run) (feedOf (afterRun r run) rest)
+unfolding feedOf noneOf
+feed-run [] rest r clear = plus-zero (feedOf r rest)
+feed-run (b ∷ run) rest r clear =
+    by-bool (isFlag b)
+    (λ y. absurd (true≢false (sym clear ∙ simp y)))
+    (λ n. let next = roleStep plain r b .next in
+    let k : 1 + length run ≡ suc (length run) = omega arith in
+    ap (λ (ρ : Role). fromTurn (roleStep ρ r b) (run ++ rest)) (no-flag b n)
+    ∙ ap (laterBy 1) (feed-run run rest next (simp n at clear))
+    ∙ plus-plus 1 (length run) (suc (length run)) (feedOf (afterRun next run) rest) k)
+
+-- a run of no bytes
+pub stays : (s : List ℕ) (from at : ℕ) (r : LineReader) → at ≡ from → Reaches s from r at r
+stays s from at r e =
     record {
-      onward = omega (arith, so-far .onward);
-      inside = omega arith;
-      same =
-          so-far .same ∙ not-answered now s i below (ap (λ (t : ReaderTurn). isAnswer (t .answer)) q)
-          ∙ ap (λ (t : ReaderTurn). laterBy (i + 1) (feedOf (t .next) (drop (i + 1) s))) q;
+      onward = omega arith;
+      same = ap (λ (i : ℕ). laterBy i (feedOf r (drop i s))) (sym e);
     }
 
-pub keep-more : (s : List ℕ) (from : ℕ) (bytes₀ : List ℕ) (len : ℕ) (i : ℕ) (bytes : List ℕ) (n : ℕ)
-    → ((m : Mode) → isHeld m ≡ true → Reaches s from (reader bytes₀ len m) i (reader bytes n m)) → i < length s
-    → isFlag (getD s i 0) ≡ false → n < 118
-    → (m : Mode) → isHeld m ≡ true
-    → Reaches s from (reader bytes₀ len m) (i + 1) (reader (set bytes n (getD s i 0)) (n + 1) m)
-keep-more s from bytes₀ len i bytes n so-far below e l m h =
-    plain-more s from (reader bytes₀ len m) i (reader bytes n m) (reader (set bytes n (getD s i 0)) (n + 1) m)
-    (so-far m h) below e
-    (held-byte m bytes n (getD s i 0) h ∙ simp (lt-ltb n 118 l))
+-- any run
+module _ (s : List ℕ) (from at : ℕ) (h : from ≤ length s) (e : at ≡ from + countBefore isFlag (drop from s)) where
+  pub run-inside : at ≤ length s
+  run-inside = omega (arith, before-fits isFlag (drop from s), length-drop from s)
 
--- the same, counted from where the run began
-pub held-none : (s : List ℕ) (from : ℕ) (bytes : List ℕ) (len : ℕ) (m : Mode) → from ≤ length s
-    → Reaches s from (reader bytes len m) (from + 0) (reader bytes (len + 0) m)
-held-none s from bytes len m h =
-    let e : from ≡ from + 0 = omega arith in
-    let d : len ≡ len + 0 = omega arith in
-    subst (λ (n : ℕ). Reaches s from (reader bytes len m) (from + 0) (reader bytes n m)) d
-    (subst (λ (i : ℕ). Reaches s from (reader bytes len m) i (reader bytes len m)) e
-    (stays s from (reader bytes len m) h))
+  pub run-reaches : (r next : LineReader) → next ≡ afterRun r (take (at - from) (drop from s)) → Reaches s from r at next
+  run-reaches r next q =
+      record {
+        onward = omega arith;
+        same =
+            ap (λ (l : List ℕ). laterBy from (feedOf r l)) (sym (take-append-drop (at - from) (drop from s)))
+            ∙ ap (laterBy from) (feed-run run (drop (at - from) (drop from s)) r clear)
+            ∙ plus-plus from (length run) at (feedOf (afterRun r run) (drop (at - from) (drop from s))) count
+            ∙ ap (λ (l : List ℕ). laterBy at (feedOf (afterRun r run) l)) rest
+            ∙ ap (λ (u : LineReader). laterBy at (feedOf u (drop at s))) (sym q);
+      }
+    where
+      run : List ℕ
+      run = take (at - from) (drop from s)
 
-pub held-more : (s : List ℕ) (from : ℕ) (r : LineReader) (k len : ℕ) (bytes : List ℕ) (m : Mode)
-    → Reaches s from r (from + k + 1) (reader bytes (len + k + 1) m)
-    → Reaches s from r (from + (k + 1)) (reader bytes (len + (k + 1)) m)
-held-more s from r k len bytes m p =
-    let e : from + k + 1 ≡ from + (k + 1) = omega arith in
-    let d : len + k + 1 ≡ len + (k + 1) = omega arith in
-    subst (λ (n : ℕ). Reaches s from r (from + (k + 1)) (reader bytes n m)) d
-    (subst (λ (i : ℕ). Reaches s from r i (reader bytes (len + k + 1) m)) e p)
+      clear : noneOf isFlag run ≡ true
+      clear =
+          let n : at - from ≡ countBefore isFlag (drop from s) = omega arith in
+          ap (λ (k : ℕ). noneOf isFlag (take k (drop from s))) n ∙ before-clear isFlag (drop from s)
 
--- what a test of the block that stands at an index tells, as the code takes it
-pub clear-block : (s : List ℕ) (i : ℕ) (clear : Bool) → clear ≡ noneOf isFlag (take (i + 32 - i) (drop i s))
-    → clear ≡ true → noneOf isFlag (take 32 (drop i s)) ≡ true
-clear-block s i clear e y =
-    let n : i + 32 - i ≡ 32 = omega arith in ap (λ (k : ℕ). noneOf isFlag (take k (drop i s))) (sym n) ∙ sym e ∙ y
+      count : from + length run ≡ at
+      count = omega (arith, length-take-le (at - from) (drop from s) (omega (arith, run-inside, length-drop from s)))
 
--- a block without a flag has none at each of its indices
-pub in-block : (s : List ℕ) (from n k : ℕ) → from + n ≤ length s → noneOf isFlag (take n (drop from s)) ≡ true → k < n
-    → isFlag (getD s (from + k) 0) ≡ false
-in-block s from n k h none l =
-    ap isFlag (sym (getD-take n (drop from s) k 0 l ∙ getD-drop from s k 0))
-    ∙ none-at isFlag (take n (drop from s)) none k
-    (omega (arith, length-take-le n (drop from s) (omega (arith, length-drop from s))))
+      rest : drop (at - from) (drop from s) ≡ drop at s
+      rest =
+          let n : from + (at - from) ≡ at = omega arith in
+          drop-drop (at - from) from s ∙ ap (λ (k : ℕ). drop k s) n
 
--- the bytes of such a block are passed over by a reader that does not hold them
-skip-block : (s : List ℕ) (from n : ℕ) → from + n ≤ length s → noneOf isFlag (take n (drop from s)) ≡ true
-    → (r : LineReader) → isHeld (r .state .mode) ≡ false → Reaches s from r (from + n) r
-skip-block s from n h none r held′ = go n (omega arith)
-  where
-    go : (k : ℕ) → k ≤ n → Reaches s from r (from + k) r
-    go zero l = subst (λ (m : ℕ). Reaches s from r m r) (sym (add-zero from)) (stays s from r (omega arith))
-    go (suc k) l =
-        let more = plain-more s from r (from + k) r r (go k (omega arith)) (omega arith)
-        (in-block s from n k h none (omega arith))
-        (unheld-byte (r .state .mode) (r .bytes) (r .state .len) (getD s (from + k) 0) held′) in
-        let e : from + k + 1 ≡ from + suc k = omega arith in
-        subst (λ (m : ℕ). Reaches s from r m r) e more
+-- ---- the reader after it
 
--- and so are all bytes before the first flag, counted over the part from an index on, as the code takes it
-module _ (s : List ℕ) (from n : ℕ) (h : from ≤ length s)
-    (e : n ≡ countBefore isFlag (take (length s - from) (drop from s))) where
-  count-is : n ≡ countBefore isFlag (drop from s)
-  count-is = e ∙ ap (countBefore isFlag) (take-all (length s - from) (drop from s) (omega (arith, length-drop from s)))
+-- where the bytes are not held
+pub unheld-run : (r : LineReader) → isHeld (r .state .mode) ≡ false → (run : List ℕ) → r ≡ afterRun r run
+unheld-run r h [] = refl
+unheld-run r h (b ∷ run) =
+    unheld-run r h run
+    ∙ ap (λ (u : LineReader). afterRun u run) (sym (unheld-byte (r .state .mode) (r .bytes) (r .state .len) b h))
 
-  pub skip-fits : from + n ≤ length s
-  skip-fits = omega (arith, count-is, before-fits isFlag (drop from s), length-drop from s)
+module _ (m : Mode) (h : isHeld m ≡ true) where
+  -- where they are, and there is room for them
+  held-run : (run bytes : List ℕ) (len : ℕ) → length bytes ≡ capacity → len + length run ≤ capacity
+      → afterRun (reader bytes len m) run ≡ reader (splice bytes len run) (len + length run) m
+  held-run [] bytes len a room =
+      sym (ap₂ (λ (l : List ℕ) (n : ℕ). reader l n m) (splice-nil bytes len) (add-zero len))
+  held-run (b ∷ run) bytes len a room =
+      let n : len + 1 + length run ≡ len + suc (length run) = omega arith in
+      ap (λ (u : LineReader). afterRun u run)
+      (held-byte m bytes len b h ∙ simp (lt-ltb len capacity (omega arith)))
+      ∙ held-run run (set bytes len b) (len + 1) (length-set bytes len b ∙ a) (omega arith)
+      ∙ ap₂ (λ (l : List ℕ) (k : ℕ). reader l k m)
+      (ap (λ (l : List ℕ). splice l (len + 1) run) (set-splice bytes len b (omega arith))
+      ∙ splice-splice bytes len (b ∷ []) (omega arith) run) n
 
-  pub skip-all : (r : LineReader) → isHeld (r .state .mode) ≡ false → Reaches s from r (from + n) r
-  skip-all =
-      skip-block s from n skip-fits
-      (ap (λ (k : ℕ). noneOf isFlag (take k (drop from s))) count-is ∙ before-clear isFlag (drop from s))
+  -- where there is no room for any
+  pub full-run : (run bytes : List ℕ) (len : ℕ) → capacity ≤ len → 0 < length run
+      → reader bytes 0 Overlong ≡ afterRun (reader bytes len m) run
+  full-run [] bytes len full some = absurd (omega arith)
+  full-run (b ∷ run) bytes len full some =
+      unheld-run (reader bytes 0 Overlong) refl run
+      ∙ ap (λ (u : LineReader). afterRun u run) (sym (held-byte m bytes len b h ∙ simp (le-ltb len capacity full)))
 
--- how far the loop that holds bytes goes
-pub at-most : (room left most : ℕ) → most ≡ pick (leb room left) room left → (most ≤ room) × (most ≤ left)
-at-most room left most e =
-    by-bool (leb room left)
-    (λ y. let q : most ≡ room = e ∙ simp y in (omega arith, omega (arith, leb-true room left y)))
-    (λ y. let q : most ≡ left = e ∙ simp y in (omega (arith, leb-false room left y), omega arith))
+  -- as the code copies them, all or those that there is room for
+  pub kept-all : (run bytes left : List ℕ) (len : ℕ) → length bytes ≡ capacity → len < capacity
+      → length run ≤ capacity - len → left ≡ copied bytes len run
+      → reader left (len + length run) m ≡ afterRun (reader bytes len m) run
+  kept-all run bytes left len a below l e =
+      ap (λ (x : List ℕ). reader x (len + length run) m) (copied-fits run bytes left len (omega arith) e)
+      ∙ sym (held-run run bytes len a (omega arith))
+
+  pub kept-first : (run bytes left : List ℕ) (len : ℕ) → length bytes ≡ capacity → len < capacity
+      → capacity - len < length run → left ≡ copied bytes len (take (capacity - len) run)
+      → reader left 0 Overlong ≡ afterRun (reader bytes len m) run
+  kept-first run bytes left len a below l e =
+      let room = capacity - len in
+      let first = take room run in
+      let k = length-take-le room run (omega arith) in
+      full-run (drop room run) left (len + length first) (omega arith) (omega (arith, length-drop room run))
+      ∙ ap (λ (u : LineReader). afterRun u (drop room run))
+      (kept-all first bytes left len a below (omega arith) e)
+      ∙ sym (left-append (λ (u : LineReader) (b : ℕ). roleStep plain u b .next) (reader bytes len m) first (drop room run))
+      ∙ ap (afterRun (reader bytes len m)) (take-append-drop room run)

@@ -4,16 +4,17 @@ use mathlib.Core.Path.{_≡_}
 use mathlib.Core.Bool.{Bool, true, false}
 use mathlib.Core.List.{List, []}
 use lib.Dec.{ltb}
-use lib.ListN.{length, take, drop, set}
+use lib.ListN.{take, drop, set}
 use Rattle.lists.specs.Choice.{pick}
+use Rattle.lists.specs.Machine.{leftAfter}
+use Rattle.framing.specs.Reference.{plain}
 use Rattle.answer.specs.Answer.{result, refused}
 use Rattle.frame.specs.Answers.{standardOutline, extendedOutline}
 use Rattle.line.specs.Outcome.{capacity, Summary, silent, tells, summaryOf, outcomeOf, padded}
 use Prim.Native.Nat.{ℕ, _+_, _≤_}
 use Rattle.line.specs.Feed.{laterBy, feedOf}
-use Rattle.line.specs.Reader.{ReaderTurn, reader}
+use Rattle.line.specs.Reader.{ReaderTurn, reader, roleStep}
 use Rattle.line.specs.declared.LineReader.{LineReader}
-use Rattle.line.specs.declared.runs.Run.{Run}
 use Rattle.line.specs.declared.Mode.{Mode}
 use Rattle.line.specs.declared.Mode.the-variants.{Outside, InStandard, InExtended, Overlong}
 
@@ -41,17 +42,12 @@ isHeld InStandard = true
 isHeld InExtended = true
 isHeld Overlong = false
 
+-- A reader after the bytes of a run, fed singly.
+abbrev pub afterRun : LineReader → List ℕ → LineReader
+afterRun r run = leftAfter (λ r b. roleStep plain r b .next) r run
+
 -- The bytes of s from an index on give one reader what those from a later index on give the other, both counted from
 -- the beginning of s.
 pub record Reaches (s : List ℕ) (from : ℕ) (r : LineReader) (at : ℕ) (next : LineReader) : Type 0 where
   pub onward : from ≤ at
-  pub inside : at ≤ length s
   pub same : laterBy from (feedOf r (drop from s)) ≡ laterBy at (feedOf next (drop at s))
-
--- Bytes from an index on, held one after the other up to the index where a run is said to end, which is at most `end`.
-pub record Kept (s : List ℕ) (from end : ℕ) (bytes : List ℕ) (len : ℕ) (bytes′ : List ℕ) (run : Run) : Type 0 where
-  pub onward : from ≤ run .at
-  pub within : run .at ≤ end
-  pub count : run .len + from ≡ len + run .at
-  pub same : (mode : Mode) → isHeld mode ≡ true
-      → Reaches s from (reader bytes len mode) (run .at) (reader bytes′ (run .len) mode)

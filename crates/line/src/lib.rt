@@ -144,7 +144,7 @@ pub fn finish_in(state: State) -> LentStep
 }
 
 // Feeds bytes to a reader whose array is lent, up to the first that is answered; with no answer it takes all of them.
-// Runs of bytes that are no flags have loops of their own, and the flags go through `step_in`.
+// Runs of bytes that are no flags are taken whole, and the flags go through `step_in`.
 pub fn feed_in(bytes: &mut [u8; 118], state: State, input: &[u8]) -> ChunkStep
     ensures { λ r. ⌜ ChunkStepIs (now (bytes .exit)) r
         (feedOf (lentReader (now (bytes .entry)) state) (now (input .entry))) ⌝ }
@@ -245,12 +245,13 @@ fn terminated(bytes: &mut [u8; 118], len: usize, mode: Mode) -> Told
         (terminatedIn rowing rowingBounds (modeSeen mode) (now (bytes .entry)) len) ⌝ }
     ensures { λ r. ⌜ now (bytes .exit) ≡ leftByStop rowing rowingBounds (modeSeen mode) (now (bytes .entry)) len ⌝ }
 {
-    match mode {
-        Mode::Outside => Told::Nothing,
-        Mode::InStandard => told_of(frame::judge_array(Kind::Standard, bytes, len)),
-        Mode::InExtended => told_of(frame::judge_array(Kind::Extended, bytes, len)),
-        Mode::Overlong => Told::Refused(Refusal::TooLong),
-    }
+    let kind = match mode {
+        Mode::Outside => return Told::Nothing,
+        Mode::InStandard => Kind::Standard,
+        Mode::InExtended => Kind::Extended,
+        Mode::Overlong => return Told::Refused(Refusal::TooLong),
+    };
+    told_of(frame::judge_array(kind, bytes, len))
 }
 
 fn told_of(read: Read) -> Told

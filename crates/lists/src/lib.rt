@@ -1,14 +1,16 @@
 // Definitions and laws on lists that the layers above share: a choice by a test, a test on every element, a list put
 // into another from an index on, the first element that passes a test, and a machine run on a list of calls.
 ghost use mathlib.Core.Path.{_≡_};
-ghost use Prim.Native.Nat.{_+_, _≤_};
+ghost use Prim.Native.Nat.{_+_, _≤_, _<_};
 ghost use lib.Dec.{leb};
 ghost use lib.ListN.{length, drop};
 ghost use Rattle.lists.specs.Choice.{pick, within, noneOf, countBefore};
 ghost use Rattle.lists.specs.Splice.{splice, copied};
 
-// How many bytes are tested together.
-pub const BLOCK: usize = 32;
+// How many bytes are tested together, and how many of those that are left.
+const BLOCK: usize = 32;
+
+const SMALL_BLOCK: usize = 8;
 
 // How many bytes are copied through an array.
 const SHORT: usize = 128;
@@ -47,8 +49,8 @@ pub fn none_within(s: &[u8], low: u8, high: u8) -> bool
 }
 
 // How many bytes stand before the first that lies between two values, both included. The first byte is tested by itself,
-// because it often is the one. Whole blocks without one are passed over next, because a block is tested without a branch
-// for each byte.
+// because it often is the one. Whole blocks without one are passed over next, then small ones, because a block is tested
+// without a branch for each byte.
 pub fn count_before(s: &[u8], low: u8, high: u8) -> usize
     ensures { λ r. ⌜ r ≡ countBefore (within low high) (now (s .entry)) ⌝ }
 {
@@ -58,7 +60,8 @@ pub fn count_before(s: &[u8], low: u8, high: u8) -> usize
     if mark(s[0], low, high) == 1 {
         return 0;
     }
-    let mut i = blocks_before(s, low, high);
+    let passed = blocks_before(s, low, high, 0, BLOCK);
+    let mut i = blocks_before(s, low, high, passed, SMALL_BLOCK);
     while i < s.len() {
         if mark(s[i], low, high) == 1 {
             return i;
@@ -112,17 +115,21 @@ fn copy_each(s: &[u8], out: &mut [u8], at: usize)
     }
 }
 
-fn blocks_before(s: &[u8], low: u8, high: u8) -> usize
+// Passes over whole blocks of a size from an index on, up to which there is none.
+fn blocks_before(s: &[u8], low: u8, high: u8, from: usize, size: usize) -> usize
+    requires { ⌜ 0 < size ⌝ }
+    requires { ⌜ from ≤ length (now s) ⌝ }
+    requires { ⌜ countBefore (within low high) (now s) ≡ from + countBefore (within low high) (drop from (now s)) ⌝ }
     ensures { λ r. ⌜ r ≤ length (now (s .entry)) ⌝ }
     ensures { λ r. ⌜ countBefore (within low high) (now (s .entry))
         ≡ r + countBefore (within low high) (drop r (now (s .entry))) ⌝ }
 {
-    let mut i: usize = 0;
-    while BLOCK <= s.len() - i {
-        if !none_within(&s[i..i + BLOCK], low, high) {
+    let mut i = from;
+    while size <= s.len() - i {
+        if !none_within(&s[i..i + size], low, high) {
             return i;
         }
-        i += BLOCK;
+        i += size;
     }
     i
 }

@@ -1,6 +1,9 @@
-use mathlib.Core.Path.{refl, ap, _∙_}
-use Rattle.line.specs.Outcome.{tells}
+use mathlib.Core.Path.{_≡_, refl, sym, ap, _∙_}
+use mathlib.Core.Logic.{⊎-elim}
+use Rattle.framing.specs.Bounded.{inside}
 use Rattle.frame.specs.Answers.{judgeAnswer, leftIn}
+use Rattle.line.specs.Outcome.{tells}
+use Rattle.line.specs.Reader.{modeSeen}
 use borrow.Author.Needs.{needs}
 use Rattle.line.proofs.terminated.Statement.{statement}
 use Rattle.line.proofs.terminated.Tie as tie
@@ -8,8 +11,21 @@ use Rattle.line.proofs.terminated.Tie as tie
 enum-told : tie.Need-enum-told
 enum-told c = search needs
 
+returns : tie.Need-returns
+returns c = search needs
+
 enum-told-2 : tie.Need-enum-told-2
 enum-told-2 c = search needs
+
+enum-told-3 : tie.Need-enum-told-3
+enum-told-3 c = search needs
+
+enum-told-4 : tie.Need-enum-told-4
+enum-told-4 c = search needs
+
+returns-2 : tie.Need-returns-2
+unfolding judgeAnswer leftIn
+returns-2 c = rw (c .enum-told4 .given .1) (refl, refl)
 
 judge-array-requires : tie.Need-judge-array-requires
 judge-array-requires c κs = search needs
@@ -17,48 +33,29 @@ judge-array-requires c κs = search needs
 told-of-requires : tie.Need-told-of-requires
 told-of-requires c κs = search needs
 
-enum-told-3 : tie.Need-enum-told-3
-enum-told-3 c = search needs
-
-judge-array-requires-2 : tie.Need-judge-array-requires-2
-judge-array-requires-2 c κs = search needs
-
-told-of-requires-2 : tie.Need-told-of-requires-2
-told-of-requires-2 c κs = search needs
-
-enum-told-4 : tie.Need-enum-told-4
-enum-told-4 c = search needs
-
-returns : tie.Need-returns
-returns c = search needs
-
-returns-2 : tie.Need-returns-2
-returns-2 c =
-    rw (c .before .before .before .enum-told2 .given .1)
-    (c .told-of .ensures ∙ ap tells (c .before .judge-array .ensures .0), c .before .judge-array .ensures .1)
+-- the kind that either arm gives is that of the mode
+kind-is : (c : tie.At-match-came) → modeSeen (c .before .args .mode) ≡ inside (c .match .kind)
+kind-is c =
+    ⊎-elim
+    (λ arm. ap modeSeen (arm .1 .given .1) ∙ ap inside (sym (arm .2)))
+    (λ arm. ap modeSeen (arm .1 .given .1) ∙ ap inside (sym (arm .2)))
+    (c .match .came)
 
 returns-3 : tie.Need-returns-3
 returns-3 c =
-    rw (c .before .before .before .enum-told3 .given .1)
-    (c .told-of2 .ensures ∙ ap tells (c .before .judge-array2 .ensures .0), c .before .judge-array2 .ensures .1)
-
-returns-4 : tie.Need-returns-4
-unfolding judgeAnswer leftIn
-returns-4 c = rw (c .enum-told4 .given .1) (refl, refl)
+    let j = c .before in
+    rw (kind-is (j .before .before)) (c .told-of .ensures ∙ ap tells (j .judge-array .ensures .0), j .judge-array .ensures .1)
 
 pub terminated-spec : {M : Type 1} → statement M
 terminated-spec =
     tie.close
     (tie.spec
     enum-told
+    returns
     enum-told-2
+    enum-told-3
+    enum-told-4
+    returns-2
     judge-array-requires
     told-of-requires
-    enum-told-3
-    judge-array-requires-2
-    told-of-requires-2
-    enum-told-4
-    returns
-    returns-2
-    returns-3
-    returns-4)
+    returns-3)

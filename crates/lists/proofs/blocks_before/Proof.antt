@@ -1,5 +1,4 @@
-use mathlib.Core.Path.{_≡_, sym}
-use native.Mathlib.Nat.{zero-add}
+use mathlib.Core.Path.{_≡_}
 use native.Mathlib.Omega.{arith}
 use lib.ListN.{length, drop}
 use Prim.Native.Nat.{_+_, _-_, _≤_}
@@ -11,14 +10,14 @@ use Rattle.lists.proofs.blocks_before.Statement.{statement}
 use Rattle.lists.proofs.blocks_before.Tie as tie
 
 abbrev Inv-loop : tie.InvT-loop
-Inv-loop s low high i₀ i =
+Inv-loop s low high from size i₀ i =
     (i ≤ length s) × (countBefore (within low high) s ≡ i + countBefore (within low high) (drop i s))
 
 abbrev μ-loop : tie.MeasureT-loop
-μ-loop s low high i₀ i = length s - i
+μ-loop s low high from size i₀ i = length s - i
 
 loop-holds : tie.Need-loop-holds Inv-loop μ-loop
-loop-holds c = (omega arith, sym (zero-add _))
+loop-holds c = (c .before .pre .1 .0, c .before .pre .1 .1)
 
 sub-loop : tie.Need-sub-loop Inv-loop μ-loop
 sub-loop c = search needs
@@ -52,7 +51,7 @@ loop-again c =
     let l = c .before .before .before .before in
     let t = c .before .before .before .loop-test .taken in (
       omega arith,
-      before-block _ _ (l .loop .i) 32 _ (omega arith) (c .before .none-within .ensures)
+      before-block _ _ (l .loop .i) _ _ (omega arith) (c .before .none-within .ensures)
           (not-false _ (c .if1 .left)) (l .loop .inv .1),
     )
 

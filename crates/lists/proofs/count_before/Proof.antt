@@ -10,11 +10,11 @@ use Rattle.lists.proofs.count_before.Statement.{statement}
 use Rattle.lists.proofs.count_before.Tie as tie
 
 abbrev Inv-loop : tie.InvT-loop
-Inv-loop s low high i₀ i =
+Inv-loop s low high passed i₀ i =
     (i ≤ length s) × (countBefore (within low high) s ≡ i + countBefore (within low high) (drop i s))
 
 abbrev μ-loop : tie.MeasureT-loop
-μ-loop s low high i₀ i = length s - i
+μ-loop s low high passed i₀ i = length s - i
 
 returns : tie.Need-returns Inv-loop μ-loop
 returns c = before-end _ _ 0 (omega (arith, c .if1 .taken)) (sym (zero-add _))
@@ -31,10 +31,13 @@ returns-2 c =
     (marked _ _ (c .before .mark .ensures) (c .if2 .taken)) (sym (zero-add _))
 
 blocks-before-requires : tie.Need-blocks-before-requires Inv-loop μ-loop
-blocks-before-requires c κs = search needs
+blocks-before-requires c κs = (omega arith, (omega arith, sym (zero-add _)))
+
+blocks-before-requires-2 : tie.Need-blocks-before-requires-2 Inv-loop μ-loop
+blocks-before-requires-2 c κs = (omega arith, (c .blocks-before .ensures .0, c .blocks-before .ensures .1))
 
 loop-holds : tie.Need-loop-holds Inv-loop μ-loop
-loop-holds c = (c .blocks-before .ensures .0, c .blocks-before .ensures .1)
+loop-holds c = (c .blocks-before2 .ensures .0, c .blocks-before2 .ensures .1)
 
 shared-slice-read-mark-2 : tie.Need-shared-slice-read-mark-2 Inv-loop μ-loop
 shared-slice-read-mark-2 c = search needs
@@ -76,6 +79,7 @@ count-before-spec =
     mark-requires
     returns-2
     blocks-before-requires
+    blocks-before-requires-2
     loop-holds
     shared-slice-read-mark-2
     mark-requires-2

@@ -1,8 +1,8 @@
 use native.Mathlib.Omega.{arith}
-use Rattle.line.proofs.RunLaws.{skip-fits, skip-all}
+use Rattle.line.proofs.RunLaws.{search-ends, run-inside}
 use borrow.Author.Needs.{needs}
-use Rattle.line.proofs.runs.skip.Statement.{statement}
-use Rattle.line.proofs.runs.skip.Tie as tie
+use Rattle.line.proofs.runs.run_end.Statement.{statement}
+use Rattle.line.proofs.runs.run_end.Tie as tie
 
 sub-count-before : tie.Need-sub-count-before
 sub-count-before c = search needs
@@ -18,20 +18,16 @@ count-before-requires c κs = search needs
 
 add-result : tie.Need-add-result
 add-result c =
-    let a = c .before .before .before in
-    record {
-      fits = omega (
-        arith,
-        skip-fits (a .args .input .now) (a .args .from) (c .count-before .result) (a .pre)
-            (c .count-before .ensures),
-      );
-    }
+    let p = c .before .before in
+    let s = p .args .input .now in
+    let e = search-ends s (p .args .from) _ (c .count-before .ensures) in
+    record { fits = omega (arith, run-inside s (p .args .from) _ (omega (arith, p .pre)) e) }
 
 returns : tie.Need-returns
-returns c = skip-all _ _ _ (c .before .before .before .pre) (c .count-before .ensures)
+returns c = search-ends _ _ _ (c .count-before .ensures)
 
-pub skip-spec : {M : Type 1} → statement M
-skip-spec =
+pub run-end-spec : {M : Type 1} → statement M
+run-end-spec =
     tie.close
     (tie.spec
     sub-count-before
