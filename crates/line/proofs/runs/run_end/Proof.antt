@@ -18,7 +18,7 @@ count-before-requires c κs = search needs
 
 add-result : tie.Need-add-result
 add-result c =
-    let p = c .before .before in
+    let p = c .before .before .before in
     let s = p .args .input .now in
     let e = search-ends s (p .args .from) _ (c .count-before .ensures) in
     record { fits = omega (arith, run-inside s (p .args .from) _ (omega (arith, p .pre)) e) }
