@@ -12,8 +12,9 @@ use std::sync::mpsc;
 use std::thread;
 use std::time::Duration;
 
-use super::{check_printed, check_told, program, sample, theirs, trace, with_arguments};
+use super::{check_printed, check_told, program, sample, theirs, with_arguments};
 use crate::common::{Xorshift, SEED};
+use crate::traces::Stretches;
 
 const USAGE: &str = "usage: listing [FILE]  (without FILE, or with -, standard input is read)\n";
 
@@ -35,7 +36,8 @@ fn file(name: &str, trace: &[u8]) -> PathBuf {
 
 #[test]
 fn a_long_file_is_listed_alike() {
-    let bytes = trace(&mut Xorshift::new(), 8_000_000);
+    let mut bytes = Vec::new();
+    Stretches::default().put_trace(&mut Xorshift::new(), 8_000_000, &mut bytes);
     let path = file("long.bin", &bytes);
     let printed = with_arguments(&[path], Stdio::null());
     check_printed(&format!("a file, seed {SEED:#X}"), &bytes, &printed);
