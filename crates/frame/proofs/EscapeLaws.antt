@@ -122,9 +122,6 @@ module _ (s : List ℕ) (i : ℕ) where
 abbrev pub Paired : List ℕ → (bad i : ℕ) → Type 0
 Paired s bad i = (t : Bool) × (bad ≡ pick t 0 1) × (good s ≡ pick t (good (drop i s)) false)
 
-pub paired-none : (s : List ℕ) → Paired s 0 0
-paired-none s = (true, refl, refl)
-
 pub paired-more : (s : List ℕ) (bad i hit : ℕ) → i + 1 < length s
     → hit ≡ pick (goodPair (getD s i 0) (getD s (i + 1) 0)) 0 1
     → Paired s bad i → Paired s (bitOr bad hit) (i + 1)

@@ -222,14 +222,6 @@ under-frame (Addressed to from) v l = refl
 
 module _ (h : Header) (body : List ℕ) (next : ℕ) (limit : length body ≤ 118)
     (here : unstuff false body ≡ headed h (unstuff false (drop next body))) where
-  pub rest-escape : scanFrom 0 0 (unstuff false (drop next body)) ≡ Fault → judge (headerKind h) body ≡ refused 3
-  unfolding scanFrom
-  rest-escape e = judge-escape (headerKind h) body limit (here ∙ bad (unstuff false (drop next body)) e)
-    where
-      bad : (r : Unstuffed) → scanFrom 0 0 r ≡ Fault → headed h r ≡ badEscape
-      bad badEscape e = headed-bad h
-      bad (bytes u) e = let z : _≡_ {A = ℕ} 0 1 = cc in absurd (omega arith)
-
   module _ (len sum : ℕ) (e : Good len sum ≡ scanFrom 0 0 (unstuff false (drop next body))) where
     -- the contents and the checksum
     rest : List ℕ
@@ -418,14 +410,6 @@ module _ (header : Header) (body : List ℕ) (start sum : ℕ) (p : UnescapedAft
     after-sound z =
         rest-sound header body start (p .limit) (p .addressed) (length body - start) sum after-scan (omega arith) z
         (p .inside)
-
-    -- the contents are the bytes after the addresses, without the last
-    pub after-length : length (unstuffedBytes (unstuff false (drop start body))) ≡ length body - start - 1 + 1
-    unfolding unstuffedBytes
-    after-length =
-        ap (λ (r : Unstuffed). length (unstuffedBytes r))
-        (unstuff-plain (drop start body) (none-drop (within 0xF3 0xF3) start body (p .clear)))
-        ∙ omega (arith, length-drop start body)
 
 -- ---- the answers of a reader and of a judge
 

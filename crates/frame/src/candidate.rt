@@ -6,7 +6,6 @@ use crate::flags;
 use answer::Refusal;
 ghost use mathlib.Core.Path.{_≡_};
 ghost use mathlib.Core.Bool.{true, false};
-ghost use mathlib.Core.List.{_++_};
 ghost use Prim.Native.Nat.{_+_, _≤_, _<_};
 ghost use lib.Bits.{bitOr, bitXor};
 ghost use lib.ListN.{length, take, drop};

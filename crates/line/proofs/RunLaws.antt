@@ -2,16 +2,16 @@
 use mathlib.Core.Path.{_≡_, refl, sym, ap, ap₂, _∙_}
 use mathlib.Core.Bool.{true, false, true≢false}
 use mathlib.Core.List.{List, [], _∷_, _++_}
-use native.Mathlib.Nat.{add-zero, zero-add}
+use native.Mathlib.Nat.{add-zero}
 use native.Mathlib.Omega.{arith}
-use lib.ListN.{length, take, drop, getD, set, length-drop, length-set, take-append-drop}
-use lib.Seq.{getD-drop, drop-drop, length-take-le, take-all}
+use lib.ListN.{length, take, drop, set, length-drop, length-set, take-append-drop}
+use lib.Seq.{drop-drop, length-take-le, take-all}
 use Prim.Native.Nat.{ℕ, suc, _+_, _-_, _≤_, _<_}
 use borrow.Author.Tests.{lt-ltb, le-ltb}
 use Rattle.lists.specs.Choice.{noneOf, countBefore}
 use Rattle.lists.specs.Splice.{splice, copied}
 use Rattle.lists.proofs.Cases.{by-bool}
-use Rattle.lists.proofs.Before.{before-here, before-fits, before-clear}
+use Rattle.lists.proofs.Before.{before-fits, before-clear}
 use Rattle.lists.proofs.Machines.{left-append}
 use Rattle.lists.proofs.Splices.{splice-nil, splice-splice, set-splice, copied-fits}
 use Rattle.framing.specs.Reference.{Role, plain}
@@ -29,16 +29,7 @@ use Rattle.line.proofs.ReaderLaws.{held-byte, unheld-byte}
 
 -- ---- where it ends
 
--- at once, where a flag stands
-pub ends-here : (s : List ℕ) (from : ℕ) (flag : isFlag (getD s from 0) ≡ true) → from < length s
-    → from ≡ from + countBefore isFlag (drop from s)
-ends-here s from flag h =
-    let n = before-here isFlag (drop from s) 0 (omega (arith, length-drop from s))
-    (ap isFlag (getD-drop from s 0 0 ∙ ap (λ (i : ℕ). getD s i 0) (add-zero from)) ∙ flag)
-    (sym (zero-add (countBefore isFlag (drop from s)))) in
-    omega (arith, n)
-
--- or where the search in the part from an index on ends, as the code takes it
+-- where the search in the part from an index on ends, as the code takes it
 pub search-ends : (s : List ℕ) (from n : ℕ) → n ≡ countBefore isFlag (take (length s - from) (drop from s))
     → from + n ≡ from + countBefore isFlag (drop from s)
 search-ends s from n e =

@@ -3,7 +3,6 @@ use Prim.Native.Nat.{ℕ, zero, suc, _+_, _-_, _≤_, _<_}
 use mathlib.Core.Path.{_≡_, refl, sym, ap, _∙_}
 use mathlib.Core.Bool.{Bool, true, false, true≢false}
 use mathlib.Core.List.{List, [], _∷_, _++_}
-use native.Mathlib.Nat.{add-zero, zero-add, add-assoc}
 use native.Mathlib.Omega.{arith}
 use native.Mathlib.Numerals.{add-one}
 use lib.Bits.{bitOr}
@@ -96,13 +95,6 @@ module _ (p : ℕ → Bool) where
       ∙ simp (f, n)
 
   -- a loop that counts the elements that pass
-  count-append : (a b : List ℕ) → countOf p (a ++ b) ≡ countOf p a + countOf p b
-  unfolding countOf
-  count-append [] b = sym (zero-add (countOf p b))
-  count-append (x ∷ a) b =
-      ap (λ (n : ℕ). pick (p x) 1 0 + n) (count-append a b)
-      ∙ sym (add-assoc (pick (p x) 1 0) (countOf p a) (countOf p b))
-
   pub count-at : (s : List ℕ) (i : ℕ) → i < length s
       → countOf p (drop i s) ≡ pick (p (getD s i 0)) 1 0 + countOf p (drop (i + 1) s)
   unfolding countOf
@@ -111,24 +103,6 @@ module _ (p : ℕ → Bool) where
   pub count-end : (s : List ℕ) (i : ℕ) → length s ≤ i → countOf p (drop i s) ≡ 0
   unfolding countOf
   count-end s i h = ap (countOf p) (drop-of-length-le s h)
-
-  pub count-last : (s : List ℕ) (last : ℕ) → 1 ≤ length s → last ≡ getD s (length s - 1) 0 → p last ≡ false
-      → countOf p (take (length s - 1) s) ≡ countOf p s
-  unfolding countOf
-  count-last s last h e n =
-      sym
-      (ap (countOf p) (last-apart s h ∙ ap (λ (b : ℕ). take (length s - 1) s ++ (b ∷ [])) (sym e))
-      ∙ count-append (take (length s - 1) s) (last ∷ [])
-      ∙ simp n (add-zero (countOf p (take (length s - 1) s))))
-
-  -- where none passes the count is 0, and only there
-  pub count-none : (s : List ℕ) → countOf p s ≡ 0 → noneOf p s ≡ true
-  unfolding countOf noneOf
-  count-none [] e = refl
-  count-none (x ∷ s) e =
-      by-bool (p x)
-      (λ y. let q : 1 + countOf p s ≡ 0 = simp y at e in absurd (omega arith))
-      (λ n. let q : 0 + countOf p s ≡ 0 = simp n at e in simp n (count-none s (omega arith)))
 
   pub count-most : (s : List ℕ) → countOf p s ≤ length s
   unfolding countOf

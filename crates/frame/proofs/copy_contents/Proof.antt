@@ -1,7 +1,6 @@
 use mathlib.Core.Path.{sym}
-use Prim.Native.Nat.{_≤_}
 use native.Mathlib.Omega.{arith}
-use lib.ListN.{length, take}
+use lib.ListN.{take}
 use lib.Seq.{length-take-le}
 use Rattle.lists.proofs.Splices.{copied-fits}
 use Rattle.frame.proofs.ContentsLaws.{copied-plain, front-sound, front-length, front-inside, front-put}

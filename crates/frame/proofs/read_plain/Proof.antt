@@ -1,13 +1,11 @@
-use mathlib.Core.Path.{_≡_, sym, ap, _∙_, subst}
+use mathlib.Core.Path.{_≡_, ap, _∙_, subst}
 use Prim.Native.Nat.{ℕ, _+_, _-_, _≤_}
 use native.Mathlib.Omega.{arith}
-use mathlib.Core.List.{List, _++_}
 use lib.ListN.{length, take, drop, length-drop}
 use lib.Seq.{length-take-le}
 use Rattle.lists.specs.Splice.{copied}
 use Rattle.lists.proofs.Splices.{copied-fits}
-use Rattle.frame.specs.Verdict.{judge}
-use Rattle.frame.specs.Private.{frameOf, Examines, SoundAt}
+use Rattle.frame.specs.Private.{Examines, SoundAt}
 use Rattle.frame.specs.declared.candidate.Examined.{Examined}
 use Rattle.answer.specs.Answer.{result}
 use Rattle.frame.proofs.VerdictLaws.{answer-refused, answer-no-room, answer-done, header-as, contents-of}

@@ -1,5 +1,4 @@
-use mathlib.Core.Path.{_≡_, sym, ap, _∙_}
-use native.Mathlib.Omega.{arith}
+use mathlib.Core.Path.{_≡_, ap, _∙_}
 use mathlib.Core.Bool.{false}
 use lib.ListN.{drop}
 use Rattle.frame.specs.Stuffing.{unstuff}
@@ -7,7 +6,6 @@ use Rattle.frame.specs.Private.{scanFrom, headed}
 use Rattle.frame.specs.declared.candidate.Scan.the-variants.{Good}
 use Rattle.frame.proofs.VerdictLaws.{rest-short, rest-sum, rest-sound, headed-count, headed-scan, scan-clean}
 use Rattle.frame.proofs.VerdictLaws.{whole-judged}
-use borrow.Author.Needs.{needs}
 use Rattle.frame.proofs.candidate.examine_after.Statement.{statement}
 use Rattle.frame.proofs.candidate.examine_after.Tie as tie
 

@@ -1,4 +1,4 @@
-use mathlib.Core.Path.{_≡_, refl, sym, ap, subst}
+use mathlib.Core.Path.{refl, sym, ap, subst}
 use Prim.Native.Nat.{_-_}
 use lib.Bits.{bitXor}
 use native.Mathlib.Omega.{arith}
