@@ -135,7 +135,8 @@ uint64_t csafe_feed(uint8_t bytes[CSAFE_LINE_LEN], uint64_t *state, const uint8_
                     uint64_t *taken);
 
 /*
- * Ends the input of a reader, which is as new afterwards. Its bytes stay as they are. The kind is CSAFE_NOTHING.
+ * Ends the input of a reader, which is as new afterwards. Its bytes stay as they are. The kind is
+ * CSAFE_NOTHING where no candidate was open.
  * Refused: CSAFE_TRUNCATED where a candidate for a frame was open.
  */
 uint64_t csafe_finish(uint64_t *state);

@@ -200,11 +200,6 @@ unfolding prepend
 headed-bytes Plain v = refl
 headed-bytes (Addressed to from) v = refl
 
-headed-bad : (h : Header) → headed h badEscape ≡ badEscape
-unfolding prepend
-headed-bad Plain = refl
-headed-bad (Addressed to from) = refl
-
 under-length : (h : Header) (v : List ℕ) → length (under h v) ≡ addressCount (headerKind h) + length v
 under-length Plain v = omega arith
 under-length (Addressed to from) v = omega arith

@@ -31,7 +31,8 @@ pub(crate) fn look(s: &[u8], low: u8, high: u8) -> Looked
     }
 }
 
-// The mark with one byte more: 1 as soon as a byte lies between two values, both included.
+// The mark with one byte more: 1 as soon as a byte lies between two values, both included. As a choice between 1 and the
+// mark the compiler gathers it faster than as an or with the byte's own mark.
 fn see(seen: u8, b: u8, low: u8, high: u8) -> u8
     ensures { λ r. ⌜ r ≡ pick (within low high b) 1 seen ⌝ }
 {

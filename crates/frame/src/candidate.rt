@@ -114,8 +114,8 @@ pub(crate) fn next_at(s: &[u8], at: usize) -> Next
 }
 
 // Where every escape is sound, each takes one byte from the number, and its two bytes have the exclusive or of F0 and
-// the second. The last byte is taken by itself: it is the checksum, and a loop whose last turn is compared with 0 is
-// not turned into vector code.
+// the second. The last byte is taken by itself: none follows it to make a pair, and a loop whose last turn is compared
+// with 0 is not turned into vector code.
 fn scan_bytes(s: &[u8]) -> Scan
     requires { ⌜ length (now s) ≤ 118 ⌝ }
     ensures { λ r. ⌜ r ≡ scanOf (now (s .entry)) ⌝ }

@@ -85,7 +85,6 @@ pub fn read_frame(wire: &[u8], out: &mut [u8]) -> Read
         if looked.clear {
             return read_plain(kind, body, looked.sum, out);
         }
-        return read_stuffed(kind, body, out);
     }
     read_stuffed(kind, body, out)
 }

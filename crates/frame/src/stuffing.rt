@@ -109,7 +109,7 @@ fn put_each(s: &[u8], out: &mut [u8], from: usize) -> usize
 }
 
 // Writes a byte, stuffed, at an index, and answers the next index. It writes two places in any case, so there is no
-// branch on the byte.
+// branch on the byte. Of F0 to F3 the remainder is what is sent after the escape.
 fn put_pair(b: u8, out: &mut [u8], at: usize) -> usize
     requires { ⌜ at + 2 ≤ length (now out) ⌝ }
     ensures { λ r. ⌜ r ≡ at + length (stuffByte b) ⌝ }

@@ -47,6 +47,7 @@ fn print_stepped(index: usize, step: Stepped) -> LineReader {
         Told::Nothing => {}
         _ => {
             print_told(index, told, &contents);
+            // The zeros part the 118 bytes into one part more than there are zeros.
             print::say(
                 print::NONZERO,
                 std::num::wrapping_sub_usize(119, words::parts(&contents, 0)),

@@ -92,25 +92,10 @@ same-length-2 c = search needs
 returns-3 : tie.Need-returns-3
 returns-3 c =
     let r = c .before .before in
-    let k = r .before .before .before .before .before .before in
+    let k = r .before .before .before .before in
     let out = St k .args .out .now in (
       r .read-stuffed .ensures .0 ∙ ap (λ (v : Verdict). readAnswer v (length out)) (judged k),
       r .read-stuffed .ensures .1 ∙ ap (λ (v : Verdict). readOut v out) (judged k),
-    )
-
-read-stuffed-requires-2 : tie.Need-read-stuffed-requires-2
-read-stuffed-requires-2 c κs = search needs
-
-same-length-3 : tie.Need-same-length-3
-same-length-3 c = search needs
-
-returns-4 : tie.Need-returns-4
-returns-4 c =
-    let r = c .before .before in
-    let k = r .before .before .before .before in
-    let out = St k .args .out .now in (
-      r .read-stuffed2 .ensures .0 ∙ ap (λ (v : Verdict). readAnswer v (length out)) (judged k),
-      r .read-stuffed2 .ensures .1 ∙ ap (λ (v : Verdict). readOut v out) (judged k),
     )
 
 pub read-frame-spec : {M : Type 1} → statement M
@@ -132,7 +117,4 @@ read-frame-spec =
     returns-2
     read-stuffed-requires
     same-length-2
-    returns-3
-    read-stuffed-requires-2
-    same-length-3
-    returns-4)
+    returns-3)
