@@ -154,9 +154,7 @@ impl fmt::Display for Error {
             Error::BadStatus => "bit 6 of the status byte is set, or its state is unknown",
             Error::BadAddress => "the address is not one of 01 to FC",
             Error::AlreadyHeld => "the address is held already",
-            Error::NotHolder => {
-                "the token is 0 or not the holder's, or the address is free"
-            },
+            Error::NotHolder => "the token is 0 or not the holder's, or the address is free",
             Error::OutOfLimits => "a number of the workout is outside its limits",
             Error::NotWorkout => "the contents are not a programmed workout",
             Error::ZeroToken => "the token is 0",
