@@ -20,12 +20,12 @@ use Rattle.lists.specs.Splice.{splice}
 use Rattle.lists.proofs.Lists.{back-in}
 use Rattle.frame.specs.Checksum.{checksum}
 use Rattle.frame.specs.Frame.{Frame, contentsOf, standard, extended}
-use Rattle.frame.specs.Answers.{leftIn, judgeAnswer, frameRead}
-use Rattle.frame.specs.Private.{frameOf, unstuffedBytes, isSound, isEscape, lastAt, SoundAt, judgeWhole}
+use Rattle.frame.specs.Answers.{leftIn, judgeAnswer, frameRead, readAnswer, readOut}
+use Rattle.frame.specs.Private.{frameOf, readAs, unstuffedBytes, isSound, isEscape, lastAt, SoundAt, judgeWhole}
 use Rattle.frame.specs.declared.Kind.{Kind}
 use Rattle.frame.specs.declared.Header.{Header}
 use Rattle.frame.proofs.UndoLaws.{before-last}
-use Rattle.frame.proofs.VerdictLaws.{contents-of, candidate-verdict}
+use Rattle.frame.proofs.VerdictLaws.{contents-of, candidate-verdict, answer-no-room, answer-done, header-as}
 
 -- ---- the stuffed contents and checksum of a sound body
 
@@ -49,6 +49,21 @@ module _ {kind : Kind} {body : List ℕ} {header : Header} {start len : ℕ} (s 
       e ∙ ap (λ (l : List ℕ). l ++ drop len d) rest-contents
       ∙ ap (λ (n : ℕ). s .contents ++ drop n d) (sym (s .counted))
       ∙ ap (λ (l : List ℕ). l ++ drop (length l) d) (sym (contents-of header (s .contents)))
+
+  as-many : length (contentsOf (frameOf header (s .contents))) ≡ len
+  as-many = ap length (contents-of header (s .contents)) ∙ s .counted
+
+  -- what a reader answers and leaves whose verdict is this frame: without room for the contents, and with it
+  pub read-no-room : (v : Verdict) (out : List ℕ) → v ≡ result (frameOf header (s .contents)) → length out < len
+      → (refused 1 ≡ readAnswer v (length out)) × (out ≡ readOut v out)
+  read-no-room v out q h = answer-no-room v _ out q (omega (arith, as-many))
+
+  pub read-first : (v : Verdict) (out last : List ℕ) → v ≡ result (frameOf header (s .contents)) → len ≤ length out
+      → last ≡ take len (unstuffedBytes (unstuff false (drop start body))) ++ drop len out
+      → (readAs header len ≡ readAnswer v (length out)) × (last ≡ readOut v out)
+  read-first v out last q h e =
+      let done = answer-done v _ out q (omega (arith, as-many)) in
+      (header-as header (s .contents) len (s .counted) ∙ done .0, rest-first out last e ∙ done .1)
 
 -- ---- bytes without an escape
 

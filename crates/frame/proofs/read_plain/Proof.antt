@@ -7,10 +7,8 @@ use Rattle.lists.specs.Splice.{copied}
 use Rattle.lists.proofs.Splices.{copied-fits}
 use Rattle.frame.specs.Private.{Examines, SoundAt}
 use Rattle.frame.specs.declared.candidate.Examined.{Examined}
-use Rattle.answer.specs.Answer.{result}
-use Rattle.frame.proofs.VerdictLaws.{answer-refused, answer-no-room, answer-done, header-as, contents-of}
-use Rattle.frame.proofs.VerdictLaws.{plain-rest}
-use Rattle.frame.proofs.ContentsLaws.{rest-length, rest-first, copied-plain}
+use Rattle.frame.proofs.VerdictLaws.{answer-refused, plain-rest}
+use Rattle.frame.proofs.ContentsLaws.{rest-length, read-no-room, read-first, copied-plain}
 use borrow.Author.Needs.{needs}
 use Rattle.frame.proofs.read_plain.Statement.{statement}
 use Rattle.frame.proofs.read_plain.Tie as tie
@@ -55,8 +53,7 @@ returns : tie.Need-returns
 returns c =
     let k = c .before in
     let s = sound k in
-    answer-no-room _ _ (St (E k) .args .out .now) (s .judged)
-    (omega (arith, c .if1 .taken, s .counted, ap length (contents-of (k .before .found2 .given .0 .0) (s .contents))))
+    read-no-room s _ (St (E k) .args .out .now) (s .judged) (c .if1 .taken)
 
 add-copy-short : tie.Need-add-copy-short
 add-copy-short c = omega (arith, inside (c .before))
@@ -90,18 +87,14 @@ returns-3 c =
     let s = sound k in
     let out = St (E k) .args .out .now in
     let part = drop (start k) (St (E k) .args .body .now) in
-    let n = ap length (contents-of (k .before .found2 .given .0 .0) (s .contents)) in
     let m : start k + len k - start k ≡ len k = omega arith in
     let left = c .before .before .before .before .before .before .if1 .left in
-    let done = answer-done _ _ out (s .judged) (omega (arith, n, s .counted, left)) in (
-      c .read-as .ensures ∙ header-as (k .before .found2 .given .0 .0) (s .contents) _ (s .counted) ∙ done .0,
-      rest-first s out _ (copied-plain part out _ (len k) (rest-length s) (rest k)
-          (copied-fits (take (len k) part) out _ 0
-          (omega (arith, length-take-le (len k) part (omega (arith, rest k)), left))
-          (c .before .before .before .copy-short .ensures
-          ∙ ap (λ (i : ℕ). copied out 0 (take i part)) m)))
-          ∙ done .1,
-    )
+    let put = read-first s _ out _ (s .judged) left
+    (copied-plain part out _ (len k) (rest-length s) (rest k)
+    (copied-fits (take (len k) part) out _ 0
+    (omega (arith, length-take-le (len k) part (omega (arith, rest k)), left))
+    (c .before .before .before .copy-short .ensures ∙ ap (λ (i : ℕ). copied out 0 (take i part)) m))) in
+    (c .read-as .ensures ∙ put .0, put .1)
 
 pub read-plain-spec : {M : Type 1} → statement M
 read-plain-spec =

@@ -9,9 +9,8 @@ use Rattle.frame.specs.Stuffing.{unstuff}
 use Rattle.frame.specs.Private.{frameOf, judgeWhole, ExaminesWhole, SoundAt, unstuffedBytes}
 use Rattle.frame.specs.declared.candidate.Examined.{Examined}
 use Rattle.answer.specs.Answer.{result}
-use Rattle.frame.proofs.VerdictLaws.{whole-judged, answer-refused, answer-no-room, answer-done, header-as}
-use Rattle.frame.proofs.VerdictLaws.{contents-of}
-use Rattle.frame.proofs.ContentsLaws.{rest-length, rest-first}
+use Rattle.frame.proofs.VerdictLaws.{whole-judged, answer-refused}
+use Rattle.frame.proofs.ContentsLaws.{rest-length, read-no-room, read-first}
 use borrow.Author.Needs.{needs}
 use Rattle.frame.proofs.read_stuffed.Statement.{statement}
 use Rattle.frame.proofs.read_stuffed.Tie as tie
@@ -57,10 +56,7 @@ enum-known-found-2 c = search needs
 
 returns : tie.Need-returns
 returns c =
-    let k = c .before in
-    let s = sound k in
-    answer-no-room _ _ (St (E k) .args .out .now) (accepts k)
-    (omega (arith, c .if1 .taken, s .counted, ap length (contents-of (k .before .found2 .given .0 .0) (s .contents))))
+    let k = c .before in read-no-room (sound k) _ (St (E k) .args .out .now) (accepts k) (c .if1 .taken)
 
 sub-copy-contents : tie.Need-sub-copy-contents
 sub-copy-contents c = let s = sound (c .before) in omega (arith, s .inside)
@@ -93,17 +89,12 @@ same-length c = search needs
 returns-3 : tie.Need-returns-3
 returns-3 c =
     let k = c .before .before .before .before .before .before .before in
-    let s = sound k in
     let out = St (E k) .args .out .now in
-    let n = ap length (contents-of (k .before .found2 .given .0 .0) (s .contents)) in
-    let done = answer-done _ _ out (accepts k)
-    (omega (arith, n, s .counted, c .before .before .before .before .before .before .if1 .left)) in (
-      c .read-as .ensures ∙ header-as (k .before .found2 .given .0 .0) (s .contents) _ (s .counted) ∙ done .0,
-      rest-first s out _ (c .before .before .before .copy-contents .ensures
-          ∙ ap (λ (l : List ℕ). take (k .before .found2 .given .0 .1 .1 .0) (unstuffedBytes (unstuff false l))
-          ++ drop (k .before .found2 .given .0 .1 .1 .0) out) (rest k))
-          ∙ done .1,
-    )
+    let put = read-first (sound k) _ out _ (accepts k) (c .before .before .before .before .before .before .if1 .left)
+    (c .before .before .before .copy-contents .ensures
+    ∙ ap (λ (l : List ℕ). take (k .before .found2 .given .0 .1 .1 .0) (unstuffedBytes (unstuff false l))
+    ++ drop (k .before .found2 .given .0 .1 .1 .0) out) (rest k)) in
+    (c .read-as .ensures ∙ put .0, put .1)
 
 pub read-stuffed-spec : {M : Type 1} → statement M
 read-stuffed-spec =
