@@ -345,10 +345,9 @@ module _ (s : List ℕ) (t : Tally) (some : 1 ≤ length s) (found : Tallied s t
   module _ (none : t .flags ≡ 0) (plain : isFlag last ≡ false) where
     unflagged : flagless s ≡ true
     unflagged =
-        none-last isFlag s last some refl
-        (by-bool (flagless (take (length s - 1) s)) (λ y. y)
-        (λ y. let q : t .flags ≡ 1 = found .flagged ∙ simp y in absurd (omega arith)))
-        plain
+        none-last isFlag s some plain
+        ∙ by-bool (flagless (take (length s - 1) s)) (λ y. y)
+        (λ y. let q : t .flags ≡ 1 = found .flagged ∙ simp y in absurd (omega arith))
 
     pub last-escape : last ≡ 0xF3 → Fault ≡ scanOf s
     last-escape e = scan-unsound s unflagged (ends-unsound s some e)

@@ -1,7 +1,7 @@
 -- Laws of the verdict: its shape test, its refusals one by one, and the frame that it accepts.
 use Prim.Native.Nat.{ℕ, suc, _+_, _-_, _≤_, _<_}
 use mathlib.Core.Path.{_≡_, refl, sym, ap, _∙_}
-use mathlib.Core.Bool.{true, false}
+use mathlib.Core.Bool.{Bool, true, false}
 use mathlib.Core.List.{List, [], _∷_, _++_}
 use native.Mathlib.Omega.{arith}
 use lib.Bits.{bitXor}
@@ -14,7 +14,7 @@ use Rattle.lists.proofs.Cases.{by-bool, both-true}
 use Rattle.lists.proofs.Lists.{drop-two}
 use Rattle.lists.proofs.Tests.{within-yes, within-true, none-drop}
 use Rattle.frame.specs.Flags.{flagless, kindOf, startFlag, candidateOf}
-use Rattle.frame.specs.Stuffing.{Unstuffed, badEscape, bytes, prepend, unstuff}
+use Rattle.frame.specs.Stuffing.{Unstuffed, badEscape, bytes, prepend, unstuff, isStuffed}
 use Rattle.frame.specs.Checksum.{sumFrom, checksum}
 use Rattle.frame.specs.Frame.{Frame, standard, extended, contentsOf, frameKind, addressesOf, payload}
 use Rattle.frame.specs.Verdict.{Verdict, addressCount, contentsIn, lastOf, frameIn, judgeBytes, judge, bodyOf}
@@ -24,7 +24,7 @@ use Rattle.answer.specs.Draft.{draftOut}
 use Rattle.frame.specs.Answers.{outlineOf, judgeAnswer, readAnswer, readOut}
 use Rattle.frame.specs.Private.{isBounded, frameOf, headerKind, headed, readAs, scanFrom, unstuffedBytes, SoundAt}
 use Rattle.frame.specs.Private.{Unescaped, UnescapedAfter, Examines, judgeWhole, ExaminesWhole, scanOf}
-use Rattle.frame.specs.Private.{WithoutHeader}
+use Rattle.frame.specs.Private.{WithoutHeader, EndsPlain}
 use Rattle.frame.specs.declared.Kind.{Kind}
 use Rattle.frame.specs.declared.Kind.the-variants.{Extended}
 use Rattle.frame.specs.declared.Header.{Header}
@@ -341,7 +341,15 @@ pub whole-examined : (kind : Kind) (body : List ℕ) → flagless body ≡ true 
 whole-examined kind body f (Unsound why) e = whole-judged kind body f ∙ e
 whole-examined kind body f (Sound header start len) e = (f, e)
 
--- one in which no byte is F0 to F3
+-- one in which no byte is F0 to F3, as a look finds it
+pub looked-clear : (body : List ℕ) (clear : Bool) (sum : ℕ) → EndsPlain body
+    → (clear ≡ noneOf isStuffed body) × (sum ≡ checksum body) → clear ≡ true → Unescaped body sum
+looked-clear body clear sum p found y = record {
+  limit = p .1;
+  clear = sym (found .0) ∙ y;
+  summed = found .1;
+}
+
 module _ (body : List ℕ) (sum : ℕ) (p : Unescaped body sum) where
   escapeless : noneOf (within 0xF3 0xF3) body ≡ true
   escapeless = none-narrower 0xF0 0xF3 0xF3 0xF3 body (omega arith) (omega arith) (p .clear)

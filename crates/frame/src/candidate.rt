@@ -9,13 +9,14 @@ ghost use mathlib.Core.Bool.{true, false};
 ghost use Prim.Native.Nat.{_+_, _≤_, _<_};
 ghost use lib.Bits.{bitOr, bitXor};
 ghost use lib.ListN.{length, take, drop};
-ghost use Rattle.lists.specs.Choice.{pick, within};
+ghost use Rattle.lists.specs.Choice.{pick, within, noneOf};
 ghost use Rattle.lists.specs.Splice.{splice};
 ghost use Rattle.frame.specs.Flags.{isFlag};
-ghost use Rattle.frame.specs.Stuffing.{unstuff, prepend};
+ghost use Rattle.frame.specs.Stuffing.{unstuff, prepend, isStuffed};
+ghost use Rattle.frame.specs.Checksum.{checksum};
 ghost use Rattle.frame.specs.Verdict.{addressCount};
 ghost use Rattle.frame.specs.Private.{isBounded, nextAt, scanOf, isSound, goodPair, lowerByte, isEscape, lifts};
-ghost use Rattle.frame.specs.Private.{unstuffedBytes, lastAt, headerKind, AddressesIn, EndsPlain, Unescaped};
+ghost use Rattle.frame.specs.Private.{unstuffedBytes, lastAt, headerKind, AddressesIn, EndsPlain};
 ghost use Rattle.frame.specs.Private.{Tallied, WithoutHeader, ExaminesWhole};
 
 // The most bytes that may stand between the flags.
@@ -234,6 +235,7 @@ fn source_after(body: &[u8], to: u8, at: usize) -> Addresses
 // Whether a body may be without F0 to F3: it is neither empty nor too long, and its last byte is none of them.
 pub(crate) fn ends_plain(body: &[u8]) -> bool
     ensures { λ r. ⌜ (r ≡ true → EndsPlain (now (body .entry))) ⌝ }
+    ensures { λ r. ⌜ (EndsPlain (now (body .entry)) → r ≡ true) ⌝ }
 {
     let n = body.len();
     if n == 0 {
@@ -246,10 +248,11 @@ pub(crate) fn ends_plain(body: &[u8]) -> bool
     !flags::is_stuffed(last)
 }
 
-// Whether no byte of such a body is F0 to F3, and then their exclusive or, in one pass.
+// Whether no byte of such a body is F0 to F3, and the exclusive or of all, in one pass.
 pub(crate) fn look_plain(body: &[u8]) -> Looked
     requires { ⌜ EndsPlain (now body) ⌝ }
-    ensures { λ r. ⌜ (r .clear ≡ true → Unescaped (now (body .entry)) (r .sum)) ⌝ }
+    ensures { λ r. ⌜ r .clear ≡ noneOf isStuffed (now (body .entry)) ⌝ }
+    ensures { λ r. ⌜ r .sum ≡ checksum (now (body .entry)) ⌝ }
 {
     let n = body.len();
     let last = body[n - 1];

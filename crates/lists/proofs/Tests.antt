@@ -85,14 +85,13 @@ module _ (p : ℕ → Bool) where
       joined false true = refl
       joined false false = refl
 
-  -- no element passes where the last, known by itself, and none before it does
-  pub none-last : (s : List ℕ) (last : ℕ) → 1 ≤ length s → last ≡ getD s (length s - 1) 0
-      → noneOf p (take (length s - 1) s) ≡ true → p last ≡ false → noneOf p s ≡ true
+  -- where the last element does not pass, the others decide whether any does
+  pub none-last : (s : List ℕ) → 1 ≤ length s → p (getD s (length s - 1) 0) ≡ false
+      → noneOf p s ≡ noneOf p (take (length s - 1) s)
   unfolding noneOf
-  none-last s last h e f n =
-      ap (noneOf p) (last-apart s h ∙ ap (λ (b : ℕ). take (length s - 1) s ++ (b ∷ [])) (sym e))
-      ∙ none-append (take (length s - 1) s) (last ∷ [])
-      ∙ simp (f, n)
+  none-last s h n =
+      ap (noneOf p) (last-apart s h) ∙ none-append (take (length s - 1) s) (getD s (length s - 1) 0 ∷ [])
+      ∙ by-bool (noneOf p (take (length s - 1) s)) (λ y. simp (y, n)) (λ y. simp (y, n))
 
   -- a loop that counts the elements that pass
   pub count-at : (s : List ℕ) (i : ℕ) → i < length s

@@ -5,10 +5,11 @@ use mathlib.Core.Bool.{true}
 use mathlib.Core.List.{List}
 use lib.ListN.{length, take, drop}
 use borrow.Author.Tests.{not-true, not-false}
-use Rattle.frame.specs.Private.{isBounded, judgeWhole}
+use Rattle.frame.specs.Private.{isBounded, judgeWhole, Unescaped}
 use Rattle.frame.specs.Verdict.{Verdict, verdict}
 use Rattle.frame.specs.Answers.{readAnswer, readOut}
 use Rattle.frame.proofs.VerdictLaws.{bounded-no, bounded-long, bounded-judged, plain-whole, answer-refused}
+use Rattle.frame.proofs.VerdictLaws.{looked-clear}
 use borrow.Author.Needs.{needs}
 use Rattle.frame.proofs.read_frame.Statement.{statement}
 use Rattle.frame.proofs.read_frame.Tie as tie
@@ -34,6 +35,10 @@ judged k =
     let n : length (W (T k)) - 1 - 1 ≡ length (W (T k)) - 2 = omega arith in
     ap (λ (x : _). judgeWhole x (B k)) (k .kind-of .ensures)
     ∙ bounded-judged (W (T k)) (bounded (T k)) (B k) (ap (λ (m : ℕ). take m (drop 1 (W (T k)))) n)
+
+unescaped : (l : tie.After-look-plain) → l .look-plain .result .clear ≡ true
+    → Unescaped (B (l .before .before .before)) (l .look-plain .result .sum)
+unescaped l = looked-clear _ _ _ (l .before .before .ends-plain .ensures .0 (l .before .if2 .taken)) (l .look-plain .ensures)
 
 is-bounded-requires : tie.Need-is-bounded-requires
 is-bounded-requires c κs = search needs
@@ -63,10 +68,10 @@ ends-plain-requires : tie.Need-ends-plain-requires
 ends-plain-requires c κs = search needs
 
 look-plain-requires : tie.Need-look-plain-requires
-look-plain-requires c κs = c .before .ends-plain .ensures (c .if2 .taken)
+look-plain-requires c κs = c .before .ends-plain .ensures .0 (c .if2 .taken)
 
 read-plain-requires : tie.Need-read-plain-requires
-read-plain-requires c κs = c .before .before .look-plain .ensures (c .before .if3 .taken)
+read-plain-requires c κs = unescaped (c .before .before) (c .before .if3 .taken)
 
 same-length : tie.Need-same-length
 same-length c = search needs
@@ -77,7 +82,7 @@ returns-2 c =
     let l = r .before .before .before in
     let k = l .before .before .before in
     let out = St k .args .out .now in
-    let same = plain-whole (B k) _ (l .look-plain .ensures (r .before .before .if3 .taken)) (k .kind-of .result)
+    let same = plain-whole (B k) _ (unescaped l (r .before .before .if3 .taken)) (k .kind-of .result)
     ∙ judged k in (
       r .read-plain .ensures .0 ∙ ap (λ (v : Verdict). readAnswer v (length out)) same,
       r .read-plain .ensures .1 ∙ ap (λ (v : Verdict). readOut v out) same,

@@ -30,12 +30,10 @@ returns : tie.Need-returns
 returns c =
     let l = c .before in
     let s = l .before .before .before .before in
-    let body = s .args .body .now in
-    λ y. record {
-      limit = s .pre .1;
-      clear = none-last isStuffed body _ (s .pre .0) refl (sym (l .look .ensures .0) ∙ y) (s .pre .2);
-      summed = sum-last body _ _ (s .pre .0) refl (l .look .ensures .1);
-    }
+    let body = s .args .body .now in (
+      l .look .ensures .0 ∙ sym (none-last isStuffed body (s .pre .0) (s .pre .2)),
+      sum-last body _ _ (s .pre .0) refl (l .look .ensures .1),
+    )
 
 pub look-plain-spec : {M : Type 1} → statement M
 look-plain-spec =
