@@ -7,7 +7,10 @@ use Prim.Native.Nat.{ℕ, _+_, _-_, _≤_}
 use native.Mathlib.Omega.{arith}
 use lib.ListN.{length, take, drop, length-append, length-drop}
 use lib.Seq.{take-add, take-length, take-at, length-take-le}
-use borrow.Author.Tests.{le-leb}
+use lib.Dec.{leb}
+use borrow.Author.Tests.{le-leb, leb-true, leb-false}
+use Rattle.lists.specs.Choice.{pick}
+use Rattle.lists.proofs.Cases.{by-bool}
 use Rattle.answer.specs.Answer.{Answer, result, refused}
 use Rattle.answer.specs.Draft.{draftAnswer, draftOut}
 use Rattle.text.specs.Text.{text}
@@ -33,6 +36,13 @@ add-on a b = omega arith
 -- a part at the front of a list has so many elements
 pub part-size : {n : ℕ} (l : List ℕ) → n ≤ length l → n ≡ length (take n l)
 part-size {n} l h = sym (length-take-le n l h)
+
+-- the lesser of two numbers is at most each of them
+pub lesser-both : {a b n : ℕ} → n ≡ pick (leb a b) a b → (n ≤ a) × (n ≤ b)
+lesser-both {a} {b} {n} e =
+    by-bool (leb a b)
+    (λ y. let q : n ≡ a = e ∙ simp y refl in (omega arith, omega (arith, leb-true a b y)))
+    (λ y. let q : n ≡ b = e ∙ simp y refl in (omega (arith, leb-false a b y), omega arith))
 
 -- the state and the number of bytes written after bytes
 pub record After (s₀ : Listing) (bytes : List ℕ) (s : Listing) (wrote : ℕ) : Type 0 where

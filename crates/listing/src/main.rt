@@ -192,12 +192,13 @@ fn fetch(fd: i32, input: &mut [u8], left: u64) -> Fetched
     requires { ⌜ 0 < left ⌝ }
     ensures { λ r. ⌜ Fetches (length (now (input .entry))) left r ⌝ }
 {
-    let most = least(input.len(), left);
+    let limit = left as usize;
+    let most = lists::lesser(input.len(), limit);
     let got = libc::read(fd, &mut input[..most]);
     if got < 0 {
         return Fetched::Failed;
     }
-    Fetched::Bytes(least(io::count(got, input), left))
+    Fetched::Bytes(lists::lesser(io::count(got, input), limit))
 }
 
 // Lists all of a chunk and writes what it gives. With room for a line each call takes a byte, so the loop ends.
@@ -273,11 +274,4 @@ fn send(text: &[u8]) -> Sent
     let whole = io::write_all(libc::STDOUT_FILENO, text);
     let len = text.len() as u64;
     Sent { len, whole }
-}
-
-fn least(n: usize, left: u64) -> usize
-    ensures { λ r. ⌜ r ≤ n ⌝ }
-    ensures { λ r. ⌜ r ≤ left ⌝ }
-{
-    if n as u64 <= left { n } else { left as usize }
 }
