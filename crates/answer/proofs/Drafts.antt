@@ -1,15 +1,15 @@
--- The three answers of a writer.
+-- The three answers of a writer, and a draft that is measured before it is written.
 use Prim.Native.Nat.{ℕ, _≤_, _<_}
-use mathlib.Core.Path.{_≡_, refl, sym, ap, _∙_}
+use mathlib.Core.Path.{_≡_, refl, sym, ap, _∙_, subst}
 use mathlib.Core.List.{List}
 use native.Mathlib.Nat.{zero-add}
 use native.Mathlib.Omega.{arith}
 use lib.Dec.{leb}
 use lib.ListN.{length, take, drop}
 use lib.Seq.{take-at}
-use borrow.Author.Tests.{lt-leb, le-leb}
-use Rattle.answer.specs.Draft.{Draft, draftAnswer, draftOut, Writes}
-use Rattle.answer.specs.Answer.{result, refused}
+use borrow.Author.Tests.{lt-leb, le-leb, leb-true, leb-false}
+use Rattle.answer.specs.Draft.{Draft, draftAnswer, draftOut, Writes, Foretells}
+use Rattle.answer.specs.Answer.{Answer, result, refused, through}
 use Rattle.lists.specs.Splice.{splice}
 use Rattle.lists.proofs.Cases.{by-bool}
 
@@ -44,3 +44,63 @@ written-first (result w) out n e =
     let l : length w ≡ n = cc in (w, refl, l, simp y (take-at w (drop (length w) out) n l)))
     (λ y. let q : refused 1 ≡ result n = simp y at e in
     let z : _≡_ {A = ℕ} 0 1 = cc in absurd (omega arith))
+
+-- ---- a draft that is measured before it is written
+
+apart : (n k : ℕ) → _≡_ {A = Answer ℕ} (result n) (refused k) → ⊥
+apart n k e = let z : _≡_ {A = ℕ} 0 1 = cc in omega arith
+
+same-result : {m n : ℕ} → _≡_ {A = Answer ℕ} (result m) (result n) → m ≡ n
+same-result e = cc
+
+same-refusal : {j k : ℕ} → _≡_ {A = Answer ℕ} (refused j) (refused k) → j ≡ k
+same-refusal e = cc
+
+-- a result that has room
+enough : (len room : ℕ) → len ≤ room → Foretells (result len) (result len) room
+enough len room h =
+    record {
+      fits = λ n. ((λ e. (e, omega (arith, same-result e))), (λ e. e .0));
+      lacks = (
+        (λ e. absurd (apart len 1 e)),
+        (λ e. absurd (omega (arith, e .2, same-result (e .1)))),
+      );
+      alike = λ k other. ((λ e. e), (λ e. e));
+      never-1 = apart len 1;
+    }
+
+-- a result that has none
+lacking : (len room : ℕ) → room < len → Foretells (result len) (refused 1) room
+lacking len room h =
+    record {
+      fits = λ n. ((λ e. absurd (apart n 1 (sym e))), (λ e. absurd (omega (arith, e .1, same-result (e .0)))));
+      lacks = ((λ e. (len, refl, h)), (λ e. refl));
+      alike = λ k other. ((λ e. absurd (other (sym (same-refusal e)))), (λ e. absurd (apart len k e)));
+      never-1 = apart len 1;
+    }
+
+-- a refusal of the draft's own
+refusing : (k room : ℕ) → (k ≡ 1 → ⊥) → Foretells (refused k) (refused k) room
+refusing k room other =
+    record {
+      fits = λ n. ((λ e. absurd (apart n k (sym e))), (λ e. absurd (apart n k (sym (e .0)))));
+      lacks = ((λ e. absurd (other (same-refusal e))), (λ e. absurd (apart (e .0) k (sym (e .1)))));
+      alike = λ j h. ((λ e. e), (λ e. e));
+      never-1 = λ e. other (same-refusal e);
+    }
+
+draft-foretold : (d : Draft) (room : ℕ) → (d ≡ refused 1 → ⊥) → Foretells (through length d) (draftAnswer d room) room
+unfolding draftAnswer
+draft-foretold (refused k) room other = refusing k room (λ e. other (ap refused e))
+draft-foretold (result w) room other =
+    by-bool (leb (length w) room)
+    (λ y. simp y (enough (length w) room (leb-true _ _ y)))
+    (λ y. simp y (lacking (length w) room (leb-false _ _ y)))
+
+-- What a call that measures a draft answers foretells what a call that writes it does.
+pub foretold : (d : Draft) (m a : Answer ℕ) (out last : List ℕ) → (d ≡ refused 1 → ⊥) → m ≡ through length d
+    → Writes d out a last → Foretells m a (length out)
+foretold d m a out last other e w =
+    subst (λ (x : Answer ℕ). Foretells x a (length out)) (sym e)
+    (subst (λ (x : Answer ℕ). Foretells (through length d) x (length out)) (sym (w .0))
+    (draft-foretold d (length out) other))

@@ -1,10 +1,10 @@
 -- What every writer of these crates answers and leaves in the output that it is lent.
-use Prim.Native.Nat.{ℕ}
+use Prim.Native.Nat.{ℕ, _≤_, _<_}
 use mathlib.Core.Path.{_≡_}
 use mathlib.Core.List.{List, _++_}
 use lib.Dec.{leb}
 use lib.ListN.{length, drop}
-use Rattle.lists.specs.Choice.{pick}
+use Rattle.lists.specs.Choice.{pick, Exactly}
 use Rattle.answer.specs.Answer.{Answer, result, refused}
 use Rattle.answer.specs.Refusals.{numberOf}
 use Rattle.answer.specs.declared.Written.{Written}
@@ -32,3 +32,12 @@ draftOut (result w) out = pick (leb (length w) (length out)) (w ++ drop (length 
 -- What a call that writes a draft answers, and the output that it was lent before and after.
 abbrev pub Writes : Draft → (out : List ℕ) → Answer ℕ → (last : List ℕ) → Type 0
 Writes d out a last = (a ≡ draftAnswer d (length out)) × (last ≡ draftOut d out)
+
+-- What a call that measures answers tells of a call that writes the same into so much room: written is that many bytes,
+-- exactly where they fit; 1 is answered exactly where the room is less; every other refusal is the same, and measuring is
+-- never refused with 1.
+pub record Foretells (measured written : Answer ℕ) (room : ℕ) : Type 0 where
+  pub fits : (n : ℕ) → Exactly (written ≡ result n) ((measured ≡ result n) × (n ≤ room))
+  pub lacks : Exactly (written ≡ refused 1) ((n : ℕ) × (measured ≡ result n) × (room < n))
+  pub alike : (k : ℕ) → (k ≡ 1 → ⊥) → Exactly (written ≡ refused k) (measured ≡ refused k)
+  pub never-1 : measured ≡ refused 1 → ⊥

@@ -7,7 +7,7 @@ use lib.Dec.{leb, eqb}
 use lib.ListN.{length, getD}
 use borrow.Author.Tests.{leb-true}
 use Rattle.answer.specs.Draft.{Draft, draftAnswer}
-use Rattle.answer.specs.Answer.{result, refused}
+use Rattle.answer.specs.Answer.{result, refused, through}
 use Rattle.lists.proofs.Cases.{by-bool}
 use Rattle.frame.specs.Address.{inRange}
 use Rattle.frame.specs.Frame.{Frame, standard, extended, contentsOf, wireOf}
@@ -33,12 +33,21 @@ unfolding draftAnswer
 draft-short (refused n) room h = tt
 draft-short (result w) room h = by-bool (leb (length w) room) (λ y. simp y h) (λ y. simp y tt)
 
-pub frame-short : (f : Frame) (room : ℕ) → WriteShort (draftAnswer (frameDraft f) room)
+of-frame : (f : Frame) → DraftShort (frameDraft f)
 unfolding frameDraft
-frame-short f room =
-    draft-short (frameDraft f) room
-    (by-bool (leb (length (wireOf f)) 120) (λ y. simp y (omega (arith, leb-true (length (wireOf f)) 120 y)))
-    (λ y. simp y tt))
+of-frame f =
+    by-bool (leb (length (wireOf f)) 120) (λ y. simp y (omega (arith, leb-true (length (wireOf f)) 120 y)))
+    (λ y. simp y tt)
+
+pub frame-short : (f : Frame) (room : ℕ) → WriteShort (draftAnswer (frameDraft f) room)
+frame-short f room = draft-short (frameDraft f) room (of-frame f)
+
+pub length-short : (f : Frame) → WriteShort (through length (frameDraft f))
+length-short f = of-draft (frameDraft f) (of-frame f)
+  where
+    of-draft : (d : Draft) → DraftShort d → WriteShort (through length d)
+    of-draft (refused n) h = tt
+    of-draft (result w) h = h
 
 pub workout-short : (limits : Limits) (w : Programmed) (room : ℕ)
     → WriteShort (draftAnswer (workoutDraft limits w) room)

@@ -1,5 +1,6 @@
--- Demands 1 and 2 of the exported frame functions: calls of `csafe_write_standard`, `csafe_write_extended` and
--- `csafe_read`, known by nothing but what their contracts tell a caller, with the answers that their numbers tell.
+-- Demands 1 and 2 of the exported frame functions: calls of `csafe_write_standard`, `csafe_write_extended`,
+-- `csafe_standard_length`, `csafe_extended_length` and `csafe_read`, known by nothing but what their contracts tell a
+-- caller, with the answers that their numbers tell.
 use Prim.Native.Nat.{ℕ, _≤_}
 use mathlib.Core.Path.{_≡_}
 use mathlib.Core.List.{List, _++_}
@@ -7,17 +8,20 @@ use lib.ListN.{length, take, drop}
 use contract.Lifetimes.{Lfts}
 use denote.Ref.{RefT}
 use Rattle.lists.specs.Choice.{Exactly}
-use Rattle.answer.specs.Answer.{Answer, result}
-use Rattle.answer.specs.Draft.{Writes}
+use Rattle.answer.specs.Answer.{Answer, result, through}
+use Rattle.answer.specs.Draft.{Writes, Foretells}
+use Rattle.answer.proofs.Drafts.{foretold}
 use Rattle.frame.specs.Frame.{Frame, standard, extended, contentsOf, wireOf}
 use Rattle.frame.specs.Answers.{FrameOutline, outlineOf, frameDraft, frameRead, Reads}
-use Rattle.frame.specs.Conditions.{Sound, SoundFrame, ReadJudged, WriteJudged}
-use Rattle.frame.proofs.Table.{reads-exactly, writes-exactly}
+use Rattle.frame.specs.Conditions.{Sound, SoundFrame, ReadJudged, WriteJudged, LengthJudged}
+use Rattle.frame.proofs.Table.{reads-exactly, writes-exactly, lengths-exactly, draft-never-1}
 use Rattle.frame.proofs.RoundTrip.{told-when, told-exactly, told-as-written, written-reads-back, read-writes-back}
 use Rattle.exports.specs.Told.{toldWritten, toldRead}
-use Rattle.exports.proofs.ToldLaws.{frame-told, slice-told}
+use Rattle.exports.proofs.ToldLaws.{frame-told, length-told, slice-told}
 use Rattle.exports.proofs.csafe_write_standard.Reads as write-standard-reads
 use Rattle.exports.proofs.csafe_write_extended.Reads as write-extended-reads
+use Rattle.exports.proofs.csafe_standard_length.Reads as standard-length-reads
+use Rattle.exports.proofs.csafe_extended_length.Reads as extended-length-reads
 use Rattle.exports.proofs.csafe_read.Reads as read-reads
 
 -- ---- calls
@@ -31,6 +35,16 @@ pub data ExportedWrite : Frame → (out : List ℕ) → Answer ℕ → (last : L
   wrote-extended : {to from : ℕ} (n : ℕ) (κs : Lfts 2) (contents out out′ : RefT (List ℕ))
       → write-extended-reads.Learnt κs (to, (from, (contents, (out, tt)))) n (to, (from, (contents, (out′, tt))))
       → ExportedWrite (extended to from (contents .now)) (out .now) (toldWritten n) (out′ .now)
+
+-- A call that asks how many bytes a frame takes on the wire, by the function of its kind: the answer that its number
+-- tells.
+pub data ExportedLength : Frame → Answer ℕ → Type 0 where
+  measured-standard : (n : ℕ) (κs : Lfts 1) (contents : RefT (List ℕ))
+      → standard-length-reads.Learnt κs (contents, tt) n (contents, tt)
+      → ExportedLength (standard (contents .now)) (toldWritten n)
+  measured-extended : {to from : ℕ} (n : ℕ) (κs : Lfts 1) (contents : RefT (List ℕ))
+      → extended-length-reads.Learnt κs (to, (from, (contents, tt))) n (to, (from, (contents, tt)))
+      → ExportedLength (extended to from (contents .now)) (toldWritten n)
 
 -- A call that reads a slice: the answer that its number tells, and the output before and after.
 pub data ExportedRead : (w out : List ℕ) → Answer FrameOutline → (last : List ℕ) → Type 0 where
@@ -46,6 +60,11 @@ exported-writes (wrote-standard n κs contents out out′ e) =
 exported-writes (wrote-extended {to = to} {from = from} n κs contents out out′ e) =
     (frame-told n (extended to from (contents .now)) (length (out .now)) (e .0), e .1)
 
+pub exported-measures : {f : Frame} {m : Answer ℕ} → ExportedLength f m → m ≡ through length (frameDraft f)
+exported-measures (measured-standard n κs contents e) = length-told n (standard (contents .now)) e
+exported-measures (measured-extended {to = to} {from = from} n κs contents e) =
+    length-told n (extended to from (contents .now)) e
+
 pub exported-reads : {w out last : List ℕ} {a : Answer FrameOutline} → ExportedRead w out a last → Reads w out a last
 exported-reads (read-slice n κs wire out out′ e) = (slice-told n (wire .now) (length (out .now)) (e .0), e .1)
 
@@ -60,6 +79,18 @@ exported-read-exactly {w} {out} {last} {a} k b left = reads-exactly w out a b la
 pub exported-write-exactly : {f : Frame} {out last : List ℕ} {a : Answer ℕ} → ExportedWrite f out a last
     → (b : Answer ℕ) (left : List ℕ) → Exactly ((a ≡ b) × (last ≡ left)) (WriteJudged f out b left)
 exported-write-exactly {f} {out} {last} {a} k b left = writes-exactly f out a b last left (exported-writes k)
+
+-- A call that measures is answered exactly as the table says.
+pub exported-length-exactly : {f : Frame} {m : Answer ℕ} → ExportedLength f m
+    → (b : Answer ℕ) → Exactly (m ≡ b) (LengthJudged f b)
+exported-length-exactly {f} {m} k b = lengths-exactly f m b (exported-measures k)
+
+-- What a call that measures a frame answers foretells what a call that writes that frame does: whenever it writes, that
+-- many bytes; 1 exactly where the output is shorter; otherwise both are refused alike.
+pub exported-length-foretells : {f : Frame} {m a : Answer ℕ} {out last : List ℕ} → ExportedLength f m
+    → ExportedWrite f out a last → Foretells m a (length out)
+exported-length-foretells {f} {m} {a} {out} {last} k l =
+    foretold (frameDraft f) m a out last (draft-never-1 f) (exported-measures k) (exported-writes l)
 
 -- ---- demand 2
 

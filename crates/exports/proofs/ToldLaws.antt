@@ -113,6 +113,11 @@ pub frame-told : (n : ℕ) (f : Frame) (room : ℕ) → Tells n (writeFields (dr
 frame-told n f room =
     written-told n (draftAnswer (frameDraft f) room) (draft-numbered (frameDraft f) room (frame-numbered f))
 
+pub length-told : (n : ℕ) (f : Frame) → Tells n (writeFields (through length (frameDraft f)))
+    → toldWritten n ≡ through length (frameDraft f)
+length-told n f =
+    written-told n (through length (frameDraft f)) (through-numbered length (frameDraft f) (frame-numbered f))
+
 pub slice-told : (n : ℕ) (w : List ℕ) (room : ℕ) → Tells n (readFields (readAnswer (verdict w) room))
     → toldRead n ≡ readAnswer (verdict w) room
 slice-told n w room = read-told n (readAnswer (verdict w) room) (read-numbered w room)

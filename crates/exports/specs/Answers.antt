@@ -13,7 +13,7 @@ refusalFields n = record { number = n; kind = 0; to = 0; from = 0; len = 0 }
 abbrev pub resultFields : (kind to from len : ℕ) → Fields
 resultFields kind to from len = record { number = 0; kind = kind; to = to; from = from; len = len }
 
--- Of what was written, the length.
+-- Of what was written or measured, the length.
 abbrev pub writeFields : Answer ℕ → Fields
 writeFields (result n) = resultFields 0 0 0 n
 writeFields (refused n) = refusalFields n

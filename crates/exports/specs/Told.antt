@@ -13,7 +13,7 @@ use Rattle.exports.specs.Packed.{Fields, unpacked}
 abbrev pub toldAs : {A : Type 0} → (number : ℕ) → A → Answer A
 toldAs number a = pick (eqb number 0) (result a) (refused number)
 
--- How many bytes were written, or a refusal: what writers and stop answer.
+-- How many bytes, or a refusal: what writers, the length calls and stop answer.
 unfoldable pub toldWritten : ℕ → Answer ℕ
 toldWritten n = toldAs (unpacked n .number) (unpacked n .len)
 

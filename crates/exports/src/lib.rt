@@ -12,6 +12,7 @@ ghost use mathlib.Core.Path.{_≡_};
 ghost use mathlib.Core.List.{List};
 ghost use Prim.Native.Nat.{ℕ, _<_, _^_};
 ghost use lib.ListN.{length};
+ghost use Rattle.answer.specs.Answer.{through};
 ghost use Rattle.answer.specs.Draft.{draftAnswer, draftOut};
 ghost use Rattle.frame.specs.Frame.{standard, extended};
 ghost use Rattle.frame.specs.Verdict.{verdict};
@@ -48,6 +49,24 @@ pub extern "C" fn csafe_write_extended(to: u8, from: u8, contents: &[u8], out: &
 {
     let written = frame::write_extended(to, from, contents, out);
     packed::of_written(written)
+}
+
+// How many bytes a standard frame takes on the wire, which is the room that writing it needs. Refusal 2.
+#[no_mangle]
+pub extern "C" fn csafe_standard_length(contents: &[u8]) -> u64
+    ensures { λ r. ⌜ Tells r (writeFields (through length (frameDraft (standard (now (contents .entry)))))) ⌝ }
+{
+    let length = frame::standard_length(contents);
+    packed::of_length(length)
+}
+
+// How many bytes an extended frame takes on the wire, which is the room that writing it needs. Refusal 2.
+#[no_mangle]
+pub extern "C" fn csafe_extended_length(to: u8, from: u8, contents: &[u8]) -> u64
+    ensures { λ r. ⌜ Tells r (writeFields (through length (frameDraft (extended to from (now (contents .entry)))))) ⌝ }
+{
+    let length = frame::extended_length(to, from, contents);
+    packed::of_length(length)
 }
 
 // Reads one frame. Refusals 6, 2, 3, 4, 5 and 1.

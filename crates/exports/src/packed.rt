@@ -2,11 +2,12 @@
 use answer::Refusal;
 use answer::Written;
 use frame::Read;
+use frame::WireLength;
 use lease::LeaseAnswer;
 use line::Told;
 ghost use Rattle.answer.specs.Refusals.{numberOf};
 ghost use Rattle.answer.specs.Draft.{writtenMeans};
-ghost use Rattle.frame.specs.Answers.{readMeans};
+ghost use Rattle.frame.specs.Answers.{lengthMeans, readMeans};
 ghost use Rattle.lease.specs.Answers.{leaseMeans};
 ghost use Rattle.line.specs.Outcome.{toldMeans, ContentsFit};
 ghost use Rattle.exports.specs.Packed.{Tells};
@@ -76,6 +77,16 @@ pub(crate) fn of_written(w: Written) -> u64
     match w {
         Written::Length(n) => result(STANDARD, NONE, NONE, n as u32),
         Written::Refused(why) => refused(why),
+    }
+}
+
+pub(crate) fn of_length(length: WireLength) -> u64
+    requires { ⌜ WriteShort (lengthMeans length) ⌝ }
+    ensures { λ r. ⌜ Tells r (writeFields (lengthMeans length)) ⌝ }
+{
+    match length {
+        WireLength::Bytes(n) => of_written(Written::Length(n)),
+        WireLength::Refused(why) => of_written(Written::Refused(why)),
     }
 }
 

@@ -1,5 +1,5 @@
--- Demands 1 and 2 of the functions themselves: calls of `write_standard`, `write_extended` and `read_frame`, known by
--- nothing but what their contracts tell a caller.
+-- Demands 1 and 2 of the functions themselves: calls of `write_standard`, `write_extended`, `write_extended_number`,
+-- `standard_length`, `extended_length` and `read_frame`, known by nothing but what their contracts tell a caller.
 use Prim.Native.Nat.{ℕ, _≤_}
 use mathlib.Core.Path.{_≡_}
 use mathlib.Core.List.{List, _++_}
@@ -7,17 +7,23 @@ use lib.ListN.{length, take, drop}
 use contract.Lifetimes.{Lfts}
 use denote.Ref.{RefT}
 use Rattle.lists.specs.Choice.{Exactly}
-use Rattle.answer.specs.Answer.{Answer, result}
-use Rattle.answer.specs.Draft.{Writes, writtenMeans}
+use Rattle.answer.specs.Answer.{Answer, result, through}
+use Rattle.answer.specs.Draft.{Writes, Foretells, writtenMeans}
+use Rattle.answer.proofs.Drafts.{foretold}
+use Rattle.numbers.specs.Number.{bytesOf}
 use Rattle.answer.specs.declared.Written.{Written}
 use Rattle.frame.specs.Frame.{Frame, standard, extended, contentsOf, wireOf}
-use Rattle.frame.specs.Answers.{FrameOutline, outlineOf, frameDraft, frameRead, readMeans, Reads}
-use Rattle.frame.specs.Conditions.{Sound, SoundFrame, ReadJudged, WriteJudged}
+use Rattle.frame.specs.Answers.{FrameOutline, outlineOf, frameDraft, frameRead, lengthMeans, readMeans, Reads}
+use Rattle.frame.specs.Conditions.{Sound, SoundFrame, ReadJudged, WriteJudged, LengthJudged}
 use Rattle.frame.specs.declared.Read.{Read}
+use Rattle.frame.specs.declared.WireLength.{WireLength}
 use Rattle.frame.proofs.Table as table
 use Rattle.frame.proofs.RoundTrip as trip
 use Rattle.frame.proofs.write_standard.Reads as write-standard-reads
 use Rattle.frame.proofs.write_extended.Reads as write-extended-reads
+use Rattle.frame.proofs.write_extended_number.Reads as write-extended-number-reads
+use Rattle.frame.proofs.standard_length.Reads as standard-length-reads
+use Rattle.frame.proofs.extended_length.Reads as extended-length-reads
 use Rattle.frame.proofs.read_frame.Reads as read-frame-reads
 
 -- ---- calls
@@ -30,6 +36,19 @@ pub data CalledWrite : Frame → (out : List ℕ) → Answer ℕ → (last : Lis
   wrote-extended : {to from : ℕ} (r : Written) (κs : Lfts 2) (contents out out′ : RefT (List ℕ))
       → write-extended-reads.Learnt κs (to, (from, (contents, (out, tt)))) r (to, (from, (contents, (out′, tt))))
       → CalledWrite (extended to from (contents .now)) (out .now) (writtenMeans r) (out′ .now)
+  wrote-number : {to from : ℕ} (number width : ℕ) (r : Written) (κs : Lfts 1) (out out′ : RefT (List ℕ))
+      → write-extended-number-reads.Learnt κs (to, (from, (number, (width, (out, tt))))) r
+      (to, (from, (number, (width, (out′, tt)))))
+      → CalledWrite (extended to from (bytesOf width number)) (out .now) (writtenMeans r) (out′ .now)
+
+-- A call that asks how many bytes a frame takes on the wire, by the function of its kind: its answer.
+pub data CalledLength : Frame → Answer ℕ → Type 0 where
+  measured-standard : (r : WireLength) (κs : Lfts 1) (contents : RefT (List ℕ))
+      → standard-length-reads.Learnt κs (contents, tt) r (contents, tt)
+      → CalledLength (standard (contents .now)) (lengthMeans r)
+  measured-extended : {to from : ℕ} (r : WireLength) (κs : Lfts 1) (contents : RefT (List ℕ))
+      → extended-length-reads.Learnt κs (to, (from, (contents, tt))) r (to, (from, (contents, tt)))
+      → CalledLength (extended to from (contents .now)) (lengthMeans r)
 
 -- A call that reads a slice: its answer, and the output before and after.
 pub data CalledRead : (w out : List ℕ) → Answer FrameOutline → (last : List ℕ) → Type 0 where
@@ -42,6 +61,11 @@ pub call-writes : {f : Frame} {out last : List ℕ} {a : Answer ℕ} → CalledW
     → Writes (frameDraft f) out a last
 call-writes (wrote-standard r κs contents out out′ e) = e
 call-writes (wrote-extended r κs contents out out′ e) = e
+call-writes (wrote-number number width r κs out out′ e) = e
+
+pub call-measures : {f : Frame} {m : Answer ℕ} → CalledLength f m → m ≡ through length (frameDraft f)
+call-measures (measured-standard r κs contents e) = e
+call-measures (measured-extended r κs contents e) = e
 
 pub call-reads : {w out last : List ℕ} {a : Answer FrameOutline} → CalledRead w out a last → Reads w out a last
 call-reads (read-slice r κs wire out out′ e) = e
@@ -57,6 +81,17 @@ read-exactly {w} {out} {last} {a} k b left = table.reads-exactly w out a b last 
 pub write-exactly : {f : Frame} {out last : List ℕ} {a : Answer ℕ} → CalledWrite f out a last
     → (b : Answer ℕ) (left : List ℕ) → Exactly ((a ≡ b) × (last ≡ left)) (WriteJudged f out b left)
 write-exactly {f} {out} {last} {a} k b left = table.writes-exactly f out a b last left (call-writes k)
+
+-- A call that measures is answered exactly as the table says.
+pub length-exactly : {f : Frame} {m : Answer ℕ} → CalledLength f m → (b : Answer ℕ) → Exactly (m ≡ b) (LengthJudged f b)
+length-exactly {f} {m} k b = table.lengths-exactly f m b (call-measures k)
+
+-- What a call that measures a frame answers foretells what every call that writes that frame does: whenever it writes,
+-- that many bytes; 1 exactly where the output is shorter; otherwise both are refused alike.
+pub length-foretells : {f : Frame} {m a : Answer ℕ} {out last : List ℕ} → CalledLength f m → CalledWrite f out a last
+    → Foretells m a (length out)
+length-foretells {f} {m} {a} {out} {last} k l =
+    foretold (frameDraft f) m a out last (table.draft-never-1 f) (call-measures k) (call-writes l)
 
 -- ---- demand 2
 

@@ -4,6 +4,8 @@ pub mod ChecksumLaws
 pub mod EscapeLaws
 pub mod UndoLaws
 pub mod WireLaws
+pub mod MeasureLaws
+pub mod NumberLaws
 pub mod ScanLaws
 pub mod VerdictLaws
 pub mod ContentsLaws

@@ -74,17 +74,7 @@ stuff-count (b ∷ s) =
     (λ y. let w = ap length (stuffByte-yes b y) in simp y (omega arith))
     (λ n. let w = ap length (stuffByte-no b n) in simp n (omega arith))
 
--- a list with nothing to stuff is sent as it is
-pub stuff-none : (s : List ℕ) → noneOf isStuffed s ≡ true → stuff s ≡ s
-unfolding stuff noneOf
-stuff-none [] h = refl
-stuff-none (b ∷ s) h =
-    by-bool (isStuffed b)
-    (λ y. absurd (true≢false (sym h ∙ simp y)))
-    (λ n. ap (λ (l : List ℕ). l ++ stuff s) (stuffByte-no b n)
-    ∙ ap (λ (l : List ℕ). b ∷ l) (stuff-none s (simp n at h)))
-
--- and a list that grows by nothing has nothing to stuff
+-- a list that grows by nothing is sent as it is
 pub stuff-same : (s : List ℕ) → length (stuff s) ≡ length s → stuff s ≡ s
 unfolding stuff
 stuff-same [] e = refl

@@ -4,7 +4,7 @@ use Rattle.frame.specs.Answers.{frameDraft, readAnswer, readOut, Reads, 
 use Rattle.frame.specs.Conditions.{ReadJudged, refusedBy, noRoom, fits, Terminated, WithinLimit, EscapesSound}
 use Rattle.frame.specs.Conditions.{Unstuffs, none, plain, escape, fewest, ChecksumRight, Sound, SoundFrame}
 use Rattle.frame.specs.Conditions.{Judged, truncated, long, badEscape as badEscapes, short, badSum, sound}
-use Rattle.frame.specs.Conditions.{WriteJudged, overLimit, noRoomToWrite, written}
+use Rattle.frame.specs.Conditions.{WriteJudged, overLimit, noRoomToWrite, written, LengthJudged, tooLong, takes}
 use Prim.Native.Nat.{ℕ, zero, suc, _+_, _≤_}
 use mathlib.Core.Path.{_≡_, refl, sym, ap, _∙_, subst}
 use mathlib.Core.Bool.{Bool, true, false, true≢false}
@@ -24,10 +24,11 @@ use Rattle.frame.specs.Stuffing.{Unstuffed, badEscape, bytes, prepend, u
 use Rattle.frame.specs.Checksum.{checksum}
 use Rattle.frame.specs.Verdict.{Verdict, addressCount, contentsIn, lastOf, judgeBytes, judge, bodyOf}
 use Rattle.frame.specs.Verdict.{isTerminated, verdict}
-use Rattle.answer.specs.Answer.{result, refused, Answer}
+use Rattle.answer.specs.Answer.{result, refused, Answer, through}
 use Rattle.frame.specs.declared.Kind.{Kind}
 use Rattle.frame.specs.declared.Kind.the-variants.{Standard, Extended}
 use Rattle.frame.proofs.StuffingLaws.{prepend-inv}
+use Rattle.frame.proofs.WireLaws.{draft-fits}
 use Rattle.frame.proofs.VerdictLaws.{whole-length, whole-terminated, whole-verdict, terminated-means}
 use Rattle.frame.proofs.VerdictLaws.{terminated-whole, verdict-truncated, judge-long, judge-escape, judge-short}
 use Rattle.frame.proofs.VerdictLaws.{judge-sum, judge-bytes, judge-payload, answer-refused, answer-no-room}
@@ -292,6 +293,10 @@ module _ (w out : List ℕ) where
 
 -- ---- writing
 
+over-draft : (f : Frame) → (WithinLimit (wireOf f) → ⊥) → frameDraft f ≡ refused 2
+unfolding frameDraft
+over-draft f n = by-bool (leb (length (wireOf f)) 120) (λ y. absurd (n (leb-true _ _ y))) (λ y. simp y)
+
 module _ (f : Frame) (out : List ℕ) where
   abbrev answer : Answer ℕ
   answer = draftAnswer (frameDraft f) (length out)
@@ -305,18 +310,10 @@ module _ (f : Frame) (out : List ℕ) where
       (λ r. simp (y, r) (noRoomToWrite (leb-true _ _ y) (leb-false _ _ r))))
       (λ y. simp y (overLimit (λ l. absurd (omega (arith, l, leb-false (length (wireOf f)) 120 y)))))
 
-  within-draft : WithinLimit (wireOf f) → frameDraft f ≡ result (wireOf f)
-  unfolding frameDraft
-  within-draft l = simp (le-leb (length (wireOf f)) 120 l)
-
-  over-draft : (WithinLimit (wireOf f) → ⊥) → frameDraft f ≡ refused 2
-  unfolding frameDraft
-  over-draft n = by-bool (leb (length (wireOf f)) 120) (λ y. absurd (n (leb-true _ _ y))) (λ y. simp y)
-
   line-write : (a : Answer ℕ) (last : List ℕ) → WriteJudged f out a last → Writes (frameDraft f) out a last
-  line-write a last (overLimit n) = writes-refusal (frameDraft f) 2 out (over-draft n)
-  line-write a last (noRoomToWrite l h) = writes-no-room (frameDraft f) (wireOf f) out (within-draft l) h
-  line-write a last (written l h) = writes-done (frameDraft f) (wireOf f) out _ (within-draft l) h (sym (simp zero-add))
+  line-write a last (overLimit n) = writes-refusal (frameDraft f) 2 out (over-draft f n)
+  line-write a last (noRoomToWrite l h) = writes-no-room (frameDraft f) (wireOf f) out (draft-fits f l) h
+  line-write a last (written l h) = writes-done (frameDraft f) (wireOf f) out _ (draft-fits f l) h (sym (simp zero-add))
 
   -- Every answer to writing a frame, with the output that is left, is given exactly when the table gives it.
   pub written-by-table : (a : Answer ℕ) (last : List ℕ)
@@ -331,3 +328,33 @@ module _ (f : Frame) (out : List ℕ) where
   pub writes-exactly : (a b : Answer ℕ) (last left : List ℕ) → Writes (frameDraft f) out a last
       → Exactly ((a ≡ b) × (last ≡ left)) (WriteJudged f out b left)
   writes-exactly a b last left p = both-exactly p (written-by-table b left)
+
+-- ---- the length on the wire
+
+module _ (f : Frame) where
+  length-line : LengthJudged f (through length (frameDraft f))
+  unfolding frameDraft
+  length-line =
+      by-bool (leb (length (wireOf f)) 120) (λ y. simp y (takes (leb-true _ _ y)))
+      (λ y. simp y (tooLong (λ l. absurd (omega (arith, l, leb-false (length (wireOf f)) 120 y)))))
+
+  line-length : (a : Answer ℕ) → LengthJudged f a → a ≡ through length (frameDraft f)
+  line-length a (tooLong n) = ap (through length) (sym (over-draft f n))
+  line-length a (takes l) = ap (through length) (sym (draft-fits f l))
+
+  -- The answer of a call that measures is a given one exactly when the table gives it.
+  pub lengths-exactly : (a b : Answer ℕ) → a ≡ through length (frameDraft f) → Exactly (a ≡ b) (LengthJudged f b)
+  lengths-exactly a b e = (
+    (λ h. subst (LengthJudged f) (sym e ∙ h) length-line),
+    (λ j. e ∙ sym (line-length b j)),
+  )
+
+  -- A frame is never refused for want of room before it is written.
+  pub draft-never-1 : frameDraft f ≡ refused 1 → ⊥
+  unfolding frameDraft
+  draft-never-1 e =
+      by-bool (leb (length (wireOf f)) 120)
+      (λ y. let q : result (wireOf f) ≡ refused 1 = simp y at e in
+      let z : _≡_ {A = ℕ} 0 1 = cc in absurd (omega arith))
+      (λ y. let q : _≡_ {A = Answer (List ℕ)} (refused 2) (refused 1) = simp y at e in
+      let z : _≡_ {A = ℕ} 2 1 = cc in absurd (omega arith))

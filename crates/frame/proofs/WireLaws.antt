@@ -15,7 +15,7 @@ use Rattle.answer.specs.Answer.{result, refused}
 use Rattle.frame.specs.Private.{frameOf, headerWire}
 use Rattle.frame.specs.declared.Header.{Header}
 use Rattle.frame.specs.declared.Header.the-variants.{Plain, Addressed}
-use Rattle.frame.proofs.StuffingLaws.{stuff-append, stuff-one, stuffByte-between}
+use Rattle.frame.proofs.StuffingLaws.{stuff-append, stuff-one, stuff-between, stuffByte-between}
 
 -- ---- the parts of a frame on the wire
 
@@ -53,6 +53,11 @@ header-between Plain = omega arith
 header-between (Addressed to from) =
     omega (arith, length-append (stuffByte to) (stuffByte from), stuffByte-between to, stuffByte-between from)
 
+-- contents over 117 bytes are too long for any frame
+pub contents-long : (h : Header) (c : List ℕ) → 117 < length c → 120 < length (wireOf (frameOf h c))
+contents-long h c l =
+    omega (arith, wire-length h c, header-between h, stuff-between c, stuffByte-between (checksum c))
+
 -- ---- the draft of a frame
 
 pub draft-long : (f : Frame) → 120 < length (wireOf f) → frameDraft f ≡ refused 2
@@ -81,23 +86,18 @@ module _ (out : List ℕ) (to from : ℕ) (room : length (headerWire (Addressed 
 
 -- ---- the parts written one after the other
 
-pub put-parts : (h : Header) (c out out₁ out₂ out₃ : List ℕ) (sum a b d : ℕ) → sum ≡ checksum c
+pub put-parts : (h : Header) (c out out₁ out₂ out₃ : List ℕ) (sum a b : ℕ) → sum ≡ checksum c
     → length (wireOf (frameOf h c)) ≤ length out
-    → length out₃ ≡ length out → a ≡ length (headerWire h) → out₁ ≡ splice out 0 (headerWire h)
+    → a ≡ length (headerWire h) → out₁ ≡ splice out 0 (headerWire h)
     → b ≡ a + length (stuff c) → out₂ ≡ splice out₁ a (stuff c)
-    → d ≡ b + length (stuffByte sum) → out₃ ≡ splice out₂ b (stuffByte sum)
-    → set out₃ d 0xF2 ≡ splice out 0 (wireOf (frameOf h c))
-put-parts h c out out₁ out₂ out₃ sum a b d s room len ea e₁ eb e₂ ed e₃ =
+    → out₃ ≡ splice out₂ b (stuffByte sum ++ (0xF2 ∷ []))
+    → out₃ ≡ splice out 0 (wireOf (frameOf h c))
+put-parts h c out out₁ out₂ out₃ sum a b s room ea e₁ eb e₂ e₃ =
     let w = wire-length h c in
-    let n : length (stuffByte sum) ≡ length (stuffByte (checksum c)) = ap (λ (k : ℕ). length (stuffByte k)) s in
-    let l₂ = length-append (headerWire h) (stuff c) in
-    let l₃ = length-append (headerWire h ++ stuff c) (stuffByte sum) in
+    let l = length-append (headerWire h) (stuff c) in
     let two : out₂ ≡ splice out 0 (headerWire h ++ stuff c) =
     splice-next out 0 (headerWire h) (stuff c) a (omega arith) e₁ (omega arith) e₂ in
-    let three : out₃ ≡ splice out 0 (headerWire h ++ stuff c ++ stuffByte sum) =
-    splice-next out 0 (headerWire h ++ stuff c) (stuffByte sum) b (omega arith) two (omega arith) e₃ in
-    splice-next out 0 (headerWire h ++ stuff c ++ stuffByte sum) (0xF2 ∷ []) d (omega arith) three (omega arith)
-    (set-splice out₃ d 0xF2 (omega arith))
-    ∙ ap (λ (k : ℕ). splice out 0 (headerWire h ++ stuff c ++ stuffByte k ++ (0xF2 ∷ []))) s
-    ∙ ap (splice out 0) (append-assoc (headerWire h ++ stuff c) (stuffByte (checksum c)) (0xF2 ∷ [])
-    ∙ append-assoc (headerWire h) (stuff c) (stuffByte (checksum c) ++ (0xF2 ∷ [])) ∙ sym (wire-parts h c))
+    splice-next out 0 (headerWire h ++ stuff c) (stuffByte sum ++ (0xF2 ∷ [])) b (omega arith) two (omega arith) e₃
+    ∙ ap (λ (k : ℕ). splice out 0 (headerWire h ++ stuff c ++ (stuffByte k ++ (0xF2 ∷ [])))) s
+    ∙ ap (splice out 0)
+    (append-assoc (headerWire h) (stuff c) (stuffByte (checksum c) ++ (0xF2 ∷ [])) ∙ sym (wire-parts h c))

@@ -11,6 +11,8 @@ use Rattle.answer.specs.Draft.{Draft, draftOut}
 use Rattle.answer.specs.Refusals.{numberOf}
 use Rattle.frame.specs.Frame.{Frame, standard, extended, contentsOf, wireOf}
 use Rattle.frame.specs.Verdict.{Verdict, verdict}
+use Rattle.frame.specs.declared.WireLength.{WireLength}
+use Rattle.frame.specs.declared.WireLength.the-variants.{Bytes, Refused as NotSent}
 use Rattle.frame.specs.declared.Read.{Read}
 use Rattle.frame.specs.declared.Read.the-variants.{Standard, Extended, Refused}
 
@@ -19,6 +21,13 @@ use Rattle.frame.specs.declared.Read.the-variants.{Standard, Extended, R
 -- The bytes of a frame, or refusal 2 where they are over 120.
 unfoldable pub frameDraft : Frame → Draft
 frameDraft f = pick (leb (length (wireOf f)) 120) (result (wireOf f)) (refused 2)
+
+-- ---- measuring
+
+-- How many bytes a frame takes on the wire, or a refusal.
+abbrev pub lengthMeans : WireLength → Answer ℕ
+lengthMeans (Bytes n) = result n
+lengthMeans (NotSent why) = refused (numberOf why)
 
 -- ---- reading
 

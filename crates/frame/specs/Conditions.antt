@@ -1,4 +1,5 @@
--- The conditions on a sound frame, each by itself, and document 01's tables of reading and writing over them.
+-- The conditions on a sound frame, each by itself, and document 01's tables of reading, writing and
+-- measuring over them.
 -- None uses the function `verdict` or the steps by which it is computed; the checksum and the flags are those of frames.
 use Prim.Native.Nat.{ℕ, _+_, _≤_, _<_}
 use mathlib.Core.Path.{_≡_}
@@ -93,3 +94,8 @@ pub data WriteJudged (f : Frame) (out : List ℕ) : Answer ℕ → List ℕ → 
   noRoomToWrite : WithinLimit (wireOf f) → length out < length (wireOf f) → WriteJudged f out (refused 1) out
   written : WithinLimit (wireOf f) → length (wireOf f) ≤ length out
       → WriteJudged f out (result (length (wireOf f))) (wireOf f ++ drop (length (wireOf f)) out)
+
+-- What asking for a frame's length on the wire is answered: 2 where the frame is over the limit, else its length.
+pub data LengthJudged (f : Frame) : Answer ℕ → Type 0 where
+  tooLong : (WithinLimit (wireOf f) → ⊥) → LengthJudged f (refused 2)
+  takes : WithinLimit (wireOf f) → LengthJudged f (result (length (wireOf f)))

@@ -12,7 +12,7 @@ use Rattle.answer.specs.Refusals.{numberOf}
 use Rattle.frame.specs.Stuffing.{isStuffed, stuffByte, unstuff, Unstuffed, badEscape, bytes, prepend}
 use Rattle.frame.specs.Flags.{flagless, startFlag, stopFlag, isStart}
 use Rattle.frame.specs.Checksum.{sumFrom, checksum}
-use Rattle.frame.specs.Frame.{Frame, standard, extended}
+use Rattle.frame.specs.Frame.{Frame, standard, extended, wireOf}
 use Rattle.frame.specs.Verdict.{Verdict, judge, addressCount, lastOf}
 use Rattle.answer.specs.Answer.{result, refused, Answer}
 use Rattle.frame.specs.Answers.{standardOutline, extendedOutline, FrameOutline}
@@ -20,6 +20,8 @@ use Rattle.frame.specs.declared.Kind.{Kind}
 use Rattle.frame.specs.declared.Kind.the-variants.{Standard, Extended}
 use Rattle.frame.specs.declared.Header.{Header}
 use Rattle.frame.specs.declared.Header.the-variants.{Plain, Addressed}
+use Rattle.frame.specs.declared.measure.Measured.{Measured}
+use Rattle.frame.specs.declared.measure.Measured.the-variants.{TooLong, Fits}
 use Rattle.frame.specs.declared.candidate.Next.{Next}
 use Rattle.frame.specs.declared.candidate.Next.the-variants.{End, Bad, Byte}
 use Rattle.frame.specs.declared.candidate.Scan.{Scan}
@@ -51,6 +53,12 @@ headed (Addressed to from) r = prepend to (prepend from r)
 abbrev pub headerWire : Header → List ℕ
 headerWire Plain = startFlag Standard ∷ []
 headerWire (Addressed to from) = startFlag Extended ∷ (stuffByte to ++ stuffByte from)
+
+-- What was measured of the frame of a header and contents.
+abbrev pub Measures : Header → List ℕ → Measured → Type 0
+Measures h c TooLong = 120 < length (wireOf (frameOf h c))
+Measures h c (Fits sum escapes len) =
+    (sum ≡ checksum c) × (escapes ≡ countOf isStuffed c) × (len ≡ length (wireOf (frameOf h c))) × (len ≤ 120)
 
 -- Bytes put in at an index, and at most one more, which whoever writes there next writes over.
 abbrev pub PutPair : List ℕ → ℕ → List ℕ → List ℕ → Type 0

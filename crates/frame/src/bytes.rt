@@ -12,6 +12,12 @@ pub(crate) struct Looked {
     pub sum: u8,
 }
 
+// What a pass that counts finds: how many bytes lie between two values, and the exclusive or of all.
+pub(crate) struct Counted {
+    pub count: u8,
+    pub sum: u8,
+}
+
 // Whether no byte lies between two values, both included, and the exclusive or of all, in one pass.
 pub(crate) fn look(s: &[u8], low: u8, high: u8) -> Looked
     ensures { λ r. ⌜ r .clear ≡ noneOf (within low high) (now (s .entry)) ⌝ }
@@ -45,18 +51,22 @@ fn see(seen: u8, b: u8, low: u8, high: u8) -> u8
     1
 }
 
-// How many bytes lie between two values, both included. A number of eight bits is counted faster than a wider one.
-pub(crate) fn count_within(s: &[u8], low: u8, high: u8) -> u8
+// How many bytes lie between two values, both included, and the exclusive or of all, in one pass. A number of eight bits
+// is counted faster than a wider one.
+pub(crate) fn count_within(s: &[u8], low: u8, high: u8) -> Counted
     requires { ⌜ length (now s) ≤ 255 ⌝ }
-    ensures { λ r. ⌜ r ≡ countOf (within low high) (now (s .entry)) ⌝ }
+    ensures { λ r. ⌜ r .count ≡ countOf (within low high) (now (s .entry)) ⌝ }
+    ensures { λ r. ⌜ r .sum ≡ checksum (now (s .entry)) ⌝ }
 {
     let mut count: u8 = 0;
+    let mut sum: u8 = 0;
     let mut i: usize = 0;
     while i < s.len() {
         count = count + lists::mark(s[i], low, high);
+        sum = sum ^ s[i];
         i += 1;
     }
-    count
+    Counted { count, sum }
 }
 
 // Brings `count` bytes that stand after two others to the front. With a fixed distance the compiler moves many at once.

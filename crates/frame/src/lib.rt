@@ -4,31 +4,29 @@ pub mod address;
 mod bytes;
 mod candidate;
 pub mod flags;
+mod measure;
+mod number;
 mod plain;
 mod stuffing;
 
 use answer::Refusal;
 use answer::Written;
 use candidate::Examined;
+use measure::Measured;
 ghost use mathlib.Core.Path.{_≡_};
 ghost use mathlib.Core.List.{_++_};
 ghost use mathlib.Core.Bool.{false};
 ghost use Prim.Native.Nat.{_+_, _≤_};
 ghost use lib.ListN.{length, take, drop};
+ghost use Rattle.answer.specs.Answer.{through};
 ghost use Rattle.answer.specs.Draft.{draftAnswer, draftOut, writtenMeans};
+ghost use Rattle.numbers.specs.Number.{bytesOf};
 ghost use Rattle.frame.specs.Flags.{candidateOf};
 ghost use Rattle.frame.specs.Stuffing.{unstuff};
 ghost use Rattle.frame.specs.Frame.{standard, extended};
 ghost use Rattle.frame.specs.Verdict.{judge, verdict};
-ghost use Rattle.frame.specs.Answers.{frameDraft, readMeans, judgeAnswer, readAnswer, readOut, leftIn};
+ghost use Rattle.frame.specs.Answers.{frameDraft, lengthMeans, readMeans, judgeAnswer, readAnswer, readOut, leftIn};
 ghost use Rattle.frame.specs.Private.{frameOf, readAs, unstuffedBytes, judgeWhole, Unescaped, ExaminesWhole};
-
-// The longest frame on the wire, flags and escapes included.
-const WIRE_LIMIT: usize = 120;
-
-// The longest contents that a frame can hold. Longer ones are refused before their bytes are counted, so that no sum
-// wraps.
-const CONTENTS_LIMIT: usize = 117;
 
 // The two kinds of frame.
 pub enum Kind {
@@ -42,11 +40,31 @@ enum Header {
     Addressed { to: u8, from: u8 },
 }
 
+// The answer to measuring: how many bytes a frame takes on the wire, or why it can't be sent.
+pub enum WireLength {
+    Bytes(usize),
+    Refused(Refusal),
+}
+
 // The answer to reading: the kind of frame, its addresses and the number of its contents bytes, or why it was refused.
 pub enum Read {
     Standard { len: usize },
     Extended { to: u8, from: u8, len: usize },
     Refused(Refusal),
+}
+
+// How many bytes a standard frame takes on the wire, which is the room that writing it needs. Refusal 2.
+pub fn standard_length(contents: &[u8]) -> WireLength
+    ensures { λ r. ⌜ lengthMeans r ≡ through length (frameDraft (standard (now (contents .entry)))) ⌝ }
+{
+    wire_length(Header::Plain, contents)
+}
+
+// How many bytes an extended frame takes on the wire, which is the room that writing it needs. Refusal 2.
+pub fn extended_length(to: u8, from: u8, contents: &[u8]) -> WireLength
+    ensures { λ r. ⌜ lengthMeans r ≡ through length (frameDraft (extended to from (now (contents .entry)))) ⌝ }
+{
+    wire_length(Header::Addressed { to, from }, contents)
 }
 
 // Writes a standard frame. Refusals 2 and 1.
@@ -66,6 +84,17 @@ pub fn write_extended(to: u8, from: u8, contents: &[u8], out: &mut [u8]) -> Writ
         (now (out .entry)) ⌝ }
 {
     write_frame(Header::Addressed { to, from }, contents, out)
+}
+
+// Writes an extended frame whose contents are the lowest `width` bytes of a number, lowest first: few bytes that are
+// known need no array to stand in. Refusals 2 and 1.
+pub fn write_extended_number(to: u8, from: u8, number: u64, width: usize, out: &mut [u8]) -> Written
+    ensures { λ r. ⌜ writtenMeans r ≡ draftAnswer (frameDraft (extended to from (bytesOf width number)))
+        (length (now (out .entry))) ⌝ }
+    ensures { λ r. ⌜ now (out .exit) ≡ draftOut (frameDraft (extended to from (bytesOf width number)))
+        (now (out .entry)) ⌝ }
+{
+    write_number(Header::Addressed { to, from }, number, width, out)
 }
 
 // Reads a slice that is to be one frame, and puts its contents first in the output. Refusals 6, 2, 3, 4, 5 and 1.
@@ -100,6 +129,16 @@ pub fn judge_array(kind: Kind, bytes: &mut [u8; 118], len: usize) -> Read
     judge_first(kind, bytes, len)
 }
 
+fn wire_length(header: Header, contents: &[u8]) -> WireLength
+    ensures { λ r. ⌜ lengthMeans r ≡ through length (frameDraft (frameOf header (now (contents .entry)))) ⌝ }
+{
+    let measured = measure::measure(header, contents);
+    match measured {
+        Measured::TooLong => WireLength::Refused(Refusal::TooLong),
+        Measured::Fits { len, .. } => WireLength::Bytes(len),
+    }
+}
+
 // The length is found first, so that nothing is written where the frame does not fit.
 fn write_frame(header: Header, contents: &[u8], out: &mut [u8]) -> Written
     ensures { λ r. ⌜ writtenMeans r ≡ draftAnswer (frameDraft (frameOf header (now (contents .entry))))
@@ -107,24 +146,45 @@ fn write_frame(header: Header, contents: &[u8], out: &mut [u8]) -> Written
     ensures { λ r. ⌜ now (out .exit) ≡ draftOut (frameDraft (frameOf header (now (contents .entry))))
         (now (out .entry)) ⌝ }
 {
-    if CONTENTS_LIMIT < contents.len() {
-        return Written::Refused(Refusal::TooLong);
+    let measured = measure::measure(header, contents);
+    match measured {
+        Measured::TooLong => Written::Refused(Refusal::TooLong),
+        Measured::Fits { sum, escapes, len } => {
+            if out.len() < len {
+                return Written::Refused(Refusal::NoRoom);
+            }
+            let a = stuffing::put_header(header, out);
+            let b = stuffing::put_stuffed(contents, escapes, out, a);
+            stuffing::put_end(sum, out, b);
+            Written::Length(len)
+        }
     }
-    let looked = bytes::look(contents, flags::EXTENDED_START, flags::ESCAPE);
-    let sum = looked.sum;
-    let stuffed = stuffing::stuffed_len(contents, looked.clear);
-    let n = stuffing::header_len(header) + stuffed + stuffing::width(sum) + 1;
-    if WIRE_LIMIT < n {
-        return Written::Refused(Refusal::TooLong);
+}
+
+// As `write_frame`, with the bytes of a number for contents.
+fn write_number(header: Header, number: u64, width: usize, out: &mut [u8]) -> Written
+    ensures { λ r. ⌜ writtenMeans r ≡ draftAnswer (frameDraft (frameOf header (bytesOf width number)))
+        (length (now (out .entry))) ⌝ }
+    ensures { λ r. ⌜ now (out .exit) ≡ draftOut (frameDraft (frameOf header (bytesOf width number)))
+        (now (out .entry)) ⌝ }
+{
+    let measured = measure::measure_number(header, number, width);
+    match measured {
+        Measured::TooLong => Written::Refused(Refusal::TooLong),
+        Measured::Fits {
+            sum,
+            escapes: _,
+            len,
+        } => {
+            if out.len() < len {
+                return Written::Refused(Refusal::NoRoom);
+            }
+            let a = stuffing::put_header(header, out);
+            let b = number::put_number(number, width, out, a);
+            stuffing::put_end(sum, out, b);
+            Written::Length(len)
+        }
     }
-    if out.len() < n {
-        return Written::Refused(Refusal::NoRoom);
-    }
-    let a = stuffing::put_header(header, out);
-    let b = stuffing::put_stuffed(contents, stuffed, out, a);
-    let c = stuffing::put_byte(sum, out, b);
-    out[c] = flags::STOP;
-    Written::Length(n)
 }
 
 // Reads a body in which no byte is F0 to F3 and whose exclusive or is known: its contents are copied as they are.

@@ -2,9 +2,10 @@
 use crate::Header;
 use crate::flags;
 ghost use mathlib.Core.Path.{_≡_};
+ghost use mathlib.Core.List.{[], _∷_, _++_};
 ghost use Prim.Native.Nat.{_+_, _≤_};
 ghost use lib.ListN.{length};
-ghost use Rattle.lists.specs.Choice.{pick, noneOf};
+ghost use Rattle.lists.specs.Choice.{pick, countOf};
 ghost use Rattle.lists.specs.Splice.{splice};
 ghost use Rattle.frame.specs.Stuffing.{isStuffed, stuff, stuffByte};
 ghost use Rattle.frame.specs.Private.{headerWire, PutPair};
@@ -14,19 +15,6 @@ pub(crate) fn width(b: u8) -> usize
     ensures { λ r. ⌜ r ≡ length (stuffByte b) ⌝ }
 {
     if flags::is_stuffed(b) { 2 } else { 1 }
-}
-
-// How many bytes a slice takes on the wire, where it is known whether all of them are sent as they are.
-pub(crate) fn stuffed_len(s: &[u8], clear: bool) -> usize
-    requires { ⌜ clear ≡ noneOf isStuffed (now s) ⌝ }
-    requires { ⌜ length (now s) ≤ 255 ⌝ }
-    ensures { λ r. ⌜ r ≡ length (stuff (now (s .entry))) ⌝ }
-{
-    if clear {
-        return s.len();
-    }
-    let doubled = crate::bytes::count_within(s, flags::EXTENDED_START, flags::ESCAPE);
-    s.len() + doubled as usize
 }
 
 // How many bytes the start flag and the addresses take.
@@ -73,17 +61,26 @@ pub(crate) fn put_byte(b: u8, out: &mut [u8], at: usize) -> usize
     at + 1
 }
 
-// Writes a slice, stuffed, from an index on, and answers the next index. A slice that takes no more bytes on the
-// wire than it has is copied as it is.
-pub(crate) fn put_stuffed(s: &[u8], stuffed: usize, out: &mut [u8], from: usize) -> usize
-    requires { ⌜ stuffed ≡ length (stuff (now s)) ⌝ }
+// Writes the checksum, stuffed, at an index, and the stop flag after it.
+pub(crate) fn put_end(sum: u8, out: &mut [u8], at: usize)
+    requires { ⌜ at + length (stuffByte sum) + 1 ≤ length (now out) ⌝ }
+    ensures { λ r. ⌜ now (out .exit) ≡ splice (now (out .entry)) at (stuffByte sum ++ (0xF2 ∷ [])) ⌝ }
+{
+    let end = put_byte(sum, out, at);
+    out[end] = flags::STOP;
+}
+
+// Writes a slice, stuffed, from an index on, and answers the next index. A slice of which no byte is sent as two is
+// copied as it is.
+pub(crate) fn put_stuffed(s: &[u8], escapes: u8, out: &mut [u8], from: usize) -> usize
+    requires { ⌜ escapes ≡ countOf isStuffed (now s) ⌝ }
     requires { ⌜ from + length (stuff (now s)) ≤ length (now out) ⌝ }
     ensures { λ r. ⌜ r ≡ from + length (stuff (now (s .entry))) ⌝ }
     ensures { λ r. ⌜ now (out .exit) ≡ splice (now (out .entry)) from (stuff (now (s .entry))) ⌝ }
 {
-    if stuffed == s.len() {
+    if escapes == 0 {
         lists::copy(s, out, from);
-        return from + stuffed;
+        return from + s.len();
     }
     put_each(s, out, from)
 }

@@ -1,6 +1,6 @@
 -- Laws of one call, which the functions' proofs cite.
 use Prim.Native.Nat.{ℕ, _*_, _≤_, _<_}
-use mathlib.Core.Path.{_≡_, refl, sym, ap, _∙_}
+use mathlib.Core.Path.{_≡_, refl, sym, ap, _∙_, subst}
 use mathlib.Core.Bool.{true, false}
 use mathlib.Core.List.{List, [], _∷_}
 use native.Mathlib.Omega.{arith}
@@ -8,9 +8,9 @@ use native.Mathlib.Nat.{zero-add}
 use lib.Dec.{leb, eqb}
 use lib.ListN.{length, getD}
 use borrow.Author.Tests.{eq-eqb, ne-eqb}
-use Rattle.answer.specs.Draft.{draftAnswer, draftOut}
+use Rattle.answer.specs.Draft.{draftAnswer, draftOut, Writes}
 use Rattle.answer.specs.Answer.{refused, result, Answer}
-use Rattle.numbers.specs.Number.{number}
+use Rattle.numbers.specs.Number.{number, bytesOf}
 use Rattle.lists.specs.Choice.{pick}
 use Rattle.lists.proofs.Cases.{by-bool}
 use Rattle.lists.proofs.Tests.{within-true}
@@ -132,6 +132,11 @@ pub stop-short : (a : ℕ) → length (stopFrame a) ≤ 13
 unfolding stopFrame wireOf payload addressesOf contentsOf stuff stuffByte sumFrom
 stop-short a = by-bool (isStuffed a) (λ y. simp y (omega arith)) (λ n. simp n (omega arith))
 
+-- The contents of a stop, which the code has as a number.
+pub terminate-bytes : bytesOf 6 0x02_01_02_13_04_76 ≡ 0x76 ∷ 0x04 ∷ 0x13 ∷ 0x02 ∷ 0x01 ∷ 0x02 ∷ []
+unfolding bytesOf
+terminate-bytes = refl
+
 -- An answer and an output are those of a stop, where its answer is x.
 abbrev pub Stops : Answer (List ℕ) → List ℕ → Answer ℕ → List ℕ → Type 0
 Stops x out a last = (a ≡ writtenLength x) × (last ≡ outAfter x out)
@@ -146,18 +151,24 @@ module _ (h a t : ℕ) (out : List ℕ) where
   unfolding answerOf
   stop-not-holder y n = (simp (y, n), simp (y, n))
 
-  -- What the frame writer did is what a stop does.
-  pub stop-writes : inRange a ≡ true → owns t h ≡ true → (x : Answer ℕ) (last : List ℕ)
-      → x ≡ draftAnswer (frameDraft (extended a 0x00 (0x76 ∷ 0x04 ∷ 0x13 ∷ 0x02 ∷ 0x01 ∷ 0x02 ∷ []))) (length out)
-      → last ≡ draftOut (frameDraft (extended a 0x00 (0x76 ∷ 0x04 ∷ 0x13 ∷ 0x02 ∷ 0x01 ∷ 0x02 ∷ []))) out
+  stop-wrote : inRange a ≡ true → owns t h ≡ true → (x : Answer ℕ) (last : List ℕ)
+      → Writes (frameDraft (extended a 0x00 (0x76 ∷ 0x04 ∷ 0x13 ∷ 0x02 ∷ 0x01 ∷ 0x02 ∷ []))) out x last
       → Stops (answerOf h (stop a t (length out))) out x last
   unfolding answerOf stopFrame draftAnswer draftOut
-  stop-writes range owner x last e o =
+  stop-wrote range owner x last w =
       let f = extended a 0x00 (0x76 ∷ 0x04 ∷ 0x13 ∷ 0x02 ∷ 0x01 ∷ 0x02 ∷ []) in
       let d = draft-fits f (omega (arith, stop-short a)) in
       by-bool (leb (length (wireOf f)) (length out))
-      (λ y. (e ∙ simp (d, y, range, owner), o ∙ simp (d, y, range, owner)))
-      (λ n. (e ∙ simp (d, n, range, owner), o ∙ simp (d, n, range, owner)))
+      (λ y. (w .0 ∙ simp (d, y, range, owner), w .1 ∙ simp (d, y, range, owner)))
+      (λ n. (w .0 ∙ simp (d, n, range, owner), w .1 ∙ simp (d, n, range, owner)))
+
+  -- What the frame writer did with the bytes of that number is what a stop does.
+  pub stop-writes : inRange a ≡ true → owns t h ≡ true → (x : Answer ℕ) (last : List ℕ)
+      → Writes (frameDraft (extended a 0x00 (bytesOf 6 0x02_01_02_13_04_76))) out x last
+      → Stops (answerOf h (stop a t (length out))) out x last
+  stop-writes range owner x last w =
+      stop-wrote range owner x last
+      (subst (λ (c : List ℕ). Writes (frameDraft (extended a 0x00 c)) out x last) terminate-bytes w)
 
   -- A stop by the holder that is refused has no room.
   pub stop-no-room : inRange a ≡ true → owns t h ≡ true → (n : ℕ) (last : List ℕ)

@@ -19,6 +19,11 @@ const TABLE_BYTES: usize = 2048;
 // A free address has no token.
 const FREE: u64 = 0;
 
+// The contents of a stop, terminate workout: 76 04 13 02 01 02 as a number, lowest byte first.
+const TERMINATE: u64 = 0x02_01_02_13_04_76;
+
+const TERMINATE_WIDTH: usize = 6;
+
 // What hold and release answer.
 pub enum LeaseAnswer {
     Done,
@@ -160,8 +165,13 @@ fn write_stop(address: u32, token: u64, held: u64, out: &mut [u8]) -> Written
     if !is_holder(token, held) {
         return Written::Refused(Refusal::NotHolder);
     }
-    let terminate = [0x76u8, 0x04, 0x13, 0x02, 0x01, 0x02];
-    let written = frame::write_extended(address as u8, 0x00, &terminate, out);
+    let written = frame::write_extended_number(
+        address as u8,
+        0x00,
+        TERMINATE,
+        TERMINATE_WIDTH,
+        out,
+    );
     match written {
         Written::Length(n) => Written::Length(n),
         // The frame is within the longest that is allowed, so that only room can lack.

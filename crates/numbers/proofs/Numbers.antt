@@ -255,3 +255,16 @@ unfolding put
 put-all w at i n s h =
     let p : w - i ≡ 0 = omega arith in
     ap (λ (j : ℕ). put j (at + i) n s) p
+
+-- its bytes from the lowest up, where `left` are still to come
+pub bytesOf-next : (left n : ℕ) → 0 < left → bytesOf left n ≡ (n % 256) ∷ bytesOf (left - 1) (n / 256)
+unfolding bytesOf
+bytesOf-next left n h =
+    let p : left ≡ suc (left - 1) = omega arith in
+    ap (λ (w : ℕ). bytesOf w n) p
+
+pub bytesOf-none : (left n : ℕ) → left ≤ 0 → bytesOf left n ≡ []
+unfolding bytesOf
+bytesOf-none left n h =
+    let p : left ≡ 0 = omega arith in
+    ap (λ (w : ℕ). bytesOf w n) p

@@ -1,213 +1,118 @@
-use mathlib.Core.Path.{_≡_, ap, _∙_}
-use Prim.Native.Nat.{ℕ, _+_}
-use native.Mathlib.Omega.{arith}
+use mathlib.Core.Path.{_≡_, subst, _∙_}
 use mathlib.Core.List.{List}
-use lib.ListN.{length, length-set}
-use Rattle.frame.specs.Stuffing.{stuffByte}
-use Rattle.frame.specs.Checksum.{checksum}
-use Rattle.frame.specs.Frame.{Frame, wireOf}
-use Rattle.answer.specs.Answer.{result}
-use Rattle.answer.proofs.Drafts.{writes-refusal, writes-no-room, writes-done}
-use Rattle.frame.specs.Private.{frameOf}
-use Rattle.frame.proofs.WireLaws.{wire-length, header-between, draft-long, draft-fits, put-parts}
-use Rattle.frame.proofs.StuffingLaws.{stuff-between, stuffByte-between}
+use Prim.Native.Nat.{ℕ, _+_, _≤_}
+use native.Mathlib.Omega.{arith}
+use lib.ListN.{length}
+use Rattle.frame.specs.Stuffing.{stuff, stuffByte}
+use Rattle.frame.specs.Private.{headerWire, Measures}
+use Rattle.frame.specs.declared.measure.Measured.the-variants.{Fits}
+use Rattle.frame.proofs.MeasureLaws.{long-written, parts-length, no-room-written, parts-written}
 use borrow.Author.Needs.{needs}
 use Rattle.frame.proofs.write_frame.Statement.{statement}
 use Rattle.frame.proofs.write_frame.Tie as tie
 
-abbrev St : tie.After-width → tie.Start
-St w = w .before .before .before .before .before .before .before
+-- the frame's contents
+abbrev C : tie.Start → List ℕ
+C s = s .args .contents .now
 
-abbrev F : tie.After-width → Frame
-F w = frameOf (St w .args .header) (St w .args .contents .now)
+abbrev St : tie.After-known-told → tie.Start
+St k = k .before .before .before .before .before .before
 
-abbrev W : tie.After-width → List ℕ
-W w = wireOf (F w)
+-- what was found
+abbrev sum : tie.After-known-told → ℕ
+sum k = k .before .measured .given .0 .0
 
-abbrev sum : tie.After-width → ℕ
-sum w = w .before .before .before .look .result .sum
+abbrev len : tie.After-known-told → ℕ
+len k = k .before .measured .given .0 .1 .1 .0
 
-is-sum : (w : tie.After-width) → sum w ≡ checksum (St w .args .contents .now)
-is-sum w = w .before .before .before .look .ensures .1
+found : (k : tie.After-known-told)
+    → Measures (St k .args .header) (C (St k)) (Fits (sum k) (k .before .measured .given .0 .1 .0) (len k))
+found k =
+    subst (Measures (St k .args .header) (C (St k))) (k .before .measured .given .1)
+    (k .before .before .before .measure .ensures)
 
--- what the code counts is the length of the frame
-counted : (w : tie.After-width)
-    → w .before .header-len .result + w .before .before .stuffed-len .result + w .width .result + 1 ≡ length (W w)
-counted w =
-    omega (
-      arith,
-      wire-length (St w .args .header) (St w .args .contents .now),
-      ap (λ (n : ℕ). length (stuffByte n))
-          (is-sum w),
-      w .before .header-len .ensures,
-      w .before .before .stuffed-len .ensures,
-      w .width .ensures,
-    )
+parts : (k : tie.After-known-told)
+    → length (headerWire (St k .args .header)) + length (stuff (C (St k))) + length (stuffByte (sum k)) + 1 ≡ len k
+parts k = parts-length (St k .args .header) (C (St k)) _ _ _ (found k)
 
--- the indices after each part
-abbrev Wh : tie.After-put-header → tie.After-width
-Wh h = h .before .before .before .before
+-- the places after each part
+abbrev Kh : tie.After-put-header → tie.After-known-told
+Kh h = h .before .before .before
 
 abbrev Hs : tie.After-put-stuffed → tie.After-put-header
 Hs s = s .before .before .before .before
 
-abbrev Sp : tie.After-put-byte → tie.After-put-stuffed
-Sp p = p .before .before .before .before
+-- the output has room for the whole frame, and keeps its length
+room : (h : tie.After-put-header) → len (Kh h) ≤ length (h .put-header .last .1 .0)
+room h = omega (arith, h .before .before .if1 .left, h .put-header .kept .1 .0)
 
-kept : (s : tie.After-put-stuffed) → length (s .put-stuffed .last .1 .1 .0) ≡ length (St (Wh (Hs s)) .args .out .now)
-kept s = s .put-stuffed .kept .1 .1 .0 ∙ Hs s .put-header .kept .1 .0
+measure-requires : tie.Need-measure-requires
+measure-requires c κs = search needs
+
+enum-told : tie.Need-enum-told
+enum-told c = search needs
+
+enum-known-measured : tie.Need-enum-known-measured
+enum-known-measured c = search needs
 
 returns : tie.Need-returns
 returns c =
-    let a = c .before .before .before .args in
-    let s = a .contents .now in
-    writes-refusal _ 2 (a .out .now)
-    (draft-long (frameOf (a .header) s)
-    (omega (
-      arith,
-      wire-length (a .header) s,
-      header-between (a .header),
-      stuff-between s,
-      stuffByte-between
-          (checksum s),
-    )))
-
-look-requires : tie.Need-look-requires
-look-requires c κs = search needs
-
-stuffed-len-requires : tie.Need-stuffed-len-requires
-stuffed-len-requires c κs = (c .look .ensures .0, omega (arith, c .before .if1 .left))
-
-header-len-requires : tie.Need-header-len-requires
-header-len-requires c κs = search needs
-
-add-n : tie.Need-add-n
-add-n c =
-    let s = c .before .before .before .before .before .before in
-    omega (arith, header-between (s .args .header), stuff-between (s .args .contents .now))
-
-width-requires : tie.Need-width-requires
-width-requires c κs = search needs
-
-add-n-2 : tie.Need-add-n-2
-add-n-2 c =
-    omega (
-      arith,
-      header-between (St c .args .header),
-      stuff-between (St c .args .contents .now),
-      stuffByte-between
-          (sum c),
-    )
-
-add-n-3 : tie.Need-add-n-3
-add-n-3 c =
-    omega (
-      arith,
-      header-between (St c .args .header),
-      stuff-between (St c .args .contents .now),
-      stuffByte-between
-          (sum c),
-    )
-
-returns-2 : tie.Need-returns-2
-returns-2 c = writes-refusal _ 2 _ (draft-long (F (c .before)) (omega (arith, counted (c .before))))
-
-returns-3 : tie.Need-returns-3
-returns-3 c =
-    let w : tie.After-width = search needs in
-    writes-no-room _ (W w) _ (draft-fits (F w) (omega (arith, counted w))) (omega (arith, counted w))
+    let k = c .before in
+    no-room-written (St k .args .header) (C (St k)) _ _ _ (found k) (St k .args .out .now) (omega (arith, c .if1 .taken))
 
 put-header-requires : tie.Need-put-header-requires
-put-header-requires c κs = let w = c .before .before .before in omega (arith, counted w, w .before .header-len .ensures)
+put-header-requires c κs = omega (arith, parts (c .before .before), c .before .if1 .left)
 
 put-stuffed-requires : tie.Need-put-stuffed-requires
 put-stuffed-requires c κs =
     let h = c .before .before .before in
-    let w = Wh h in (
-      w .before .before .stuffed-len .ensures,
-      omega (
-        arith,
-        counted w,
-        h .put-header .ensures .0,
-        h .put-header .kept .1 .0,
-        w .before .header-len .ensures,
-        w .before .before .stuffed-len .ensures,
-      ),
-    )
+    (found (Kh h) .1, omega (arith, parts (Kh h), room h, h .put-header .ensures .0))
 
-put-byte-requires : tie.Need-put-byte-requires
-put-byte-requires c κs =
+put-end-requires : tie.Need-put-end-requires
+put-end-requires c κs =
     let s = c .before .before .before in
     let h = Hs s in
-    let w = Wh h in
     omega (
       arith,
-      counted w,
+      parts (Kh h),
+      room h,
       h .put-header .ensures .0,
       s .put-stuffed .ensures .0,
-      kept s,
-      w .before .header-len .ensures,
-      w .before .before .stuffed-len .ensures,
-      w .width .ensures,
+      s .put-stuffed .kept .1 .1 .0,
     )
 
-slice-write-out : tie.Need-slice-write-out
-slice-write-out c =
-    let p = c .before .before in
-    let s = Sp p in
-    let h = Hs s in
-    let w = Wh h in
-    omega (
-      arith,
-      counted w,
-      h .put-header .ensures .0,
-      s .put-stuffed .ensures .0,
-      p .put-byte .ensures .0,
-      p .put-byte .kept .1 .0,
-      kept s,
-      w .before .header-len .ensures,
-      w .before .before .stuffed-len .ensures,
-      w .width .ensures,
-    )
+returns-2 : tie.Need-returns-2
+returns-2 c =
+    let w = c .before .before in
+    let s = w .before .before .before in
+    long-written (s .args .header) (C s) (s .args .out .now)
+    (subst (Measures (s .args .header) (C s)) (c .enum-told .given .1) (w .measure .ensures))
 
 same-length : tie.Need-same-length
-same-length c =
-    let p = c .before .before in
-    length-set (p .put-byte .last .1 .0) (p .put-byte .result) _ ∙ p .put-byte .kept .1 .0 ∙ kept (Sp p)
+same-length c = search needs
 
-returns-4 : tie.Need-returns-4
-returns-4 c =
-    let p = c .before .before in
-    let s = Sp p in
+returns-3 : tie.Need-returns-3
+returns-3 c =
+    let e = c .before .before in
+    let s = e .before .before .before .before in
     let h = Hs s in
-    let w = Wh h in
-    let a = St w .args in
-    let done =
-    writes-done _ (W w) (a .out .now) _ (draft-fits (F w) (omega (arith, counted w, h .before .before .before)))
-    (omega (arith, counted w, h .before .before .if3 .left))
-    (put-parts (a .header) (a .contents .now) (a .out .now) _ _ _ (sum w) _ _ _ (is-sum w)
-    (omega (arith, counted w, h .before .before .if3 .left)) (p .put-byte .kept .1 .0 ∙ kept s)
-    (h .put-header .ensures .0) (h .put-header .ensures .1) (s .put-stuffed .ensures .0) (s .put-stuffed .ensures .1)
-    (p .put-byte .ensures .0) (p .put-byte .ensures .1)) in
-    (ap result (counted w) ∙ done .0, done .1)
+    let k = Kh h in
+    parts-written (St k .args .header) (C (St k)) _ _ _ (found k) (St k .args .out .now) _ _ _ _ _
+    (omega (arith, h .before .before .if1 .left)) (h .put-header .ensures .0) (h .put-header .ensures .1)
+    (s .put-stuffed .ensures .0) (s .put-stuffed .ensures .1)
+    (e .put-end .ensures)
 
 pub write-frame-spec : {M : Type 1} → statement M
 write-frame-spec =
     tie.close
     (tie.spec
+    measure-requires
+    enum-told
+    enum-known-measured
     returns
-    look-requires
-    stuffed-len-requires
-    header-len-requires
-    add-n
-    width-requires
-    add-n-2
-    add-n-3
-    returns-2
-    returns-3
     put-header-requires
     put-stuffed-requires
-    put-byte-requires
-    slice-write-out
+    put-end-requires
+    returns-2
     same-length
-    returns-4)
+    returns-3)

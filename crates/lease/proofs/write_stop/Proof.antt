@@ -32,18 +32,15 @@ returns-2 c =
     (sym (r .in-range .ensures) ∙ not-false _ (c .before .before .if1 .left))
     (sym (c .before .is-holder .ensures) ∙ not-true _ (c .if2 .taken))
 
-cast-write-extended : tie.Need-cast-write-extended
-cast-write-extended c =
+cast-write-extended-number : tie.Need-cast-write-extended-number
+cast-write-extended-number c =
     let r = c .before .before .before in
     let range = sym (r .in-range .ensures) ∙ not-false _ (c .before .before .if1 .left) in
     let m = range-means (r .before .before .args .address) range in
     omega (arith, m .0, m .1)
 
-slice-aggregate-write-extended : tie.Need-slice-aggregate-write-extended
-slice-aggregate-write-extended c = search needs
-
-write-extended-requires : tie.Need-write-extended-requires
-write-extended-requires c κs = search needs
+write-extended-number-requires : tie.Need-write-extended-number-requires
+write-extended-number-requires c κs = search needs
 
 enum-known-written : tie.Need-enum-known-written
 enum-known-written c = search needs
@@ -54,29 +51,29 @@ enum-told c = search needs
 same-length : tie.Need-same-length
 same-length c = search needs
 
-abbrev St : tie.After-write-extended → tie.Start
-St w = w .before .before .before .before .before .before .before .before
+abbrev St : tie.After-write-extended-number → tie.Start
+St w = w .before .before .before .before .before .before .before
 
-range : (w : tie.After-write-extended) → inRange (St w .args .address) ≡ true
+range : (w : tie.After-write-extended-number) → inRange (St w .args .address) ≡ true
 range w =
-    let i = w .before .before .before .before .before in
+    let i = w .before .before .before .before in
     sym (i .before .in-range .ensures) ∙ not-false _ (i .if1 .left)
 
-owner : (w : tie.After-write-extended) → owns (St w .args .token) (St w .args .held) ≡ true
+owner : (w : tie.After-write-extended-number) → owns (St w .args .token) (St w .args .held) ≡ true
 owner w =
-    let i = w .before .before .before in
+    let i = w .before .before in
     sym (i .before .is-holder .ensures) ∙ not-false _ (i .if2 .left)
 
 -- What the frame writer answered and wrote is what a stop does.
-wrote : (w : tie.After-write-extended) (x : Written) → w .write-extended .result ≡ x
+wrote : (w : tie.After-write-extended-number) (x : Written) → w .write-extended-number .result ≡ x
     → let a = St w .args in
     Stops (answerOf (a .held) (stop (a .address) (a .token) (length (a .out .now)))) (a .out .now) (writtenMeans x)
-    (w .write-extended .last .1 .1 .1 .0)
+    (w .write-extended-number .last .1 .1 .1 .1 .0)
 wrote w x e =
     let a = St w .args in
-    let d = w .write-extended .ensures in
+    let d = w .write-extended-number .ensures in
     stop-writes (a .held) (a .address) (a .token) (a .out .now) (range w) (owner w) _ _
-    (sym (ap writtenMeans e) ∙ d .0) (d .1)
+    (sym (ap writtenMeans e) ∙ d .0, d .1)
 
 returns-3 : tie.Need-returns-3
 returns-3 c =
@@ -101,9 +98,8 @@ write-stop-spec =
     returns
     is-holder-requires
     returns-2
-    cast-write-extended
-    slice-aggregate-write-extended
-    write-extended-requires
+    cast-write-extended-number
+    write-extended-number-requires
     enum-known-written
     enum-told
     same-length

@@ -1,23 +1,26 @@
-use mathlib.Core.Path.{_≡_}
+use mathlib.Core.Path.{_≡_, refl, sym, _∙_}
 use Prim.Native.Nat.{_+_, _-_, _≤_}
 use native.Mathlib.Nat.{zero-add}
 use native.Mathlib.Omega.{arith}
 use lib.ListN.{length, drop}
 use Rattle.lists.specs.Choice.{within, countOf}
 use Rattle.lists.proofs.Tests.{count-at, count-end, count-most}
+use Rattle.frame.specs.Checksum.{sumFrom}
+use Rattle.frame.proofs.ChecksumLaws.{sumFrom-at, sumFrom-end}
 use borrow.Author.Needs.{needs}
 use Rattle.frame.proofs.bytes.count_within.Statement.{statement}
 use Rattle.frame.proofs.bytes.count_within.Tie as tie
 
 abbrev Inv-loop : tie.InvT-loop
-Inv-loop s low high count₀ i₀ count i =
+Inv-loop s low high count₀ sum₀ i₀ count sum i =
     (i ≤ length s) × (count + countOf (within low high) (drop i s) ≡ countOf (within low high) s)
+    × (sumFrom sum (drop i s) ≡ sumFrom 0 s)
 
 abbrev μ-loop : tie.MeasureT-loop
-μ-loop s low high count₀ i₀ count i = length s - i
+μ-loop s low high count₀ sum₀ i₀ count sum i = length s - i
 
 loop-holds : tie.Need-loop-holds Inv-loop μ-loop
-loop-holds c = (search needs, zero-add _)
+loop-holds c = (search needs, zero-add _, refl)
 
 shared-slice-read-mark : tie.Need-shared-slice-read-mark Inv-loop μ-loop
 shared-slice-read-mark c = search needs
@@ -39,6 +42,9 @@ add-count c =
       c .mark .ensures,
     )
 
+shared-slice-read-sum : tie.Need-shared-slice-read-sum Inv-loop μ-loop
+shared-slice-read-sum c = search needs
+
 add-i : tie.Need-add-i Inv-loop μ-loop
 add-i c = search needs
 
@@ -47,23 +53,26 @@ loop-less c = search needs
 
 loop-again : tie.Need-loop-again Inv-loop μ-loop
 loop-again c =
-    let l = c .before .before .before in
-    let a = l .before .before .args in (
+    let l = c .before .before .before .before in
+    let a = l .before .before .args in
+    let h = c .before .before .before .loop-test .taken in (
       search needs,
       omega (
         arith,
         l .loop .inv .1,
-        count-at (within (a .low) (a .high)) (a .s .now) (l .loop .i)
-            (c .before .before .loop-test .taken),
-        c .mark .ensures,
+        count-at (within (a .low) (a .high)) (a .s .now) (l .loop .i) h,
+        c .before .mark .ensures,
       ),
+      sym (sumFrom-at _ _ _ h) ∙ l .loop .inv .2,
     )
 
 returns : tie.Need-returns Inv-loop μ-loop
 returns c =
     let l = c .before in
-    let a = l .before .before .args in
-    omega (arith, l .loop .inv .1, count-end (within (a .low) (a .high)) (a .s .now) (l .loop .i) (c .loop-test .left))
+    let a = l .before .before .args in (
+      omega (arith, l .loop .inv .1, count-end (within (a .low) (a .high)) (a .s .now) (l .loop .i) (c .loop-test .left)),
+      sym (sumFrom-end _ _ _ (c .loop-test .left)) ∙ l .loop .inv .2,
+    )
 
 pub count-within-spec : {M : Type 1} → statement M
 count-within-spec =
@@ -75,6 +84,7 @@ count-within-spec =
     shared-slice-read-mark
     mark-requires
     add-count
+    shared-slice-read-sum
     add-i
     loop-less
     loop-again

@@ -5,7 +5,7 @@ use native.Mathlib.Omega.{arith}
 use lib.ListN.{length}
 use Rattle.lists.specs.Splice.{splice}
 use Rattle.lists.proofs.Splices.{copied-fits}
-use Rattle.frame.proofs.StuffingLaws.{stuff-same}
+use Rattle.frame.proofs.StuffingLaws.{stuff-same, stuff-count}
 use borrow.Author.Needs.{needs}
 use Rattle.frame.proofs.stuffing.put_stuffed.Statement.{statement}
 use Rattle.frame.proofs.stuffing.put_stuffed.Tie as tie
@@ -24,8 +24,9 @@ returns c =
     let s = c .before .before .before .before .before .before .before in
     let a = s .args in
     let plain : stuff (a .s .now) ≡ a .s .now =
-    stuff-same (a .s .now) (sym (s .pre .0) ∙ c .before .before .before .before .if1 .taken) in (
-      ap (λ (n : ℕ). a .from + n) (s .pre .0),
+    stuff-same (a .s .now)
+    (omega (arith, stuff-count (a .s .now), s .pre .0, c .before .before .before .before .if1 .taken)) in (
+      ap (λ (n : ℕ). a .from + n) (sym (ap length plain)),
       copied-fits (a .s .now) (a .out .now) _ (a .from) (omega (arith, s .pre .1, ap length plain))
           (c .before .before .copy .ensures)
           ∙ ap (splice (a .out .now) (a .from)) (sym plain),

@@ -1,0 +1,119 @@
+use mathlib.Core.Path.{_≡_, subst, _∙_}
+use mathlib.Core.List.{List}
+use Prim.Native.Nat.{ℕ, _+_, _≤_}
+use native.Mathlib.Omega.{arith}
+use lib.ListN.{length}
+use Rattle.frame.specs.Stuffing.{stuff, stuffByte}
+use Rattle.frame.specs.Private.{headerWire, Measures}
+use Rattle.frame.specs.declared.measure.Measured.the-variants.{Fits}
+use Rattle.numbers.specs.Number.{bytesOf}
+use Rattle.frame.proofs.MeasureLaws.{long-written, parts-length, no-room-written, parts-written}
+use borrow.Author.Needs.{needs}
+use Rattle.frame.proofs.write_number.Statement.{statement}
+use Rattle.frame.proofs.write_number.Tie as tie
+
+-- the frame's contents
+abbrev C : tie.Start → List ℕ
+C s = bytesOf (s .args .width) (s .args .number)
+
+abbrev St : tie.After-known-told → tie.Start
+St k = k .before .before .before .before .before
+
+-- what was found
+abbrev sum : tie.After-known-told → ℕ
+sum k = k .before .measured .given .0 .0
+
+abbrev len : tie.After-known-told → ℕ
+len k = k .before .measured .given .0 .1 .1 .0
+
+found : (k : tie.After-known-told)
+    → Measures (St k .args .header) (C (St k)) (Fits (sum k) (k .before .measured .given .0 .1 .0) (len k))
+found k =
+    subst (Measures (St k .args .header) (C (St k))) (k .before .measured .given .1)
+    (k .before .before .before .measure-number .ensures)
+
+parts : (k : tie.After-known-told)
+    → length (headerWire (St k .args .header)) + length (stuff (C (St k))) + length (stuffByte (sum k)) + 1 ≡ len k
+parts k = parts-length (St k .args .header) (C (St k)) _ _ _ (found k)
+
+-- the places after each part
+abbrev Kh : tie.After-put-header → tie.After-known-told
+Kh h = h .before .before .before
+
+abbrev Hs : tie.After-put-number → tie.After-put-header
+Hs s = s .before .before .before .before
+
+-- the output has room for the whole frame, and keeps its length
+room : (h : tie.After-put-header) → len (Kh h) ≤ length (h .put-header .last .1 .0)
+room h = omega (arith, h .before .before .if1 .left, h .put-header .kept .1 .0)
+
+measure-number-requires : tie.Need-measure-number-requires
+measure-number-requires c κs = search needs
+
+enum-told : tie.Need-enum-told
+enum-told c = search needs
+
+enum-known-measured : tie.Need-enum-known-measured
+enum-known-measured c = search needs
+
+returns : tie.Need-returns
+returns c =
+    let k = c .before in
+    no-room-written (St k .args .header) (C (St k)) _ _ _ (found k) (St k .args .out .now) (omega (arith, c .if1 .taken))
+
+put-header-requires : tie.Need-put-header-requires
+put-header-requires c κs = omega (arith, parts (c .before .before), c .before .if1 .left)
+
+put-number-requires : tie.Need-put-number-requires
+put-number-requires c κs =
+    let h = c .before .before .before in
+    omega (arith, parts (Kh h), room h, h .put-header .ensures .0)
+
+put-end-requires : tie.Need-put-end-requires
+put-end-requires c κs =
+    let s = c .before .before .before in
+    let h = Hs s in
+    omega (
+      arith,
+      parts (Kh h),
+      room h,
+      h .put-header .ensures .0,
+      s .put-number .ensures .0,
+      s .put-number .kept .1 .1 .0,
+    )
+
+returns-2 : tie.Need-returns-2
+returns-2 c =
+    let w = c .before .before in
+    let s = w .before .before in
+    long-written (s .args .header) (C s) (s .args .out .now)
+    (subst (Measures (s .args .header) (C s)) (c .enum-told .given .1) (w .measure-number .ensures))
+
+same-length : tie.Need-same-length
+same-length c = search needs
+
+returns-3 : tie.Need-returns-3
+returns-3 c =
+    let e = c .before .before in
+    let s = e .before .before .before .before in
+    let h = Hs s in
+    let k = Kh h in
+    parts-written (St k .args .header) (C (St k)) _ _ _ (found k) (St k .args .out .now) _ _ _ _ _
+    (omega (arith, h .before .before .if1 .left)) (h .put-header .ensures .0) (h .put-header .ensures .1)
+    (s .put-number .ensures .0) (s .put-number .ensures .1)
+    (e .put-end .ensures)
+
+pub write-number-spec : {M : Type 1} → statement M
+write-number-spec =
+    tie.close
+    (tie.spec
+    measure-number-requires
+    enum-told
+    enum-known-measured
+    returns
+    put-header-requires
+    put-number-requires
+    put-end-requires
+    returns-2
+    same-length
+    returns-3)
