@@ -66,6 +66,7 @@ fn run_bytes(operation: usize, bytes: &[u8]) {
         operations::FRAME => wire::read(bytes),
         operations::CONTENTS => wire::print_contents(bytes),
         operations::STANDARD => wire::print_again(print::STANDARD, 0, 0, bytes),
+        operations::STANDARD_LENGTH => wire::print_length(frame::standard_length(bytes)),
         operations::NUMBER => wire::print_number(bytes),
         _ => run_at(
             operation,
@@ -96,6 +97,9 @@ fn run_at(operation: usize, n: u8, bytes: &[u8]) {
 fn run_between(operation: usize, first: u8, second: u8, bytes: &[u8]) {
     match operation {
         operations::EXTENDED => wire::print_again(print::EXTENDED, first, second, bytes),
+        operations::EXTENDED_LENGTH => {
+            wire::print_length(frame::extended_length(first, second, bytes));
+        }
         operations::INSIDE => commands::print_numbered(
             commands::INSIDE,
             bytes,

@@ -6,6 +6,7 @@ use crate::workouts;
 use answer::Written;
 use command::entries;
 use frame::Read;
+use frame::WireLength;
 
 // A frame that is read is written again from what was read.
 pub(crate) fn read(wire: &[u8]) {
@@ -77,6 +78,14 @@ fn write_to(
         print::EXTENDED => frame::write_extended(first, second, contents, out),
         print::STATUS => reply::write_status(first, out),
         _ => reply::write_item(contents, first, body, out),
+    }
+}
+
+// How many bytes a frame takes on the wire, or its refusal.
+pub(crate) fn print_length(length: WireLength) {
+    match length {
+        WireLength::Bytes(n) => print::say(print::LENGTH, n, 0, 0),
+        WireLength::Refused(why) => print::refusal(print::NO_LENGTH, why),
     }
 }
 
