@@ -75,7 +75,7 @@ enum {
  *   bits  8 to 15   the kind of the frame that was read, 2 where a line reader told nothing
  *   bits 16 to 23   its destination, 0 for a standard frame
  *   bits 24 to 31   its source, 0 for a standard frame
- *   bits 32 to 63   the length of the result: contents read, or bytes written
+ *   bits 32 to 63   the length of the result: contents read, bytes written, or bytes that writing takes
  *
  * A refusal has its number and is 0 otherwise. Kind, destination and source are 0 for all functions that read no frame,
  * and the length is 0 for hold and release.
@@ -109,6 +109,19 @@ uint64_t csafe_write_standard(const uint8_t *contents, size_t contents_len, uint
  */
 uint64_t csafe_write_extended(uint8_t to, uint8_t from, const uint8_t *contents, size_t contents_len, uint8_t *out,
                               size_t out_len);
+
+/*
+ * Answers how many bytes a standard frame takes on the wire, which is the room that csafe_write_standard needs.
+ * Refused: CSAFE_TOO_LONG.
+ */
+uint64_t csafe_standard_length(const uint8_t *contents, size_t contents_len);
+
+/*
+ * Answers how many bytes an extended frame takes on the wire, which is the room that csafe_write_extended needs. Any
+ * addresses are taken, and one that is F0 to F3 takes two bytes.
+ * Refused: CSAFE_TOO_LONG.
+ */
+uint64_t csafe_extended_length(uint8_t to, uint8_t from, const uint8_t *contents, size_t contents_len);
 
 /*
  * Reads a slice that has to be one frame, from its start flag to its stop flag. Puts its contents first in the output

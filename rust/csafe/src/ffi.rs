@@ -14,6 +14,8 @@ mod exported {
     extern "C" {
         pub fn csafe_write_standard(contents: *const u8, contents_len: usize, out: *mut u8, out_len: usize) -> u64;
         pub fn csafe_write_extended(to: u8, from: u8, contents: *const u8, contents_len: usize, out: *mut u8, out_len: usize) -> u64;
+        pub fn csafe_standard_length(contents: *const u8, contents_len: usize) -> u64;
+        pub fn csafe_extended_length(to: u8, from: u8, contents: *const u8, contents_len: usize) -> u64;
         pub fn csafe_read(wire: *const u8, wire_len: usize, out: *mut u8, out_len: usize) -> u64;
         pub fn csafe_feed(bytes: *mut u8, state: *mut u64, input: *const u8, input_len: usize, taken: *mut u64) -> u64;
         pub fn csafe_finish(state: *mut u64) -> u64;
@@ -115,6 +117,18 @@ pub(crate) fn write_extended(to: u8, from: u8, contents: &[u8], out: &mut [u8]) 
             out.len(),
         )
     })
+}
+
+#[inline]
+pub(crate) fn standard_length(contents: &[u8]) -> Answer {
+    // SAFETY: the pointer comes with the length of its slice, and the function reads within it and writes nothing.
+    Answer(unsafe { exported::csafe_standard_length(contents.as_ptr(), contents.len()) })
+}
+
+#[inline]
+pub(crate) fn extended_length(to: u8, from: u8, contents: &[u8]) -> Answer {
+    // SAFETY: as for `standard_length`; any addresses are taken.
+    Answer(unsafe { exported::csafe_extended_length(to, from, contents.as_ptr(), contents.len()) })
 }
 
 #[inline]
@@ -229,6 +243,10 @@ mod tests {
         assert_eq!(write_standard(&[0; 118], out).0, 2);
         assert_eq!(write_extended(0xFF, 0xFD, &[], out).0, 5 << 32);
         assert_eq!(write_extended(0xFF, 0xFD, &[], &mut out[..4]).0, 1);
+        assert_eq!(standard_length(&[0xF1]).0, 6 << 32);
+        assert_eq!(standard_length(&[0; 118]).0, 2);
+        assert_eq!(extended_length(0xFF, 0xFD, &[]).0, 5 << 32);
+        assert_eq!(extended_length(0xFF, 0xFD, &[0; 116]).0, 2);
         assert_eq!(read(&[0xF1, 0x41, 0x41, 0xF2], out).0, 1 << 32);
         let extended = [0xF0, 0xFF, 0xFD, 0x41, 0x41, 0xF2];
         assert_eq!(read(&extended, out).0, 0x0000_0001_FDFF_0100);

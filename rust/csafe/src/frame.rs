@@ -1,4 +1,4 @@
-//! CSAFE frames: written, and read from a slice that holds exactly one.
+//! CSAFE frames: measured, written, and read from a slice that holds exactly one.
 
 use crate::{ffi, Error};
 
@@ -57,6 +57,28 @@ impl Frame<'_> {
             Kind::Extended { to, from } => write_extended(to, from, self.contents, out),
         }
     }
+
+    /// How many bytes the frame takes on the wire, which is the room that [`write`](Frame::write) needs.
+    ///
+    /// # Errors
+    ///
+    /// [`Error::TooLong`]: the frame would be over [`WIRE_LIMIT`] on the wire.
+    ///
+    /// ```
+    /// use csafe::frame::{Frame, Kind};
+    ///
+    /// let frame = Frame { kind: Kind::Extended { to: 0x05, from: 0x00 }, contents: &[0x80] };
+    /// let mut wire = vec![0; frame.length()?];
+    /// assert_eq!(frame.write(&mut wire), Ok(6));
+    /// # Ok::<(), csafe::Error>(())
+    /// ```
+    #[inline]
+    pub fn length(&self) -> Result<usize, Error> {
+        match self.kind {
+            Kind::Standard => standard_length(self.contents),
+            Kind::Extended { to, from } => extended_length(to, from, self.contents),
+        }
+    }
 }
 
 /// Writes a standard frame first in the output and answers its length on the wire.
@@ -106,6 +128,49 @@ pub fn write_extended(to: u8, from: u8, contents: &[u8], out: &mut [u8]) -> Resu
     Ok(ffi::write_extended(to, from, contents, out)
         .accepted()?
         .len())
+}
+
+/// How many bytes a standard frame takes on the wire, which is the room that [`write_standard`] needs.
+///
+/// # Errors
+///
+/// [`Error::TooLong`]: the frame would be over [`WIRE_LIMIT`] on the wire.
+///
+/// ```
+/// use csafe::{frame, Error};
+///
+/// let mut wire = vec![0; frame::standard_length(&[0xF1])?];
+/// frame::write_standard(&[0xF1], &mut wire)?;
+/// assert_eq!(wire, [0xF1, 0xF3, 0x01, 0xF3, 0x01, 0xF2]);
+///
+/// assert_eq!(frame::standard_length(&[0; 118]), Err(Error::TooLong));
+/// # Ok::<(), Error>(())
+/// ```
+#[inline]
+pub fn standard_length(contents: &[u8]) -> Result<usize, Error> {
+    Ok(ffi::standard_length(contents).accepted()?.len())
+}
+
+/// How many bytes an extended frame takes on the wire, which is the room that [`write_extended`] needs. Any addresses
+/// are taken, and one that is F0 to F3 takes two bytes.
+///
+/// # Errors
+///
+/// [`Error::TooLong`]: the frame would be over [`WIRE_LIMIT`] on the wire.
+///
+/// ```
+/// use csafe::{frame, Error};
+///
+/// let mut wire = vec![0; frame::extended_length(0xF1, 0x00, &[0x80])?];
+/// frame::write_extended(0xF1, 0x00, &[0x80], &mut wire)?;
+/// assert_eq!(wire, [0xF0, 0xF3, 0x01, 0x00, 0x80, 0x80, 0xF2]);
+///
+/// assert_eq!(frame::extended_length(0x05, 0x00, &[0; 116]), Err(Error::TooLong));
+/// # Ok::<(), Error>(())
+/// ```
+#[inline]
+pub fn extended_length(to: u8, from: u8, contents: &[u8]) -> Result<usize, Error> {
+    Ok(ffi::extended_length(to, from, contents).accepted()?.len())
 }
 
 /// Reads a slice that has to be one frame, from its start flag to its stop flag. Its contents are put first in the

@@ -6,7 +6,7 @@
 //! numbers to these functions and takes their answers apart, which is tested. It allocates nothing and does without
 //! the standard library.
 //!
-//! - [`frame`] writes a frame, and reads one from a slice.
+//! - [`frame`] tells how long a frame is on the wire, writes it, and reads one from a slice.
 //! - [`mod@line`] reads the frames of a live line, in whatever chunks its bytes arrive.
 //! - [`workout`] writes a programmed workout.
 //! - [`lease`] keeps who holds which machine, and writes the frame that stops it for the holder alone.

@@ -33,13 +33,25 @@ static const char *kind_of(uint8_t kind)
     }
 }
 
-static void print_answer(const char *call, uint64_t answer, const uint8_t *out)
+static void print_fields(const char *call, uint64_t answer)
 {
     printf("%s: %u %s%s to=%02X from=%02X len=%u", call, csafe_number(answer), name_of(csafe_number(answer)),
            kind_of(csafe_kind(answer)), csafe_to(answer), csafe_from(answer), (unsigned)csafe_length(answer));
+}
+
+static void print_answer(const char *call, uint64_t answer, const uint8_t *out)
+{
+    print_fields(call, answer);
     for (uint32_t i = 0; i < csafe_length(answer); i++) {
         printf(" %02X", out[i]);
     }
+    printf("\n");
+}
+
+/* No bytes belong to a length that is only told. */
+static void print_length(const char *call, uint64_t answer)
+{
+    print_fields(call, answer);
     printf("\n");
 }
 
@@ -58,6 +70,23 @@ static void write_frames(void)
     answer = csafe_write_extended(0xF1, 0x05, long_contents, sizeof long_contents, wire, sizeof wire);
     print_answer("write_extended", answer, wire);
     print_answer("write_extended", csafe_write_extended(0xF1, 0x05, contents, sizeof contents, wire, 9), wire);
+}
+
+/* A length that was told is the room that the writer needs. */
+static void measure_frames(void)
+{
+    static const uint8_t contents[] = {0x24, 0x02, 0xF2};
+    static const uint8_t long_contents[CSAFE_CONTENTS_LIMIT + 1] = {0};
+    const size_t len = sizeof contents;
+    uint8_t wire[CSAFE_WIRE_LIMIT];
+    uint64_t answer = csafe_standard_length(contents, len);
+    print_length("standard_length", answer);
+    print_answer("write_standard", csafe_write_standard(contents, len, wire, csafe_length(answer)), wire);
+    print_length("standard_length", csafe_standard_length(long_contents, sizeof long_contents));
+    answer = csafe_extended_length(0x05, 0xF1, contents, len);
+    print_length("extended_length", answer);
+    print_answer("write_extended", csafe_write_extended(0x05, 0xF1, contents, len, wire, csafe_length(answer)), wire);
+    print_length("extended_length", csafe_extended_length(0x05, 0xF1, long_contents, sizeof long_contents));
 }
 
 static void read_and_print(const uint8_t *wire, size_t wire_len, size_t room)
@@ -147,6 +176,7 @@ static void leases(void)
 int main(void)
 {
     write_frames();
+    measure_frames();
     read_frames();
     read_line();
     workouts();

@@ -34,6 +34,20 @@ pub fn write_extended(to: u8, from: u8, contents: &[u8], out: &mut [u8]) -> Resu
     write(START_EXTENDED, &[to, from], contents, out)
 }
 
+/// The length of a standard frame on the wire.
+///
+/// Refusal: 2.
+pub fn standard_length(contents: &[u8]) -> Result<usize, u8> {
+    length(&[], contents)
+}
+
+/// The length of an extended frame on the wire.
+///
+/// Refusal: 2.
+pub fn extended_length(to: u8, from: u8, contents: &[u8]) -> Result<usize, u8> {
+    length(&[to, from], contents)
+}
+
 /// Reads a slice that must be one frame and nothing else, and puts the contents
 /// into `out`.
 ///
@@ -139,6 +153,20 @@ fn write(start: u8, addresses: &[u8], contents: &[u8], out: &mut [u8]) -> Result
     at += stuffed;
     stuff(&[sum], &mut out[at..]);
     out[len - 1] = STOP;
+    Ok(len)
+}
+
+/// Two flags, and between them each byte once, or twice where it is F0 to F3. The
+/// writer counts for itself, so that each is tested against the other.
+fn length(addresses: &[u8], contents: &[u8]) -> Result<usize, u8> {
+    if contents.len() > CONTENTS_MAX {
+        return Err(refusal::LONG);
+    }
+    let sum = checksum(contents);
+    let len = 2 + stuffed_len(addresses) + stuffed_len(contents) + stuffed_len(&[sum]);
+    if len > WIRE_MAX {
+        return Err(refusal::LONG);
+    }
     Ok(len)
 }
 

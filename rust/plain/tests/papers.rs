@@ -41,11 +41,18 @@ fn written(write: impl Fn(&mut [u8]) -> Result<usize, u8>) -> Result<String, u8>
     result.map(|len| hex(&out[..len]))
 }
 
+/// Writes a frame; checks that its length is the one that is told.
 fn write_frame(frame: Read, contents: &[u8]) -> Result<String, u8> {
-    written(|out| match frame {
+    let wire = written(|out| match frame {
         Read::Standard { .. } => frame::write_standard(contents, out),
         Read::Extended { to, from, .. } => frame::write_extended(to, from, contents, out),
-    })
+    });
+    let len = match frame {
+        Read::Standard { .. } => frame::standard_length(contents),
+        Read::Extended { to, from, .. } => frame::extended_length(to, from, contents),
+    };
+    assert_eq!(len, wire.clone().map(|wire| bytes(&wire).len()));
+    wire
 }
 
 /// Reads a frame; checks what is left untouched, and that an accepted frame is
@@ -461,7 +468,8 @@ fn frame_refusals_in_order() {
 #[test]
 fn frame_length_counts_addresses_and_escapes() {
     let extended = |to, contents: &[u8]| {
-        let wire = written(|out| frame::write_extended(to, 0x00, contents, out));
+        let (from, len) = (0x00, contents.len());
+        let wire = write_frame(Read::Extended { to, from, len }, contents);
         wire.map(|wire| bytes(&wire).len())
     };
     assert_eq!(extended(0x05, &[0; 115]), Ok(120));
@@ -470,12 +478,75 @@ fn frame_length_counts_addresses_and_escapes() {
     assert_eq!(extended(0xF2, &[0; 115]), Err(2));
     // An even number of equal bytes has checksum 00, an odd one that byte.
     let standard = |len| {
-        let wire = written(|out| frame::write_standard(&vec![0xF3; len], out));
+        let wire = write_frame(Read::Standard { len }, &vec![0xF3; len]);
         wire.map(|wire| bytes(&wire).len())
     };
     assert_eq!(standard(58), Ok(119));
     assert_eq!(standard(59), Err(2));
     assert_eq!(standard(57), Ok(118));
+}
+
+#[test]
+fn lengths_are_told() {
+    let cases = [
+        ("", Ok(3), Ok(6)),
+        ("80", Ok(4), Ok(7)),
+        ("F1", Ok(6), Ok(9)),
+        // The checksum of 70 and 83 is F3.
+        ("70 83", Ok(6), Ok(9)),
+        ("76 04 13 02 01 02", Ok(9), Ok(12)),
+    ];
+    for (contents, standard, extended) in cases {
+        let contents = bytes(contents);
+        assert_eq!(frame::standard_length(&contents), standard);
+        assert_eq!(frame::extended_length(0x05, 0xF1, &contents), extended);
+    }
+    assert_eq!(frame::standard_length(&[0; 117]), Ok(120));
+    assert_eq!(frame::extended_length(0xF0, 0xF3, &[0; 113]), Ok(120));
+    for len in [118, 255, 256, 4_096, 65_536] {
+        let contents = vec![0; len];
+        assert_eq!(frame::standard_length(&contents), Err(2), "{len}");
+        assert_eq!(frame::extended_length(0, 0, &contents), Err(2), "{len}");
+    }
+}
+
+/// The length by the rule: two flags, and each byte between them once more where
+/// it is F0 to F3.
+fn counted(addresses: &[u8], contents: &[u8]) -> Result<usize, u8> {
+    let sum = contents.iter().fold(0, |sum, byte| sum ^ byte);
+    let between = [addresses, contents, &[sum]].concat();
+    let escaped = between.iter().filter(|byte| (0xF0..=0xF3).contains(*byte));
+    let len = 2 + between.len() + escaped.count();
+    (len <= 120).then_some(len).ok_or(2)
+}
+
+#[test]
+fn lengths_count_every_escape() {
+    for len in 0..=130 {
+        for place in 0..len {
+            for byte in 0xEF..=0xF4 {
+                let mut contents = vec![0x00; len];
+                contents[place] = byte;
+                let standard = frame::standard_length(&contents);
+                assert_eq!(standard, counted(&[], &contents), "{byte:02X} of {len}");
+                let extended = frame::extended_length(byte, 0x00, &contents);
+                let expected = counted(&[byte, 0x00], &contents);
+                assert_eq!(extended, expected, "{byte:02X} of {len}");
+            }
+        }
+    }
+}
+
+#[test]
+fn lengths_of_all_addresses_and_checksums() {
+    for byte in 0..=0xFF {
+        for other in 0..=0xFF {
+            let extended = frame::extended_length(byte, other, &[0; 114]);
+            assert_eq!(extended, counted(&[byte, other], &[0; 114]));
+            let standard = frame::standard_length(&[byte, other]);
+            assert_eq!(standard, counted(&[], &[byte, other]));
+        }
+    }
 }
 
 #[test]

@@ -10,6 +10,7 @@ mod numbers;
 
 use std::collections::{HashMap, HashSet};
 use std::fs;
+use std::io::Write;
 use std::path::PathBuf;
 use std::process::{Command, Stdio};
 
@@ -64,6 +65,63 @@ fn stored_answers_are_what_the_program_prints() {
         assert_eq!(printed, stored);
     }
     assert_eq!(printed.len(), stored.len());
+}
+
+/// What the program prints of a few examples.
+fn printed(examples: &str) -> String {
+    let mut child = Command::new(env!("CARGO_BIN_EXE_vectors"))
+        .stdin(Stdio::piped())
+        .stdout(Stdio::piped())
+        .spawn()
+        .unwrap();
+    let mut input = child.stdin.take().unwrap();
+    input.write_all(examples.as_bytes()).unwrap();
+    drop(input);
+    let output = child.wait_with_output().unwrap();
+    assert!(output.status.success());
+    String::from_utf8(output.stdout).unwrap()
+}
+
+#[test]
+fn lengths_are_told() {
+    let cases = [
+        ("standard-length", "length=3"),
+        ("standard-length F1", "length=6"),
+        ("standard-length 70 83", "length=6"),
+        ("extended-length 05 00", "length=5"),
+        ("extended-length F1 F3 80", "length=8"),
+    ];
+    for (call, answer) in cases {
+        assert_eq!(printed(&format!("it {call}")), format!("it {answer}\n"));
+    }
+    let over = format!("it extended-length 05 00{}", " 00".repeat(116));
+    assert_eq!(printed(&over), "it length=refused:2\n");
+}
+
+/// The length that belongs to what is written, or the same refusal.
+fn length_of(written: &str) -> String {
+    match written.strip_prefix("refused:") {
+        Some(_) => written.to_string(),
+        None => (written.len() / 2).to_string(),
+    }
+}
+
+#[test]
+fn lengths_are_those_of_what_is_written() {
+    let (examples, answers) = (text("stdin"), text("stdout"));
+    let answers = by_name(&answers);
+    let mut count = 0;
+    for (name, example) in by_name(&examples) {
+        let (operation, arguments) = example.split_once(' ').unwrap_or((example, ""));
+        if !matches!(operation, "standard" | "extended") {
+            continue;
+        }
+        let length = printed(&format!("{name} {operation}-length {arguments}"));
+        let expected = length_of(value(answers[name], "written="));
+        assert_eq!(length, format!("{name} length={expected}\n"));
+        count += 1;
+    }
+    assert!(count >= 6, "{count} frames are written");
 }
 
 #[test]

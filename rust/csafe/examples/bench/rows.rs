@@ -4,7 +4,7 @@ use crate::inputs::{self, Frames, Kind};
 use crate::sides::Plain;
 use crate::table::Table;
 use crate::timing;
-use crate::work::{self, Feeding, Holding, Reading, Stopping, Work, FREE};
+use crate::work::{self, Feeding, Holding, Measuring, Reading, Stopping, Work, FREE};
 use crate::Choice;
 
 /// Slices of each side for a row.
@@ -66,6 +66,8 @@ impl Rows<'_> {
         );
         let writing = &mut work::Writing(Kind::Extended, &frames.contents);
         self.row("write, any length and bytes", done(), writing);
+        let measuring = &mut Measuring(Kind::Extended, &frames.contents);
+        self.row("wire length, any length and bytes", done(), measuring);
     }
 
     fn lines(&mut self) {

@@ -16,6 +16,8 @@ pub trait Side {
     fn read(wire: &[u8], out: &mut [u8]) -> u64;
     fn write_standard(contents: &[u8], out: &mut [u8]) -> u64;
     fn write_extended(to: u8, from: u8, contents: &[u8], out: &mut [u8]) -> u64;
+    fn standard_length(contents: &[u8]) -> u64;
+    fn extended_length(to: u8, from: u8, contents: &[u8]) -> u64;
     fn hold(table: &mut [u8], address: u32, token: u64) -> u64;
     fn release(table: &mut [u8], address: u32, token: u64) -> u64;
     fn stop(table: &[u8], address: u32, token: u64, out: &mut [u8]) -> u64;
@@ -51,6 +53,16 @@ impl Side for Ours {
     #[inline(always)]
     fn write_extended(to: u8, from: u8, contents: &[u8], out: &mut [u8]) -> u64 {
         our_len(frame::write_extended(to, from, contents, out))
+    }
+
+    #[inline(always)]
+    fn standard_length(contents: &[u8]) -> u64 {
+        our_len(frame::standard_length(contents))
+    }
+
+    #[inline(always)]
+    fn extended_length(to: u8, from: u8, contents: &[u8]) -> u64 {
+        our_len(frame::extended_length(to, from, contents))
     }
 
     #[inline(always)]
@@ -121,6 +133,16 @@ impl Side for Plain {
     #[inline(always)]
     fn write_extended(to: u8, from: u8, contents: &[u8], out: &mut [u8]) -> u64 {
         plain_len(plain_frame::write_extended(to, from, contents, out))
+    }
+
+    #[inline(always)]
+    fn standard_length(contents: &[u8]) -> u64 {
+        plain_len(plain_frame::standard_length(contents))
+    }
+
+    #[inline(always)]
+    fn extended_length(to: u8, from: u8, contents: &[u8]) -> u64 {
+        plain_len(plain_frame::extended_length(to, from, contents))
     }
 
     #[inline(always)]

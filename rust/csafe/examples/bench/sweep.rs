@@ -3,7 +3,7 @@
 use crate::inputs::{self, Frames, Kind, CONTENTS_LIMIT};
 use crate::table::Table;
 use crate::timing::{self, Times};
-use crate::work::{Feeding, Reading, Writing};
+use crate::work::{Feeding, Measuring, Reading, Writing};
 use crate::Choice;
 
 /// Slices of each side for a length in a round, and rounds over all lengths. What disturbs a length for as long as it
@@ -24,6 +24,7 @@ const COLUMNS: [&str; 6] = [
 enum Does {
     Read,
     Write,
+    Measure,
     Line,
 }
 
@@ -44,7 +45,8 @@ const fn sweep(name: &'static str, does: Does, kind: Kind, percent: usize) -> Sw
     }
 }
 
-const SWEEPS: [Sweep; 11] = [
+#[rustfmt::skip]
+const SWEEPS: [Sweep; 15] = [
     sweep("read, no escapes", Does::Read, Kind::Extended, 0),
     sweep("read, a fifth F0 to F3", Does::Read, Kind::Extended, 20),
     sweep("read, half F0 to F3", Does::Read, Kind::Extended, 50),
@@ -52,12 +54,11 @@ const SWEEPS: [Sweep; 11] = [
     sweep("write, no escapes", Does::Write, Kind::Extended, 0),
     sweep("write, a fifth F0 to F3", Does::Write, Kind::Extended, 20),
     sweep("write, half F0 to F3", Does::Write, Kind::Extended, 50),
-    sweep(
-        "write, standard, no escapes",
-        Does::Write,
-        Kind::Standard,
-        0,
-    ),
+    sweep("write, standard, no escapes", Does::Write, Kind::Standard, 0),
+    sweep("wire length, no escapes", Does::Measure, Kind::Extended, 0),
+    sweep("wire length, a fifth F0 to F3", Does::Measure, Kind::Extended, 20),
+    sweep("wire length, half F0 to F3", Does::Measure, Kind::Extended, 50),
+    sweep("wire length, standard, no escapes", Does::Measure, Kind::Standard, 0),
     sweep("line, no escapes", Does::Line, Kind::Extended, 0),
     sweep("line, a fifth F0 to F3", Does::Line, Kind::Extended, 20),
     sweep("line, half F0 to F3", Does::Line, Kind::Extended, 50),
@@ -118,6 +119,7 @@ fn times(sweep: &Sweep, frames: &Frames) -> Times {
     match sweep.does {
         Does::Read => timing::compare(&mut Reading(wires), SLICES),
         Does::Write => timing::compare(&mut Writing(sweep.kind, contents), SLICES),
+        Does::Measure => timing::compare(&mut Measuring(sweep.kind, contents), SLICES),
         Does::Line => timing::compare(&mut Feeding(&inputs::line_of(wires)), SLICES),
     }
 }

@@ -50,6 +50,24 @@ impl Work for Writing<'_> {
     }
 }
 
+pub struct Measuring<'a>(pub Kind, pub &'a [Vec<u8>]);
+
+impl Work for Measuring<'_> {
+    #[inline(always)]
+    fn run<S: Side>(&mut self, mut see: impl FnMut(u64, &[u8])) {
+        // Addresses that the compiler knew would let it count them in advance.
+        let (to, from) = black_box((TO, FROM));
+        for contents in self.1 {
+            let contents = black_box(contents);
+            let answer = match self.0 {
+                Kind::Standard => S::standard_length(contents),
+                Kind::Extended => S::extended_length(to, from, contents),
+            };
+            see(answer, &[]);
+        }
+    }
+}
+
 pub struct Feeding<'a>(pub &'a [u8]);
 
 impl Work for Feeding<'_> {

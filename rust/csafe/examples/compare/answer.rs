@@ -97,6 +97,8 @@ pub enum Outcome {
 pub enum Function {
     WriteStandard,
     WriteExtended,
+    StandardLength,
+    ExtendedLength,
     Read,
     Feed,
     Finish,
@@ -110,9 +112,11 @@ pub enum Function {
 
 /// Each function with its name and every answer that it can give.
 #[rustfmt::skip]
-pub const FUNCTIONS: [(Function, &str, &[Outcome]); 11] = [
+pub const FUNCTIONS: [(Function, &str, &[Outcome]); 13] = [
     (Function::WriteStandard, "csafe_write_standard", &[Accepted, Refused(2), Refused(1)]),
     (Function::WriteExtended, "csafe_write_extended", &[Accepted, Refused(2), Refused(1)]),
+    (Function::StandardLength, "csafe_standard_length", &[Accepted, Refused(2)]),
+    (Function::ExtendedLength, "csafe_extended_length", &[Accepted, Refused(2)]),
     (Function::Read, "csafe_read",
         &[Accepted, Refused(6), Refused(2), Refused(3), Refused(4), Refused(5), Refused(1)]),
     (Function::Feed, "csafe_feed", &[Accepted, Nothing, Refused(6), Refused(2), Refused(3), Refused(4), Refused(5)]),

@@ -73,6 +73,24 @@ impl Made {
     }
 }
 
+/// The answer of a call without an output that both sides agree on, or their difference.
+#[inline]
+pub fn agreed(
+    function: Function,
+    ours: Answer,
+    theirs: Answer,
+    arguments: impl FnOnce() -> String,
+) -> Result<Answer, String> {
+    match ours == theirs {
+        true => Ok(ours),
+        false => Err(format!(
+            "{}\n{}ours:  {ours}\nplain: {theirs}",
+            function.name(),
+            arguments()
+        )),
+    }
+}
+
 /// Bytes as an array of Rust.
 pub fn literal(bytes: &[u8]) -> String {
     let digits: Vec<String> = bytes.iter().map(|byte| format!("0x{byte:02X}")).collect();
@@ -135,6 +153,23 @@ mod tests {
         };
         let made = make(4, refused, |_| Answer::refused(1));
         assert!(made.check(Function::Read, String::new).is_err());
+    }
+
+    #[test]
+    fn an_answer_without_an_output_is_taken_or_told() {
+        let check = |ours| {
+            let arguments = || "contents [0x41]\n".to_string();
+            agreed(Function::StandardLength, ours, Answer::done(4), arguments)
+        };
+        assert_eq!(check(Answer::done(4)), Ok(Answer::done(4)));
+        let told = check(Answer::done(5)).expect_err("the answers differ");
+        for part in [
+            "csafe_standard_length",
+            "contents [0x41]",
+            "length 5\nplain",
+        ] {
+            assert!(told.contains(part), "{told}");
+        }
     }
 
     #[test]

@@ -1,7 +1,7 @@
-//! Frames that are written, read, damaged and read again.
+//! Frames that are measured, written, read, damaged and read again.
 
-use crate::answer::Function;
-use crate::both::{literal, make};
+use crate::answer::{Answer, Function};
+use crate::both::{agreed, literal, make};
 use crate::common::Xorshift;
 use crate::frame_damage::{damage, damage_with_checksum, Plain, STANDARD_START, STOP};
 use crate::tally::Tally;
@@ -40,7 +40,10 @@ impl Comparison for Frames {
             random.push_bytes(&mut self.plain.contents, len, 0);
         }
         self.plain.put_wire(&mut self.wire);
-        self.write(random, tally)?;
+        let length = self.measure(random, tally)?;
+        let room = any_room(random, self.wire.len());
+        let written = self.write(room, random, tally)?;
+        self.check_length(length, room, written)?;
         self.read(random, tally)?;
         self.spoil(random);
         self.read(random, tally)
@@ -48,9 +51,33 @@ impl Comparison for Frames {
 }
 
 impl Frames {
-    fn write(&mut self, random: &mut Xorshift, tally: &mut Tally) -> Result<(), String> {
+    /// Answers the length that both sides tell.
+    fn measure(&mut self, random: &mut Xorshift, tally: &mut Tally) -> Result<Answer, String> {
         let contents = place(&mut self.placed, &self.plain.contents, random);
-        let room = any_room(random, self.wire.len());
+        let (function, ours, theirs) = match self.plain.addresses {
+            None => (
+                Function::StandardLength,
+                ours::standard_length(contents),
+                theirs::standard_length(contents),
+            ),
+            Some((to, from)) => (
+                Function::ExtendedLength,
+                ours::extended_length(to, from, contents),
+                theirs::extended_length(to, from, contents),
+            ),
+        };
+        let answer = agreed(function, ours, theirs, || self.arguments())?;
+        tally.add(function, answer);
+        Ok(answer)
+    }
+
+    fn write(
+        &mut self,
+        room: usize,
+        random: &mut Xorshift,
+        tally: &mut Tally,
+    ) -> Result<Answer, String> {
+        let contents = place(&mut self.placed, &self.plain.contents, random);
         let (function, made) = match self.plain.addresses {
             None => (
                 Function::WriteStandard,
@@ -69,15 +96,34 @@ impl Frames {
                 ),
             ),
         };
-        let answer = made.check(function, || {
-            let addresses = match self.plain.addresses {
-                None => String::new(),
-                Some((to, from)) => format!("to 0x{to:02X}\nfrom 0x{from:02X}\n"),
-            };
-            format!("{addresses}contents {}\n", literal(contents))
-        })?;
+        let answer = made.check(function, || self.arguments())?;
         tally.add(function, answer);
-        Ok(())
+        Ok(answer)
+    }
+
+    /// A frame is written exactly where the output is as long as was told, or longer, and refused alike where no length
+    /// was told.
+    fn check_length(&self, length: Answer, room: usize, written: Answer) -> Result<(), String> {
+        let expected = match room < length.len {
+            true => Answer::refused(1),
+            false => length,
+        };
+        match written == expected {
+            true => Ok(()),
+            false => Err(format!(
+                "what was measured and written\n{}output of {room} bytes\nmeasured: {length}\nwritten:  {written}",
+                self.arguments()
+            )),
+        }
+    }
+
+    /// The frame as the arguments of a call.
+    fn arguments(&self) -> String {
+        let addresses = match self.plain.addresses {
+            None => String::new(),
+            Some((to, from)) => format!("to 0x{to:02X}\nfrom 0x{from:02X}\n"),
+        };
+        format!("{addresses}contents {}\n", literal(&self.plain.contents))
     }
 
     fn read(&mut self, random: &mut Xorshift, tally: &mut Tally) -> Result<(), String> {

@@ -15,6 +15,14 @@ pub fn write_extended(to: u8, from: u8, contents: &[u8], out: &mut [u8]) -> Answ
     written(frame::write_extended(to, from, contents, out))
 }
 
+pub fn standard_length(contents: &[u8]) -> Answer {
+    written(frame::standard_length(contents))
+}
+
+pub fn extended_length(to: u8, from: u8, contents: &[u8]) -> Answer {
+    written(frame::extended_length(to, from, contents))
+}
+
 pub fn read(wire: &[u8], out: &mut [u8]) -> Answer {
     told(frame::read(wire, out))
 }

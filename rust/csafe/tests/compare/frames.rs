@@ -6,6 +6,7 @@ use plain::frame::{self as plain_rust, Read};
 
 use crate::common::Xorshift;
 use crate::frame_damage::{damage, damage_with_checksum, Plain, STANDARD_START, STOP};
+use crate::lengths::measured_on_both;
 use crate::output::{hex, same, told, Output};
 use crate::tally::Tally;
 use crate::traces::ALPHABET;
@@ -57,8 +58,9 @@ fn read_on_both(wire: &[u8], room: usize) -> Result<Read, u8> {
     ours
 }
 
+/// The frame in an output of just its length.
 fn written_again(frame: Frame<'_>) -> Vec<u8> {
-    let mut out = vec![0; AMPLE];
+    let mut out = vec![0; frame.length().unwrap_or(0)];
     let len = frame.write(&mut out).unwrap_or(0);
     out.truncate(len);
     out
@@ -91,6 +93,13 @@ fn written_on_both(plain: &Plain, room: usize) -> Result<Vec<u8>, u8> {
         (&theirs, &their_output),
         |len| *len,
         &input,
+    );
+    let fits = |len| if len <= room { Ok(len) } else { Err(1) };
+    assert_eq!(
+        ours,
+        measured_on_both(plain).and_then(fits),
+        "what was written (left) is not of the length that is told (right): {}",
+        told(&input)
     );
     ours.map(|len| our_output.result(len).to_vec())
 }

@@ -14,6 +14,7 @@ mod held;
 #[path = "../common/lease_calls.rs"]
 mod lease_calls;
 mod leases;
+mod lengths;
 #[path = "../common/output.rs"]
 mod lent_output;
 mod lines;

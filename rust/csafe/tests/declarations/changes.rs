@@ -6,8 +6,10 @@ use crate::Texts;
 type Change = (&'static str, &'static str, &'static str);
 
 #[rustfmt::skip]
-const OF_SOURCE: [Change; 8] = [
+const OF_SOURCE: [Change; 10] = [
     ("to: u8, from: u8", "from: u8, to: u8", "csafe_write_extended"),
+    ("csafe_extended_length(to: u8, from: u8", "csafe_extended_length(from: u8, to: u8", "csafe_extended_length"),
+    ("csafe_standard_length(contents: &[u8]", "csafe_standard_length(contents: &mut [u8]", "csafe_standard_length"),
     ("#[no_mangle]\npub extern \"C\" fn csafe_finish", "fn csafe_finish", "csafe_finish"),
     ("watts: u16", "watts: u32", "csafe_write_distance_workout"),
     ("csafe_stop(table: &[u8]", "csafe_stop(table: &mut [u8]", "csafe_stop"),
@@ -18,8 +20,10 @@ const OF_SOURCE: [Change; 8] = [
 ];
 
 #[rustfmt::skip]
-const OF_BLOCK: [Change; 9] = [
+const OF_BLOCK: [Change; 11] = [
     ("to: u8, from: u8", "from: u8, to: u8", "csafe_write_extended"),
+    ("csafe_extended_length(to: u8, from: u8", "csafe_extended_length(from: u8, to: u8", "csafe_extended_length"),
+    ("csafe_standard_length(contents: *const u8", "csafe_standard_length(contents: *mut u8", "csafe_standard_length"),
     ("pub fn csafe_finish(state: *mut u64) -> u64;", "", "csafe_finish"),
     ("pub fn csafe_finish", "pub fn csafe_reset(state: *mut u64) -> u64; pub fn csafe_finish", "csafe_reset"),
     ("watts: u16", "watts: u32", "csafe_write_distance_workout"),
@@ -31,8 +35,11 @@ const OF_BLOCK: [Change; 9] = [
 ];
 
 #[rustfmt::skip]
-const OF_HEADER: [Change; 9] = [
+const OF_HEADER: [Change; 11] = [
     ("uint8_t to, uint8_t from", "uint8_t from, uint8_t to", "csafe_write_extended"),
+    ("csafe_extended_length(uint8_t to, uint8_t from", "csafe_extended_length(uint8_t from, uint8_t to",
+        "csafe_extended_length"),
+    ("csafe_standard_length(const uint8_t", "csafe_standard_length(uint8_t", "csafe_standard_length"),
     ("uint64_t csafe_finish(uint64_t *state);", "", "csafe_finish"),
     ("uint64_t csafe_finish", "uint64_t csafe_reset(uint64_t *state); uint64_t csafe_finish", "csafe_reset"),
     ("uint16_t watts", "uint32_t watts", "csafe_write_distance_workout"),

@@ -68,7 +68,7 @@ fn the_declarations_are_those_of_the_source() {
     let texts = Texts::read();
     assert_eq!(texts.check(), Ok(()));
     let functions = rattle::exported(&texts.source).expect("it was read before");
-    assert!(functions.len() >= 10, "{} functions", functions.len());
+    assert!(functions.len() >= 12, "{} functions", functions.len());
 }
 
 #[test]

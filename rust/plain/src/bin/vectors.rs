@@ -45,6 +45,8 @@ fn run(line: &str) -> Option<String> {
         "contents" => contents_answer(&bytes(arguments)?),
         "standard" => standard_answer(&bytes(arguments)?),
         "extended" => extended_answer(&bytes(arguments)?)?,
+        "standard-length" => length_answer(frame::standard_length(&bytes(arguments)?)),
+        "extended-length" => extended_length_answer(&bytes(arguments)?)?,
         "distance" => workout_answer(arguments, |metres, split| Goal::Distance { metres, split })?,
         "time" => workout_answer(arguments, |seconds, split| Goal::Time { seconds, split })?,
         "lease" => lease_answer(arguments)?,
@@ -347,6 +349,19 @@ fn extended_answer(arguments: &[u8]) -> Option<String> {
 
 fn writing_answer(wire: Result<Vec<u8>, u8>) -> String {
     format!(" written={}", value(wire))
+}
+
+fn extended_length_answer(arguments: &[u8]) -> Option<String> {
+    let &[to, from, ref contents @ ..] = arguments else {
+        return None;
+    };
+    let length = frame::extended_length(to, from, contents);
+    Some(length_answer(length))
+}
+
+fn length_answer(length: Result<usize, u8>) -> String {
+    let told = length.map_or_else(refused, |len| len.to_string());
+    format!(" length={told}")
 }
 
 fn workout_answer(arguments: &str, goal: impl Fn(u32, u32) -> Goal) -> Option<String> {

@@ -1,0 +1,191 @@
+//! Lengths of frames that both sides tell, and what the writers do with just that much room.
+
+use csafe::frame::{self, WIRE_LIMIT};
+use csafe::Error;
+use plain::frame as plain_rust;
+
+use crate::common::Xorshift;
+use crate::frame_damage::Plain;
+use crate::output::{hex, told, Output};
+use crate::tally::Tally;
+
+/// Room that is no reason for a refusal.
+const VAST: usize = 4_096;
+
+/// The bytes that are escaped, and their neighbours.
+const ABOUT_ESCAPED: [u8; 6] = [0xEF, 0xF0, 0xF1, 0xF2, 0xF3, 0xF4];
+
+const ADDRESSES: [Option<(u8, u8)>; 5] = [
+    None,
+    Some((0x05, 0x00)),
+    Some((0xF0, 0xEF)),
+    Some((0xF4, 0xF3)),
+    Some((0xF1, 0xF2)),
+];
+
+/// The length that both sides tell, after the writer was seen to keep to it.
+pub fn measured_on_both(plain: &Plain) -> Result<usize, u8> {
+    let contents = &plain.contents;
+    let (ours, theirs) = match plain.addresses {
+        None => (
+            frame::standard_length(contents),
+            plain_rust::standard_length(contents),
+        ),
+        Some((to, from)) => (
+            frame::extended_length(to, from, contents),
+            plain_rust::extended_length(to, from, contents),
+        ),
+    };
+    let ours = ours.map_err(Error::number);
+    let input = || format!("measuring {} to {:02X?}", hex(contents), plain.addresses);
+    assert_eq!(
+        ours,
+        theirs,
+        "our length (left) and the independent one (right) differ: {}",
+        told(&input)
+    );
+    assert!(
+        is_kept_by_the_writer(plain, ours),
+        "the writer does not keep to the length {ours:?}: {}",
+        told(&input)
+    );
+    ours
+}
+
+/// Whether the writer takes just that much room, is refused with 1 where a byte of it is missing, and is refused with
+/// the same number where no length is told.
+fn is_kept_by_the_writer(plain: &Plain, length: Result<usize, u8>) -> bool {
+    match length {
+        Ok(len) => written_in(plain, len) == Ok(len) && written_in(plain, len - 1) == Err(1),
+        Err(number) => {
+            let mut out = [0xA5; VAST];
+            write(plain, &mut out) == Err(number) && out == [0xA5; VAST]
+        }
+    }
+}
+
+/// What the writer answers with so much room, past whose result every byte has to be as it was.
+fn written_in(plain: &Plain, room: usize) -> Result<usize, u8> {
+    let mut output = Output::new(room);
+    let written = write(plain, output.lent());
+    assert!(
+        output.kept_past(written.unwrap_or(0)),
+        "bytes past the result changed: {}",
+        told(&|| format!("writing {} with room {room}", hex(&plain.contents)))
+    );
+    written
+}
+
+fn write(plain: &Plain, out: &mut [u8]) -> Result<usize, u8> {
+    let written = match plain.addresses {
+        None => frame::write_standard(&plain.contents, out),
+        Some((to, from)) => frame::write_extended(to, from, &plain.contents, out),
+    };
+    written.map_err(Error::number)
+}
+
+/// Measures frames, each of which has to have as many bytes as it has when it is put together without a limit.
+#[derive(Default)]
+struct Measuring {
+    wire: Vec<u8>,
+    tally: Tally,
+}
+
+impl Measuring {
+    fn measure(&mut self, plain: &Plain) {
+        plain.put_wire(&mut self.wire);
+        let expected = match self.wire.len() {
+            len @ ..=WIRE_LIMIT => Ok(len),
+            _ => Err(2),
+        };
+        let length = measured_on_both(plain);
+        assert_eq!(length, expected, "the frame is {}", hex(&self.wire));
+        self.tally.add(&length);
+    }
+
+    /// Measures these contents without addresses and with each pair of them.
+    fn measure_with_all_addresses(&mut self, contents: Vec<u8>) {
+        let mut plain = Plain {
+            addresses: None,
+            contents,
+        };
+        for addresses in ADDRESSES {
+            plain.addresses = addresses;
+            self.measure(&plain);
+        }
+    }
+}
+
+#[test]
+fn every_length_is_measured_alike() {
+    let mut measuring = Measuring::default();
+    for len in 0..=130 {
+        for byte in [0x00, 0x41, 0xFF].into_iter().chain(ABOUT_ESCAPED) {
+            measuring.measure_with_all_addresses(vec![byte; len]);
+        }
+    }
+    measuring.tally.has_each(&[0, 2], 500);
+}
+
+/// The checksum is the byte itself where all others are 00, and it is not escaped where one other is not.
+#[test]
+fn an_escape_at_every_place_is_measured_alike() {
+    let mut measuring = Measuring::default();
+    for len in 1..=118 {
+        for place in 0..len {
+            for byte in ABOUT_ESCAPED {
+                let mut contents = vec![0x00; len];
+                contents[place] = byte;
+                measuring.measure_with_all_addresses(contents.clone());
+                contents[(place + 1) % len] ^= 0x41;
+                measuring.measure_with_all_addresses(contents);
+            }
+        }
+    }
+    measuring.tally.has_each(&[0, 2], 500);
+}
+
+/// Every checksum, of contents in which nothing is escaped and of others.
+#[test]
+fn every_checksum_is_measured_alike() {
+    let mut measuring = Measuring::default();
+    for sum in 0..=u8::MAX {
+        for len in [1, 2, 3, 111, 112, 113, 114, 115, 116, 117] {
+            let mut contents = vec![0x00; len];
+            contents[0] = sum;
+            measuring.measure_with_all_addresses(contents.clone());
+            contents[0] = sum ^ 0x80;
+            contents[len - 1] ^= 0x80;
+            measuring.measure_with_all_addresses(contents);
+        }
+    }
+    measuring.tally.has_each(&[0, 2], 500);
+}
+
+#[test]
+fn every_pair_of_addresses_is_measured_alike() {
+    let mut measuring = Measuring::default();
+    let mut plain = Plain::default();
+    for len in [0, 112, 113, 114, 115, 116] {
+        plain.contents = vec![0x00; len];
+        for to in 0..=u8::MAX {
+            for from in 0..=u8::MAX {
+                plain.addresses = Some((to, from));
+                measuring.measure(&plain);
+            }
+        }
+    }
+    measuring.tally.has_each(&[0, 2], 500);
+}
+
+#[test]
+fn random_contents_are_measured_alike() {
+    let mut random = Xorshift::new();
+    let mut measuring = Measuring::default();
+    let mut plain = Plain::default();
+    for _ in 0..400_000 {
+        plain.renew(&mut random);
+        measuring.measure(&plain);
+    }
+    measuring.tally.has_each(&[0, 2], 1_000);
+}
