@@ -35,6 +35,10 @@ stuffByte-between b =
     by-bool (isStuffed b) (λ y. omega (arith, ap length (stuffByte-yes b y)))
     (λ n. omega (arith, ap length (stuffByte-no b n)))
 
+-- a number that some byte takes is at most 2
+pub width-few : {n : ℕ} (b : ℕ) → n ≡ length (stuffByte b) → n ≤ 2
+width-few b e = omega (arith, e, stuffByte-between b)
+
 -- a byte that is neither a flag nor F3 is sent as it is
 flag-no : (b : ℕ) → isFlag b ≡ false → (b ≡ 0xF3 → ⊥) → isStuffed b ≡ false
 flag-no b h n =

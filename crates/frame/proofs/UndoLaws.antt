@@ -297,6 +297,16 @@ one-escape x v e =
     (λ n. let q : badEscape ≡ bytes v = simp n at e in
     let z : _≡_ {A = ℕ} 0 1 = cc in absurd (omega arith))
 
+-- an escape that begins one byte before the end, and the byte after it
+last-pair : (s : List ℕ) → 2 ≤ length s → getD s (length s - 2) 0 ≡ 0xF3
+    → drop (length s - 2) s ≡ 0xF3 ∷ getD s (length s - 1) 0 ∷ []
+last-pair s two is =
+    let n : length s - 2 + 1 ≡ length s - 1 = omega arith in
+    drop-two s (length s - 2) (omega arith)
+    ∙ ap (λ (b : ℕ). b ∷ getD s (length s - 2 + 1) 0 ∷ drop (length s - 2 + 2) s) is
+    ∙ ap (λ (k : ℕ). 0xF3 ∷ getD s k 0 ∷ drop (length s - 2 + 2) s) n
+    ∙ ap (λ (l : List ℕ). 0xF3 ∷ getD s (length s - 1) 0 ∷ l) (drop-of-length-le s {i = length s - 2 + 2} (omega arith))
+
 -- what stands before the last unstuffed byte
 pub before-last : (s u : List ℕ) → 1 ≤ length s → unstuff false s ≡ bytes u
     → unstuff false (take (lastAt s) s) ≡ bytes (take (length u - 1) u)
@@ -305,14 +315,7 @@ before-last s u some e =
     by-bool (leb 2 (length s))
     (λ y. let two = leb-true 2 (length s) y in
     by-bool (isEscape (getD s (length s - 2) 0))
-    (λ x. let is : getD s (length s - 2) 0 ≡ 0xF3 = eqb-true _ 0xF3 x in
-    let n : length s - 2 + 1 ≡ length s - 1 = omega arith in
-    let m : length s - 2 + 2 ≡ length s = omega arith in
-    let w : drop (length s - 2) s ≡ 0xF3 ∷ getD s (length s - 1) 0 ∷ [] =
-    drop-two s (length s - 2) (omega arith)
-    ∙ ap (λ (b : ℕ). b ∷ getD s (length s - 2 + 1) 0 ∷ drop (length s - 2 + 2) s) is
-    ∙ ap (λ (k : ℕ). 0xF3 ∷ getD s k 0 ∷ drop (length s - 2 + 2) s) n
-    ∙ ap (λ (l : List ℕ). 0xF3 ∷ getD s (length s - 1) 0 ∷ l) (drop-of-length-le s {i = length s - 2 + 2} (omega arith)) in
+    (λ x. let w = last-pair s two (eqb-true _ 0xF3 x) in
     simp (y, x) (cut (length s - 2) 0xF3 (getD s (length s - 1) 0 ∷ []) w (λ h q. absurd (omega arith))
     (one-escape (getD s (length s - 1) 0))))
     (λ x. let no = eqb-false _ 0xF3 x in

@@ -94,7 +94,20 @@ pub fn write_extended_number(to: u8, from: u8, number: u64, width: usize, out: &
     ensures { λ r. ⌜ now (out .exit) ≡ draftOut (frameDraft (extended to from (bytesOf width number)))
         (now (out .entry)) ⌝ }
 {
-    write_number(Header::Addressed { to, from }, number, width, out)
+    let header = Header::Addressed { to, from };
+    let measured = measure::measure_number(header, number, width);
+    match measured {
+        Measured::TooLong => Written::Refused(Refusal::TooLong),
+        Measured::Fits { sum, len, .. } => {
+            if out.len() < len {
+                return Written::Refused(Refusal::NoRoom);
+            }
+            let a = stuffing::put_header(header, out);
+            let b = number::put_number(number, width, out, a);
+            stuffing::put_end(sum, out, b);
+            Written::Length(len)
+        }
+    }
 }
 
 // Reads a slice that is to be one frame, and puts its contents first in the output. Refusals 6, 2, 3, 4, 5 and 1.
@@ -150,37 +163,11 @@ fn write_frame(header: Header, contents: &[u8], out: &mut [u8]) -> Written
     match measured {
         Measured::TooLong => Written::Refused(Refusal::TooLong),
         Measured::Fits { sum, escapes, len } => {
-            if out.len() < len {
+            if len > out.len() {
                 return Written::Refused(Refusal::NoRoom);
             }
             let a = stuffing::put_header(header, out);
             let b = stuffing::put_stuffed(contents, escapes, out, a);
-            stuffing::put_end(sum, out, b);
-            Written::Length(len)
-        }
-    }
-}
-
-// As `write_frame`, with the bytes of a number for contents.
-fn write_number(header: Header, number: u64, width: usize, out: &mut [u8]) -> Written
-    ensures { λ r. ⌜ writtenMeans r ≡ draftAnswer (frameDraft (frameOf header (bytesOf width number)))
-        (length (now (out .entry))) ⌝ }
-    ensures { λ r. ⌜ now (out .exit) ≡ draftOut (frameDraft (frameOf header (bytesOf width number)))
-        (now (out .entry)) ⌝ }
-{
-    let measured = measure::measure_number(header, number, width);
-    match measured {
-        Measured::TooLong => Written::Refused(Refusal::TooLong),
-        Measured::Fits {
-            sum,
-            escapes: _,
-            len,
-        } => {
-            if out.len() < len {
-                return Written::Refused(Refusal::NoRoom);
-            }
-            let a = stuffing::put_header(header, out);
-            let b = number::put_number(number, width, out, a);
             stuffing::put_end(sum, out, b);
             Written::Length(len)
         }

@@ -57,8 +57,8 @@ enum-known-measured c = search needs
 
 returns : tie.Need-returns
 returns c =
-    let k = c .before in
-    no-room-written (St k .args .header) (C (St k)) _ _ _ (found k) (St k .args .out .now) (omega (arith, c .if1 .taken))
+    let k : tie.After-known-told = search needs in
+    no-room-written (St k .args .header) (C (St k)) _ _ _ (found k) (St k .args .out .now) (omega arith)
 
 put-header-requires : tie.Need-put-header-requires
 put-header-requires c κs = omega (arith, parts (c .before .before), c .before .if1 .left)

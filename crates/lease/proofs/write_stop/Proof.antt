@@ -32,8 +32,8 @@ returns-2 c =
     (sym (r .in-range .ensures) ∙ not-false _ (c .before .before .if1 .left))
     (sym (c .before .is-holder .ensures) ∙ not-true _ (c .if2 .taken))
 
-cast-write-extended-number : tie.Need-cast-write-extended-number
-cast-write-extended-number c =
+cast-to : tie.Need-cast-to
+cast-to c =
     let r = c .before .before .before in
     let range = sym (r .in-range .ensures) ∙ not-false _ (c .before .before .if1 .left) in
     let m = range-means (r .before .before .args .address) range in
@@ -98,7 +98,7 @@ write-stop-spec =
     returns
     is-holder-requires
     returns-2
-    cast-write-extended-number
+    cast-to
     write-extended-number-requires
     enum-known-written
     enum-told

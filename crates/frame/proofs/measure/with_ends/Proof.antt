@@ -9,7 +9,7 @@ use Rattle.frame.specs.Checksum.{checksum}
 use Rattle.frame.specs.Frame.{wireOf}
 use Rattle.frame.specs.Private.{frameOf}
 use Rattle.frame.proofs.WireLaws.{wire-length, header-between}
-use Rattle.frame.proofs.StuffingLaws.{stuff-count, stuffByte-between}
+use Rattle.frame.proofs.StuffingLaws.{stuff-count, width-few}
 use borrow.Author.Needs.{needs}
 use Rattle.frame.proofs.measure.with_ends.Statement.{statement}
 use Rattle.frame.proofs.measure.with_ends.Tie as tie
@@ -28,9 +28,7 @@ fits w =
       s .pre,
       header-between (s .args .header),
       w .before .header-len .ensures,
-      w .width .ensures,
-      stuffByte-between
-          (s .args .counted .sum),
+      width-few _ (w .width .ensures),
     )
 
 -- what the code counts is the length of the frame

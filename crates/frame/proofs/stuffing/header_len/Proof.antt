@@ -4,7 +4,7 @@ use lib.ListN.{length, length-append}
 use Rattle.frame.specs.Stuffing.{stuffByte}
 use Rattle.frame.specs.Private.{headerWire}
 use Rattle.frame.specs.declared.Header.{Header}
-use Rattle.frame.proofs.StuffingLaws.{stuffByte-between}
+use Rattle.frame.proofs.StuffingLaws.{width-few}
 use borrow.Author.Needs.{needs}
 use Rattle.frame.proofs.stuffing.header_len.Statement.{statement}
 use Rattle.frame.proofs.stuffing.header_len.Tie as tie
@@ -19,20 +19,13 @@ width-requires : tie.Need-width-requires
 width-requires c κs = search needs
 
 add-result : tie.Need-add-result
-add-result c = let h = c .before in omega (arith, stuffByte-between (h .before .header .given .0 .0))
+add-result c = omega (arith, width-few _ (c .width .ensures))
 
 width-requires-2 : tie.Need-width-requires-2
 width-requires-2 c κs = search needs
 
 add-result-2 : tie.Need-add-result-2
-add-result-2 c =
-    let h = c .before .before in
-    omega (
-      arith,
-      stuffByte-between (h .before .header .given .0 .0),
-      stuffByte-between
-          (h .before .header .given .0 .1 .0),
-    )
+add-result-2 c = omega (arith, width-few _ (c .before .width .ensures), width-few _ (c .width2 .ensures))
 
 returns : tie.Need-returns
 returns c = search needs

@@ -5,14 +5,19 @@ use native.Mathlib.Omega.{arith}
 use lib.ListN.{length}
 use Rattle.frame.specs.Stuffing.{stuff, stuffByte}
 use Rattle.frame.specs.Private.{headerWire, Measures}
+use Rattle.frame.specs.declared.Header.{Header}
+use Rattle.frame.specs.declared.Header.the-variants.{Addressed}
 use Rattle.frame.specs.declared.measure.Measured.the-variants.{Fits}
 use Rattle.numbers.specs.Number.{bytesOf}
 use Rattle.frame.proofs.MeasureLaws.{long-written, parts-length, no-room-written, parts-written}
 use borrow.Author.Needs.{needs}
-use Rattle.frame.proofs.write_number.Statement.{statement}
-use Rattle.frame.proofs.write_number.Tie as tie
+use Rattle.frame.proofs.write_extended_number.Statement.{statement}
+use Rattle.frame.proofs.write_extended_number.Tie as tie
 
--- the frame's contents
+-- the frame's header and contents
+abbrev H : tie.Start → Header
+H s = Addressed (s .args .to) (s .args .from)
+
 abbrev C : tie.Start → List ℕ
 C s = bytesOf (s .args .width) (s .args .number)
 
@@ -27,14 +32,14 @@ abbrev len : tie.After-known-told → ℕ
 len k = k .before .measured .given .0 .1 .1 .0
 
 found : (k : tie.After-known-told)
-    → Measures (St k .args .header) (C (St k)) (Fits (sum k) (k .before .measured .given .0 .1 .0) (len k))
+    → Measures (H (St k)) (C (St k)) (Fits (sum k) (k .before .measured .given .0 .1 .0) (len k))
 found k =
-    subst (Measures (St k .args .header) (C (St k))) (k .before .measured .given .1)
+    subst (Measures (H (St k)) (C (St k))) (k .before .measured .given .1)
     (k .before .before .before .measure-number .ensures)
 
 parts : (k : tie.After-known-told)
-    → length (headerWire (St k .args .header)) + length (stuff (C (St k))) + length (stuffByte (sum k)) + 1 ≡ len k
-parts k = parts-length (St k .args .header) (C (St k)) _ _ _ (found k)
+    → length (headerWire (H (St k))) + length (stuff (C (St k))) + length (stuffByte (sum k)) + 1 ≡ len k
+parts k = parts-length (H (St k)) (C (St k)) _ _ _ (found k)
 
 -- the places after each part
 abbrev Kh : tie.After-put-header → tie.After-known-told
@@ -58,8 +63,8 @@ enum-known-measured c = search needs
 
 returns : tie.Need-returns
 returns c =
-    let k = c .before in
-    no-room-written (St k .args .header) (C (St k)) _ _ _ (found k) (St k .args .out .now) (omega (arith, c .if1 .taken))
+    let k : tie.After-known-told = search needs in
+    no-room-written (H (St k)) (C (St k)) _ _ _ (found k) (St k .args .out .now) (omega arith)
 
 put-header-requires : tie.Need-put-header-requires
 put-header-requires c κs = omega (arith, parts (c .before .before), c .before .if1 .left)
@@ -86,8 +91,8 @@ returns-2 : tie.Need-returns-2
 returns-2 c =
     let w = c .before .before in
     let s = w .before .before in
-    long-written (s .args .header) (C s) (s .args .out .now)
-    (subst (Measures (s .args .header) (C s)) (c .enum-told .given .1) (w .measure-number .ensures))
+    long-written (H s) (C s) (s .args .out .now)
+    (subst (Measures (H s) (C s)) (c .enum-told .given .1) (w .measure-number .ensures))
 
 same-length : tie.Need-same-length
 same-length c = search needs
@@ -98,13 +103,13 @@ returns-3 c =
     let s = e .before .before .before .before in
     let h = Hs s in
     let k = Kh h in
-    parts-written (St k .args .header) (C (St k)) _ _ _ (found k) (St k .args .out .now) _ _ _ _ _
+    parts-written (H (St k)) (C (St k)) _ _ _ (found k) (St k .args .out .now) _ _ _ _ _
     (omega (arith, h .before .before .if1 .left)) (h .put-header .ensures .0) (h .put-header .ensures .1)
     (s .put-number .ensures .0) (s .put-number .ensures .1)
     (e .put-end .ensures)
 
-pub write-number-spec : {M : Type 1} → statement M
-write-number-spec =
+pub write-extended-number-spec : {M : Type 1} → statement M
+write-extended-number-spec =
     tie.close
     (tie.spec
     measure-number-requires
