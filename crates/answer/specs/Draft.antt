@@ -1,4 +1,5 @@
--- What every writer of these crates answers and leaves in the output that it is lent.
+-- What every writer of these crates answers and leaves in the output that it is lent, and what a length that was told
+-- beforehand says of it.
 use Prim.Native.Nat.{ℕ, _≤_, _<_}
 use mathlib.Core.Path.{_≡_}
 use mathlib.Core.List.{List, _++_}

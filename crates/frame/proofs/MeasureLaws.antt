@@ -5,12 +5,11 @@ use mathlib.Core.List.{List, [], _∷_, _++_}
 use native.Mathlib.Omega.{arith}
 use lib.ListN.{length}
 use Rattle.lists.specs.Splice.{splice}
-use Rattle.answer.specs.Answer.{Answer, result, refused, through}
+use Rattle.answer.specs.Answer.{result, refused, through}
 use Rattle.answer.specs.Draft.{Draft, Writes}
 use Rattle.answer.proofs.Drafts.{writes-refusal, writes-no-room, writes-done}
 use Rattle.frame.specs.Stuffing.{stuffByte, stuff}
-use Rattle.frame.specs.Checksum.{checksum}
-use Rattle.frame.specs.Frame.{Frame, wireOf}
+use Rattle.frame.specs.Frame.{wireOf}
 use Rattle.frame.specs.Answers.{frameDraft}
 use Rattle.frame.specs.Private.{frameOf, headerWire, Measures}
 use Rattle.frame.specs.declared.Header.{Header}

@@ -28,7 +28,7 @@ use Rattle.answer.specs.Answer.{result, refused, Answer, through}
 use Rattle.frame.specs.declared.Kind.{Kind}
 use Rattle.frame.specs.declared.Kind.the-variants.{Standard, Extended}
 use Rattle.frame.proofs.StuffingLaws.{prepend-inv}
-use Rattle.frame.proofs.WireLaws.{draft-fits}
+use Rattle.frame.proofs.WireLaws.{draft-long, draft-fits}
 use Rattle.frame.proofs.VerdictLaws.{whole-length, whole-terminated, whole-verdict, terminated-means}
 use Rattle.frame.proofs.VerdictLaws.{terminated-whole, verdict-truncated, judge-long, judge-escape, judge-short}
 use Rattle.frame.proofs.VerdictLaws.{judge-sum, judge-bytes, judge-payload, answer-refused, answer-no-room}
@@ -294,8 +294,8 @@ module _ (w out : List ℕ) where
 -- ---- writing
 
 over-draft : (f : Frame) → (WithinLimit (wireOf f) → ⊥) → frameDraft f ≡ refused 2
-unfolding frameDraft
-over-draft f n = by-bool (leb (length (wireOf f)) 120) (λ y. absurd (n (leb-true _ _ y))) (λ y. simp y)
+over-draft f n =
+    by-bool (leb (length (wireOf f)) 120) (λ y. absurd (n (leb-true _ _ y))) (λ y. draft-long f (leb-false _ _ y))
 
 module _ (f : Frame) (out : List ℕ) where
   abbrev answer : Answer ℕ

@@ -1,4 +1,4 @@
-// CSAFE frames: one frame written, one slice read, and the bytes between two flags judged.
+// CSAFE frames: one frame measured and written, one slice read, and the bytes between two flags judged.
 // Document 01, "Frames on the wire".
 pub mod address;
 mod bytes;
@@ -86,8 +86,8 @@ pub fn write_extended(to: u8, from: u8, contents: &[u8], out: &mut [u8]) -> Writ
     write_frame(Header::Addressed { to, from }, contents, out)
 }
 
-// Writes an extended frame whose contents are the lowest `width` bytes of a number, lowest first: few bytes that are
-// known need no array to stand in. Refusals 2 and 1.
+// Writes an extended frame whose contents are `width` bytes of a number, lowest first; those past its eighth are 00. A
+// caller whose few contents bytes are known needs no array for them. Refusals 2 and 1.
 pub fn write_extended_number(to: u8, from: u8, number: u64, width: usize, out: &mut [u8]) -> Written
     ensures { λ r. ⌜ writtenMeans r ≡ draftAnswer (frameDraft (extended to from (bytesOf width number)))
         (length (now (out .entry))) ⌝ }

@@ -22,8 +22,8 @@ const WIRE_LIMIT: usize = 120;
 // wraps.
 const CONTENTS_LIMIT: usize = 117;
 
-// What is found of a frame that may be sent: its checksum, how many bytes of its contents are sent as two, and how many
-// bytes the whole frame takes.
+// What measuring finds: that a frame is too long to be sent, or its checksum, how many bytes of its contents are sent as
+// two, and how many bytes the whole frame takes.
 pub(crate) enum Measured {
     TooLong,
     Fits { sum: u8, escapes: u8, len: usize },
@@ -39,26 +39,26 @@ pub(crate) fn measure(header: Header, contents: &[u8]) -> Measured
     with_ends(header, contents.len(), counted)
 }
 
-// As `measure`, with the lowest `width` bytes of a number for contents.
-pub(crate) fn measure_number(header: Header, n: u64, width: usize) -> Measured
-    ensures { λ r. ⌜ Measures header (bytesOf width n) r ⌝ }
+// As `measure`, with `width` bytes of a number for contents.
+pub(crate) fn measure_number(header: Header, number: u64, width: usize) -> Measured
+    ensures { λ r. ⌜ Measures header (bytesOf width number) r ⌝ }
 {
     if CONTENTS_LIMIT < width {
         return Measured::TooLong;
     }
-    let counted = number::count_number(n, width);
+    let counted = number::count_number(number, width);
     with_ends(header, width, counted)
 }
 
 // Adds the start flag, the addresses, the checksum and the stop flag to contents of a length that were counted.
-fn with_ends(header: Header, plain: usize, counted: Counted) -> Measured
-    requires { ⌜ plain ≤ 117 ⌝ }
-    ensures { λ r. ⌜ ((contents : List ℕ) → plain ≡ length contents → counted .count ≡ countOf isStuffed contents
+fn with_ends(header: Header, unstuffed: usize, counted: Counted) -> Measured
+    requires { ⌜ unstuffed ≤ 117 ⌝ }
+    ensures { λ r. ⌜ ((contents : List ℕ) → unstuffed ≡ length contents → counted .count ≡ countOf isStuffed contents
         → counted .sum ≡ checksum contents → Measures header contents r) ⌝ }
 {
     let sum = counted.sum;
     let escapes = counted.count;
-    let stuffed = plain + escapes as usize;
+    let stuffed = unstuffed + escapes as usize;
     let len = stuffing::header_len(header) + stuffed + stuffing::width(sum) + 1;
     if WIRE_LIMIT < len {
         return Measured::TooLong;

@@ -11,7 +11,7 @@ ghost use Rattle.numbers.specs.Number.{bytesOf};
 ghost use Rattle.frame.specs.Stuffing.{isStuffed, stuff};
 ghost use Rattle.frame.specs.Checksum.{checksum};
 
-// How many of the lowest `width` bytes of a number are sent as two, and the exclusive or of all.
+// How many of `width` bytes of a number are sent as two, and the exclusive or of all.
 pub(crate) fn count_number(number: u64, width: usize) -> Counted
     requires { ⌜ width ≤ 255 ⌝ }
     ensures { λ r. ⌜ r .count ≡ countOf isStuffed (bytesOf width number) ⌝ }
@@ -31,7 +31,7 @@ pub(crate) fn count_number(number: u64, width: usize) -> Counted
     Counted { count, sum }
 }
 
-// Writes the lowest `width` bytes of a number, stuffed, from an index on, and answers the next index.
+// Writes `width` bytes of a number, stuffed, from an index on, and answers the next index.
 pub(crate) fn put_number(number: u64, width: usize, out: &mut [u8], from: usize) -> usize
     requires { ⌜ from + length (stuff (bytesOf width number)) ≤ length (now out) ⌝ }
     ensures { λ r. ⌜ r ≡ from + length (stuff (bytesOf width number)) ⌝ }

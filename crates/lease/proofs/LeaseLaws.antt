@@ -133,7 +133,7 @@ unfolding stopFrame wireOf payload addressesOf contentsOf stuff stuffByte sumFro
 stop-short a = by-bool (isStuffed a) (λ y. simp y (omega arith)) (λ n. simp n (omega arith))
 
 -- The contents of a stop, which the code has as a number.
-pub terminate-bytes : bytesOf 6 0x02_01_02_13_04_76 ≡ 0x76 ∷ 0x04 ∷ 0x13 ∷ 0x02 ∷ 0x01 ∷ 0x02 ∷ []
+terminate-bytes : bytesOf 6 0x02_01_02_13_04_76 ≡ 0x76 ∷ 0x04 ∷ 0x13 ∷ 0x02 ∷ 0x01 ∷ 0x02 ∷ []
 unfolding bytesOf
 terminate-bytes = refl
 

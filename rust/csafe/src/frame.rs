@@ -66,11 +66,16 @@ impl Frame<'_> {
     ///
     /// ```
     /// use csafe::frame::{Frame, Kind};
+    /// use csafe::Error;
     ///
-    /// let frame = Frame { kind: Kind::Extended { to: 0x05, from: 0x00 }, contents: &[0x80] };
+    /// let frame = Frame { kind: Kind::Extended { to: 0x05, from: 0xF1 }, contents: &[0x80] };
     /// let mut wire = vec![0; frame.length()?];
-    /// assert_eq!(frame.write(&mut wire), Ok(6));
-    /// # Ok::<(), csafe::Error>(())
+    /// assert_eq!(frame.write(&mut wire), Ok(wire.len()));
+    /// assert_eq!(wire, [0xF0, 0x05, 0xF3, 0x01, 0x80, 0x80, 0xF2]);
+    ///
+    /// let long = Frame { kind: Kind::Standard, contents: &[0; 118] };
+    /// assert_eq!(long.length(), Err(Error::TooLong));
+    /// # Ok::<(), Error>(())
     /// ```
     #[inline]
     pub fn length(&self) -> Result<usize, Error> {

@@ -38,14 +38,14 @@ pub fn write_extended(to: u8, from: u8, contents: &[u8], out: &mut [u8]) -> Resu
 ///
 /// Refusal: 2.
 pub fn standard_length(contents: &[u8]) -> Result<usize, u8> {
-    length(&[], contents)
+    measured(&[], contents).map(|frame| frame.len)
 }
 
 /// The length of an extended frame on the wire.
 ///
 /// Refusal: 2.
 pub fn extended_length(to: u8, from: u8, contents: &[u8]) -> Result<usize, u8> {
-    length(&[to, from], contents)
+    measured(&[to, from], contents).map(|frame| frame.len)
 }
 
 /// Reads a slice that must be one frame and nothing else, and puts the contents
@@ -133,15 +133,7 @@ pub(crate) fn judge(start: u8, unstuffed: &[u8]) -> Result<(Read, &[u8]), u8> {
 }
 
 fn write(start: u8, addresses: &[u8], contents: &[u8], out: &mut [u8]) -> Result<usize, u8> {
-    if contents.len() > CONTENTS_MAX {
-        return Err(refusal::LONG);
-    }
-    let sum = checksum(contents);
-    let stuffed = stuffed_len(contents);
-    let len = 2 + stuffed_len(addresses) + stuffed + stuffed_len(&[sum]);
-    if len > WIRE_MAX {
-        return Err(refusal::LONG);
-    }
+    let Measured { sum, stuffed, len } = measured(addresses, contents)?;
     let out = out.get_mut(..len).ok_or(refusal::NO_ROOM)?;
     out[0] = start;
     let mut at = 1 + stuff(addresses, &mut out[1..]);
@@ -156,18 +148,25 @@ fn write(start: u8, addresses: &[u8], contents: &[u8], out: &mut [u8]) -> Result
     Ok(len)
 }
 
-/// Two flags, and between them each byte once, or twice where it is F0 to F3. The
-/// writer counts for itself, so that each is tested against the other.
-fn length(addresses: &[u8], contents: &[u8]) -> Result<usize, u8> {
+/// A frame's checksum, the length of its stuffed contents and of the whole frame.
+struct Measured {
+    sum: u8,
+    stuffed: usize,
+    len: usize,
+}
+
+/// Two flags, and between them each byte once, or twice where it is F0 to F3.
+fn measured(addresses: &[u8], contents: &[u8]) -> Result<Measured, u8> {
     if contents.len() > CONTENTS_MAX {
         return Err(refusal::LONG);
     }
     let sum = checksum(contents);
-    let len = 2 + stuffed_len(addresses) + stuffed_len(contents) + stuffed_len(&[sum]);
+    let stuffed = stuffed_len(contents);
+    let len = 2 + stuffed_len(addresses) + stuffed + stuffed_len(&[sum]);
     if len > WIRE_MAX {
         return Err(refusal::LONG);
     }
-    Ok(len)
+    Ok(Measured { sum, stuffed, len })
 }
 
 /// The exclusive or of the unstuffed contents; addresses are not covered.

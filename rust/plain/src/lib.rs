@@ -1,5 +1,5 @@
 //! The independent implementation that the proved library is compared with:
-//! CSAFE frames of rowing machines read and written, a reader for a live line,
+//! CSAFE frames of rowing machines measured, written and read, a reader for a live line,
 //! the commands, replies and workouts inside, the lease table for stops, and a
 //! listing of recorded traces.
 //!

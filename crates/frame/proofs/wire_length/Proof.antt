@@ -1,4 +1,4 @@
-use mathlib.Core.Path.{_≡_, subst}
+use mathlib.Core.Path.{subst}
 use Rattle.frame.specs.Private.{Measures}
 use Rattle.frame.proofs.MeasureLaws.{long-length, fits-length}
 use borrow.Author.Needs.{needs}

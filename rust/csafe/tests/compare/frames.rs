@@ -58,11 +58,11 @@ fn read_on_both(wire: &[u8], room: usize) -> Result<Read, u8> {
     ours
 }
 
-/// The frame in an output of just its length.
+/// The frame in an output of the length that it tells, which has to be filled.
 fn written_again(frame: Frame<'_>) -> Vec<u8> {
     let mut out = vec![0; frame.length().unwrap_or(0)];
-    let len = frame.write(&mut out).unwrap_or(0);
-    out.truncate(len);
+    let written = frame.write(&mut out);
+    assert_eq!(written, Ok(out.len()), "the length that {frame:?} tells");
     out
 }
 

@@ -10,8 +10,8 @@ use Rattle.frame.proofs.measure.measure_number.Tie as tie
 returns : tie.Need-returns
 returns c =
     let a = c .before .args in
-    contents-long (a .header) (bytesOf (a .width) (a .n))
-    (omega (arith, c .if1 .taken, length-bytesOf (a .width) (a .n)))
+    contents-long (a .header) (bytesOf (a .width) (a .number))
+    (omega (arith, c .if1 .taken, length-bytesOf (a .width) (a .number)))
 
 count-number-requires : tie.Need-count-number-requires
 count-number-requires c κs = search needs
@@ -23,7 +23,7 @@ returns-2 : tie.Need-returns-2
 returns-2 c =
     let k = c .before in
     let a = k .before .before .args in
-    c .with-ends .ensures _ (sym (length-bytesOf (a .width) (a .n))) (k .count-number .ensures .0)
+    c .with-ends .ensures _ (sym (length-bytesOf (a .width) (a .number))) (k .count-number .ensures .0)
     (k .count-number .ensures .1)
 
 pub measure-number-spec : {M : Type 1} → statement M

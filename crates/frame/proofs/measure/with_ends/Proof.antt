@@ -16,7 +16,7 @@ use Rattle.frame.proofs.measure.with_ends.Tie as tie
 
 -- how many bytes the contents take
 abbrev stuffed : tie.Start → ℕ
-stuffed s = s .args .plain + s .args .counted .count
+stuffed s = s .args .unstuffed + s .args .counted .count
 
 -- four numbers that are small
 fits : (w : tie.After-width) → w .before .header-len .result + stuffed (w .before .before) + w .width .result + 1 ≤ 400
@@ -32,7 +32,7 @@ fits w =
     )
 
 -- what the code counts is the length of the frame
-counted : (w : tie.After-width) (c : List ℕ) → w .before .before .args .plain ≡ length c
+counted : (w : tie.After-width) (c : List ℕ) → w .before .before .args .unstuffed ≡ length c
     → w .before .before .args .counted .count ≡ countOf isStuffed c → w .before .before .args .counted .sum ≡ checksum c
     → w .before .header-len .result + stuffed (w .before .before) + w .width .result + 1
     ≡ length (wireOf (frameOf (w .before .before .args .header) c))
