@@ -10,7 +10,7 @@ use crate::output::{hex, told, Output};
 use crate::tally::Tally;
 
 /// Room that is no reason for a refusal.
-const VAST: usize = 4_096;
+const VAST: usize = 512;
 
 /// The bytes that are escaped, and their neighbours.
 const ABOUT_ESCAPED: [u8; 6] = [0xEF, 0xF0, 0xF1, 0xF2, 0xF3, 0xF4];
