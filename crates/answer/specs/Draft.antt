@@ -34,9 +34,9 @@ draftOut (result w) out = pick (leb (length w) (length out)) (w ++ drop (length 
 abbrev pub Writes : Draft → (out : List ℕ) → Answer ℕ → (last : List ℕ) → Type 0
 Writes d out a last = (a ≡ draftAnswer d (length out)) × (last ≡ draftOut d out)
 
--- What a call that measures answers tells of a call that writes the same into so much room: written is that many bytes,
--- exactly where they fit; 1 is answered exactly where the room is less; every other refusal is the same, and measuring is
--- never refused with 1.
+-- What the answer of a call that measures tells of a call that writes the same into so much room: that many bytes are
+-- written exactly where they fit; 1 is answered exactly where the room is less; every other refusal is the same, and
+-- measuring is never refused with 1.
 pub record Foretells (measured written : Answer ℕ) (room : ℕ) : Type 0 where
   pub fits : (n : ℕ) → Exactly (written ≡ result n) ((measured ≡ result n) × (n ≤ room))
   pub lacks : Exactly (written ≡ refused 1) ((n : ℕ) × (measured ≡ result n) × (room < n))

@@ -36,9 +36,21 @@ module _ (h : Header) (c : List ℕ) where
     fits-length = ap result (m .2) ∙ ap (through length) (sym fits)
 
     -- the parts together are the length that was found
-    pub parts-length : length (headerWire h) + length (stuff c) + length (stuffByte sum) + 1 ≡ len
+    parts-length : length (headerWire h) + length (stuff c) + length (stuffByte sum) + 1 ≡ len
     parts-length =
         omega (arith, wire-length h c, m .2, ap (λ (n : ℕ). length (stuffByte n)) (m .0))
+
+    -- the room that each part has in an output with room for the frame, which keeps its length
+    module _ (n : ℕ) (room : len ≤ n) where
+      pub header-room : length (headerWire h) ≤ n
+      header-room = omega (arith, parts-length)
+
+      pub contents-room : (a n₁ : ℕ) → a ≡ length (headerWire h) → n₁ ≡ n → a + length (stuff c) ≤ n₁
+      contents-room a n₁ ea k = omega (arith, parts-length)
+
+      pub end-room : (a b n₂ : ℕ) → a ≡ length (headerWire h) → b ≡ a + length (stuff c) → n₂ ≡ n
+          → b + length (stuffByte sum) + 1 ≤ n₂
+      end-room a b n₂ ea eb k = omega (arith, parts-length)
 
     pub no-room-written : (out : List ℕ) → length out < len → Writes D out (refused 1) out
     no-room-written out l = writes-no-room D (wireOf (frameOf h c)) out fits (omega (arith, m .2))

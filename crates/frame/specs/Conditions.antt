@@ -1,6 +1,6 @@
--- The conditions on a sound frame, each by itself, and document 01's tables of reading, writing and
--- measuring over them.
--- None uses the function `verdict` or the steps by which it is computed; the checksum and the flags are those of frames.
+-- The conditions on a sound frame, each by itself, and document 01's tables of reading, writing and measuring over
+-- them. None uses the function `verdict` or the steps by which it is computed; the checksum and the flags are those of
+-- frames.
 use Prim.Native.Nat.{ℕ, _+_, _≤_, _<_}
 use mathlib.Core.Path.{_≡_}
 use mathlib.Core.List.{List, [], _∷_, _++_}

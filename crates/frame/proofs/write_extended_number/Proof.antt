@@ -1,15 +1,15 @@
-use mathlib.Core.Path.{_≡_, subst}
+use mathlib.Core.Path.{subst, _∙_}
 use mathlib.Core.List.{List}
-use Prim.Native.Nat.{ℕ, _+_, _≤_}
+use Prim.Native.Nat.{ℕ, _≤_}
 use native.Mathlib.Omega.{arith}
 use lib.ListN.{length}
-use Rattle.frame.specs.Stuffing.{stuff, stuffByte}
-use Rattle.frame.specs.Private.{headerWire, Measures}
+use Rattle.frame.specs.Private.{Measures}
 use Rattle.frame.specs.declared.Header.{Header}
 use Rattle.frame.specs.declared.Header.the-variants.{Addressed}
-use Rattle.frame.specs.declared.measure.Measured.the-variants.{Fits}
 use Rattle.numbers.specs.Number.{bytesOf}
-use Rattle.frame.proofs.MeasureLaws.{long-written, parts-length, no-room-written, parts-written}
+use Rattle.frame.specs.declared.measure.Measured.the-variants.{Fits}
+use Rattle.frame.proofs.MeasureLaws.{long-written, no-room-written, header-room, contents-room, end-room}
+use Rattle.frame.proofs.MeasureLaws.{parts-written}
 use borrow.Author.Needs.{needs}
 use Rattle.frame.proofs.write_extended_number.Statement.{statement}
 use Rattle.frame.proofs.write_extended_number.Tie as tie
@@ -25,32 +25,15 @@ abbrev St : tie.After-known-told → tie.Start
 St k = k .before .before .before .before .before
 
 -- what was found
-abbrev sum : tie.After-known-told → ℕ
-sum k = k .before .measured .given .0 .0
-
-abbrev len : tie.After-known-told → ℕ
-len k = k .before .measured .given .0 .1 .1 .0
-
 found : (k : tie.After-known-told)
-    → Measures (H (St k)) (C (St k)) (Fits (sum k) (k .before .measured .given .0 .1 .0) (len k))
-found k =
-    subst (Measures (H (St k)) (C (St k))) (k .before .measured .given .1)
-    (k .before .before .before .measure-number .ensures)
+    → let g = k .before .measured .given .0 in Measures (H (St k)) (C (St k)) (Fits (g .0) (g .1 .0) (g .1 .1 .0))
+found k = subst (Measures (H (St k)) (C (St k))) (k .before .measured .given .1) (k .before .before .before .measure-number .ensures)
 
-parts : (k : tie.After-known-told)
-    → length (headerWire (H (St k))) + length (stuff (C (St k))) + length (stuffByte (sum k)) + 1 ≡ len k
-parts k = parts-length (H (St k)) (C (St k)) _ _ _ (found k)
-
--- the places after each part
 abbrev Kh : tie.After-put-header → tie.After-known-told
 Kh h = h .before .before .before
 
-abbrev Hs : tie.After-put-number → tie.After-put-header
-Hs s = s .before .before .before .before
-
--- the output has room for the whole frame, and keeps its length
-room : (h : tie.After-put-header) → len (Kh h) ≤ length (h .put-header .last .1 .0)
-room h = omega (arith, h .before .before .if1 .left, h .put-header .kept .1 .0)
+room : (h : tie.After-put-header) → Kh h .before .measured .given .0 .1 .1 .0 ≤ length (St (Kh h) .args .out .now)
+room h = omega (arith, h .before .before .if1 .left)
 
 measure-number-requires : tie.Need-measure-number-requires
 measure-number-requires c κs = search needs
@@ -67,25 +50,23 @@ returns c =
     no-room-written (H (St k)) (C (St k)) _ _ _ (found k) (St k .args .out .now) (omega arith)
 
 put-header-requires : tie.Need-put-header-requires
-put-header-requires c κs = omega (arith, parts (c .before .before), c .before .if1 .left)
+put-header-requires c κs =
+    let k = c .before .before in
+    header-room (H (St k)) (C (St k)) _ _ _ (found k) _ (omega (arith, c .before .if1 .left))
 
 put-number-requires : tie.Need-put-number-requires
 put-number-requires c κs =
     let h = c .before .before .before in
-    omega (arith, parts (Kh h), room h, h .put-header .ensures .0)
+    let k = Kh h in
+    contents-room (H (St k)) (C (St k)) _ _ _ (found k) _ (room h) _ _ (h .put-header .ensures .0) (h .put-header .kept .1 .0)
 
 put-end-requires : tie.Need-put-end-requires
 put-end-requires c κs =
     let s = c .before .before .before in
-    let h = Hs s in
-    omega (
-      arith,
-      parts (Kh h),
-      room h,
-      h .put-header .ensures .0,
-      s .put-number .ensures .0,
-      s .put-number .kept .1 .1 .0,
-    )
+    let h = s .before .before .before .before in
+    let k = Kh h in
+    end-room (H (St k)) (C (St k)) _ _ _ (found k) _ (room h) _ _ _ (h .put-header .ensures .0) (s .put-number .ensures .0)
+    (s .put-number .kept .1 .1 .0 ∙ h .put-header .kept .1 .0)
 
 returns-2 : tie.Need-returns-2
 returns-2 c =
@@ -101,11 +82,10 @@ returns-3 : tie.Need-returns-3
 returns-3 c =
     let e = c .before .before in
     let s = e .before .before .before .before in
-    let h = Hs s in
+    let h = s .before .before .before .before in
     let k = Kh h in
-    parts-written (H (St k)) (C (St k)) _ _ _ (found k) (St k .args .out .now) _ _ _ _ _
-    (omega (arith, h .before .before .if1 .left)) (h .put-header .ensures .0) (h .put-header .ensures .1)
-    (s .put-number .ensures .0) (s .put-number .ensures .1)
+    parts-written (H (St k)) (C (St k)) _ _ _ (found k) (St k .args .out .now) _ _ _ _ _ (room h)
+    (h .put-header .ensures .0) (h .put-header .ensures .1) (s .put-number .ensures .0) (s .put-number .ensures .1)
     (e .put-end .ensures)
 
 pub write-extended-number-spec : {M : Type 1} → statement M

@@ -1,17 +1,21 @@
-use mathlib.Core.Path.{_≡_, subst}
+use mathlib.Core.Path.{subst, _∙_}
 use mathlib.Core.List.{List}
-use Prim.Native.Nat.{ℕ, _+_, _≤_}
+use Prim.Native.Nat.{ℕ, _≤_}
 use native.Mathlib.Omega.{arith}
 use lib.ListN.{length}
-use Rattle.frame.specs.Stuffing.{stuff, stuffByte}
-use Rattle.frame.specs.Private.{headerWire, Measures}
+use Rattle.frame.specs.Private.{Measures}
+use Rattle.frame.specs.declared.Header.{Header}
 use Rattle.frame.specs.declared.measure.Measured.the-variants.{Fits}
-use Rattle.frame.proofs.MeasureLaws.{long-written, parts-length, no-room-written, parts-written}
+use Rattle.frame.proofs.MeasureLaws.{long-written, no-room-written, header-room, contents-room, end-room}
+use Rattle.frame.proofs.MeasureLaws.{parts-written}
 use borrow.Author.Needs.{needs}
 use Rattle.frame.proofs.write_frame.Statement.{statement}
 use Rattle.frame.proofs.write_frame.Tie as tie
 
--- the frame's contents
+-- the frame's header and contents
+abbrev H : tie.Start → Header
+H s = s .args .header
+
 abbrev C : tie.Start → List ℕ
 C s = s .args .contents .now
 
@@ -19,32 +23,15 @@ abbrev St : tie.After-known-told → tie.Start
 St k = k .before .before .before .before .before .before
 
 -- what was found
-abbrev sum : tie.After-known-told → ℕ
-sum k = k .before .measured .given .0 .0
-
-abbrev len : tie.After-known-told → ℕ
-len k = k .before .measured .given .0 .1 .1 .0
-
 found : (k : tie.After-known-told)
-    → Measures (St k .args .header) (C (St k)) (Fits (sum k) (k .before .measured .given .0 .1 .0) (len k))
-found k =
-    subst (Measures (St k .args .header) (C (St k))) (k .before .measured .given .1)
-    (k .before .before .before .measure .ensures)
+    → let g = k .before .measured .given .0 in Measures (H (St k)) (C (St k)) (Fits (g .0) (g .1 .0) (g .1 .1 .0))
+found k = subst (Measures (H (St k)) (C (St k))) (k .before .measured .given .1) (k .before .before .before .measure .ensures)
 
-parts : (k : tie.After-known-told)
-    → length (headerWire (St k .args .header)) + length (stuff (C (St k))) + length (stuffByte (sum k)) + 1 ≡ len k
-parts k = parts-length (St k .args .header) (C (St k)) _ _ _ (found k)
-
--- the places after each part
 abbrev Kh : tie.After-put-header → tie.After-known-told
 Kh h = h .before .before .before
 
-abbrev Hs : tie.After-put-stuffed → tie.After-put-header
-Hs s = s .before .before .before .before
-
--- the output has room for the whole frame, and keeps its length
-room : (h : tie.After-put-header) → len (Kh h) ≤ length (h .put-header .last .1 .0)
-room h = omega (arith, h .before .before .if1 .left, h .put-header .kept .1 .0)
+room : (h : tie.After-put-header) → Kh h .before .measured .given .0 .1 .1 .0 ≤ length (St (Kh h) .args .out .now)
+room h = omega (arith, h .before .before .if1 .left)
 
 measure-requires : tie.Need-measure-requires
 measure-requires c κs = search needs
@@ -58,35 +45,35 @@ enum-known-measured c = search needs
 returns : tie.Need-returns
 returns c =
     let k : tie.After-known-told = search needs in
-    no-room-written (St k .args .header) (C (St k)) _ _ _ (found k) (St k .args .out .now) (omega arith)
+    no-room-written (H (St k)) (C (St k)) _ _ _ (found k) (St k .args .out .now) (omega arith)
 
 put-header-requires : tie.Need-put-header-requires
-put-header-requires c κs = omega (arith, parts (c .before .before), c .before .if1 .left)
+put-header-requires c κs =
+    let k = c .before .before in
+    header-room (H (St k)) (C (St k)) _ _ _ (found k) _ (omega (arith, c .before .if1 .left))
 
 put-stuffed-requires : tie.Need-put-stuffed-requires
 put-stuffed-requires c κs =
     let h = c .before .before .before in
-    (found (Kh h) .1, omega (arith, parts (Kh h), room h, h .put-header .ensures .0))
+    let k = Kh h in (
+      found k .1,
+      contents-room (H (St k)) (C (St k)) _ _ _ (found k) _ (room h) _ _ (h .put-header .ensures .0) (h .put-header .kept .1 .0),
+    )
 
 put-end-requires : tie.Need-put-end-requires
 put-end-requires c κs =
     let s = c .before .before .before in
-    let h = Hs s in
-    omega (
-      arith,
-      parts (Kh h),
-      room h,
-      h .put-header .ensures .0,
-      s .put-stuffed .ensures .0,
-      s .put-stuffed .kept .1 .1 .0,
-    )
+    let h = s .before .before .before .before in
+    let k = Kh h in
+    end-room (H (St k)) (C (St k)) _ _ _ (found k) _ (room h) _ _ _ (h .put-header .ensures .0) (s .put-stuffed .ensures .0)
+    (s .put-stuffed .kept .1 .1 .0 ∙ h .put-header .kept .1 .0)
 
 returns-2 : tie.Need-returns-2
 returns-2 c =
     let w = c .before .before in
     let s = w .before .before .before in
-    long-written (s .args .header) (C s) (s .args .out .now)
-    (subst (Measures (s .args .header) (C s)) (c .enum-told .given .1) (w .measure .ensures))
+    long-written (H s) (C s) (s .args .out .now)
+    (subst (Measures (H s) (C s)) (c .enum-told .given .1) (w .measure .ensures))
 
 same-length : tie.Need-same-length
 same-length c = search needs
@@ -95,11 +82,10 @@ returns-3 : tie.Need-returns-3
 returns-3 c =
     let e = c .before .before in
     let s = e .before .before .before .before in
-    let h = Hs s in
+    let h = s .before .before .before .before in
     let k = Kh h in
-    parts-written (St k .args .header) (C (St k)) _ _ _ (found k) (St k .args .out .now) _ _ _ _ _
-    (omega (arith, h .before .before .if1 .left)) (h .put-header .ensures .0) (h .put-header .ensures .1)
-    (s .put-stuffed .ensures .0) (s .put-stuffed .ensures .1)
+    parts-written (H (St k)) (C (St k)) _ _ _ (found k) (St k .args .out .now) _ _ _ _ _ (room h)
+    (h .put-header .ensures .0) (h .put-header .ensures .1) (s .put-stuffed .ensures .0) (s .put-stuffed .ensures .1)
     (e .put-end .ensures)
 
 pub write-frame-spec : {M : Type 1} → statement M
