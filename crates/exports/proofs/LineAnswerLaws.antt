@@ -5,7 +5,7 @@ use mathlib.Core.List.{List, []}
 use native.Mathlib.Omega.{arith}
 use Rattle.line.specs.Outcome.{Summary, toldMeans, ContentsFit}
 use Rattle.line.specs.Reader.{lentReader, finishOf, LentStepIs}
-use Rattle.line.specs.Feed.{ChunkTurn, feedOf, ChunkStepIs}
+use Rattle.line.specs.Feed.{ChunkTurn, cutChunk, chunkOf, ChunkStepIs}
 use Rattle.line.specs.declared.LineReader.{LineReader}
 use Rattle.line.specs.declared.State.{State}
 use Rattle.line.specs.declared.LentStep.{LentStep}
@@ -17,23 +17,23 @@ use Rattle.exports.specs.LineAnswers.{lineFields, fedTo, finished, FedAs
 use Rattle.exports.proofs.LineStateLaws.{state-tells}
 
 module _ (bytes input left : List ℕ) (before : State) (s : ChunkStep)
-    (is : ChunkStepIs left s (feedOf (lentReader bytes before) input)) where
+    (is : ChunkStepIs left s (chunkOf (lentReader bytes before) input)) where
   -- the length that is left has room in the state's number
   pub fed-len-fits : (n : ℕ) → n < 2 ^ 64 → before ≡ stateIn n → s .state .len < 2 ^ 62
   fed-len-fits n h e =
       let l : before .len ≡ n / 4 = ap (λ (x : State). x .len) e in
       subst (λ (u : LineReader). u .state .len < 2 ^ 62) (sym (is .next-is))
-      (feed-len (2 ^ 62) (omega arith) (lentReader bytes before) input (omega (arith, h, l)))
+      (feed-len (2 ^ 62) (omega arith) (lentReader bytes before) (cutChunk input) (omega (arith, h, l)))
 
   -- the contents that are told have room in the answer
   pub fed-within : ContentsFit 118 (toldMeans (s .told))
-  fed-within = subst (ContentsFit 118) (sym (is .told-is)) (feed-within (lentReader bytes before) input)
+  fed-within = subst (ContentsFit 118) (sym (is .told-is)) (feed-within (lentReader bytes before) (cutChunk input))
 
   pub fed-as : (answer n₀ n : ℕ) → before ≡ stateIn n₀ → n ≡ packedState (s .state)
       → Tells answer (lineFields (toldMeans (s .told)))
       → FedAs answer left n (s .taken) (fedTo bytes n₀ input)
   fed-as answer n₀ n e es t =
-      subst (λ (x : State). FedAs answer left n (s .taken) (feedOf (lentReader bytes x) input)) e (record {
+      subst (λ (x : State). FedAs answer left n (s .taken) (chunkOf (lentReader bytes x) input)) e (record {
         answered = subst (λ (h : Summary). Tells answer (lineFields h)) (is .told-is) t;
         bytes-left = ap (λ (u : LineReader). u .bytes) (is .next-is);
         state-left = es ∙ ap (λ (u : LineReader). packedState (u .state)) (is .next-is);

@@ -3,7 +3,7 @@ use Prim.Native.Nat.{ℕ}
 use mathlib.Core.List.{List}
 use mathlib.Core.Path.{_≡_}
 use Rattle.line.specs.Outcome.{Summary, silent, tells, summaryOf}
-use Rattle.line.specs.Feed.{ChunkTurn, feedOf}
+use Rattle.line.specs.Feed.{ChunkTurn, chunkOf}
 use Rattle.line.specs.Reader.{ReaderTurn, finishOf}
 use Rattle.exports.specs.Packed.{Fields, Tells}
 use Rattle.exports.specs.Answers.{resultFields, readFields}
@@ -15,9 +15,9 @@ abbrev pub lineFields : Summary → Fields
 lineFields silent = resultFields 2 0 0 0
 lineFields (tells a) = readFields a
 
--- Bytes fed to the reader that an array and a number are.
+-- A chunk fed to the reader that an array and a number are.
 abbrev pub fedTo : List ℕ → ℕ → List ℕ → ChunkTurn
-fedTo bytes state input = feedOf (readerIn bytes state) input
+fedTo bytes state input = chunkOf (readerIn bytes state) input
 
 abbrev pub finished : List ℕ → ℕ → ReaderTurn
 finished bytes state = finishOf (readerIn bytes state)

@@ -79,8 +79,9 @@ pub extern "C" fn csafe_read(wire: &[u8], out: &mut [u8]) -> u64
     packed::of_read(read)
 }
 
-// Feeds bytes to a line reader up to the first that is answered, and counts those taken. With no answer all are taken.
-// The reader is its array and the number that holds its state, 0 for a new one.
+// Feeds a chunk to a line reader up to the first byte that is answered, and counts the bytes taken. With no answer all
+// are taken. A chunk of more than 65,536 bytes is cut to its first 65,536. The reader is its array and the number that
+// holds its state, 0 for a new one.
 #[no_mangle]
 pub extern "C" fn csafe_feed(
     bytes: &mut [u8; 118],

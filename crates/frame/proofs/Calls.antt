@@ -15,6 +15,7 @@ use Rattle.answer.specs.declared.Written.{Written}
 use Rattle.frame.specs.Frame.{Frame, standard, extended, contentsOf, wireOf}
 use Rattle.frame.specs.Answers.{FrameOutline, outlineOf, frameDraft, frameRead, lengthMeans, readMeans, Reads}
 use Rattle.frame.specs.Conditions.{Sound, SoundFrame, ReadJudged, WriteJudged, LengthJudged}
+use Rattle.frame.specs.declared.Leading.{Leading}
 use Rattle.frame.specs.declared.Read.{Read}
 use Rattle.frame.specs.declared.WireLength.{WireLength}
 use Rattle.frame.proofs.Table as table
@@ -25,6 +26,7 @@ use Rattle.frame.proofs.write_extended_number.Reads as write-extended-n
 use Rattle.frame.proofs.standard_length.Reads as standard-length-reads
 use Rattle.frame.proofs.extended_length.Reads as extended-length-reads
 use Rattle.frame.proofs.read_frame.Reads as read-frame-reads
+use Rattle.frame.proofs.read_leading.Reads as read-leading-reads
 
 -- ---- calls
 
@@ -50,11 +52,14 @@ pub data CalledLength : Frame → Answer ℕ → Type 0 where
       → extended-length-reads.Learnt κs (to, (from, (contents, tt))) r (to, (from, (contents, tt)))
       → CalledLength (extended to from (contents .now)) (lengthMeans r)
 
--- A call that reads a slice: its answer, and the output before and after.
+-- A call that reads a slice, or the candidate that one begins with: its answer, and the output before and after.
 pub data CalledRead : (w out : List ℕ) → Answer FrameOutline → (last : List ℕ) → Type 0 where
   read-slice : (r : Read) (κs : Lfts 2) (wire out out′ : RefT (List ℕ))
       → read-frame-reads.Learnt κs (wire, (out, tt)) r (wire, (out′, tt))
       → CalledRead (wire .now) (out .now) (readMeans r) (out′ .now)
+  read-first : (r : Leading) (κs : Lfts 2) (s out out′ : RefT (List ℕ))
+      → read-leading-reads.Learnt κs (s, (out, tt)) r (s, (out′, tt))
+      → CalledRead (take (r .taken) (s .now)) (out .now) (readMeans (r .read)) (out′ .now)
 
 -- Each answers and leaves what the definitions say.
 pub call-writes : {f : Frame} {out last : List ℕ} {a : Answer ℕ} → CalledWrite f out a last
@@ -69,6 +74,7 @@ call-measures (measured-extended r κs contents e) = e
 
 pub call-reads : {w out last : List ℕ} {a : Answer FrameOutline} → CalledRead w out a last → Reads w out a last
 call-reads (read-slice r κs wire out out′ e) = e
+call-reads (read-first r κs s out out′ e) = e .1
 
 -- ---- demand 1: the tables
 

@@ -100,8 +100,8 @@ assoc-within (suc k) a b c h i j =
 pub xor-assoc : (a b c : ℕ) → Assoc a b c
 xor-assoc a b c = assoc-within (a + b + c) a b c (omega arith) (omega arith) (omega arith)
 
--- a sum that begins with a number
-sum-onto : (acc : ℕ) (s : List ℕ) → sumFrom acc s ≡ bitXor acc (checksum s)
+-- A sum that begins with a number.
+pub sum-onto : (acc : ℕ) (s : List ℕ) → sumFrom acc s ≡ bitXor acc (checksum s)
 unfolding sumFrom
 sum-onto acc [] = sym (xor-zero-r acc)
 sum-onto acc (b ∷ s) =

@@ -226,11 +226,16 @@ left-length kind n s = of-verdict (verdict (candidateOf kind (take n s))) refl
           take-shorter n s,
         )
 
--- The contents of a frame that is accepted are at most 117 bytes: flags and checksum are three of the 120 on the wire.
-pub accepted-short : (w : List ℕ) (f : Frame) → verdict w ≡ result f → length (contentsOf f) ≤ 117
+-- The contents of a frame that is accepted are fewer than the bytes between its flags, which are at most 118.
+pub accepted-shrinks : (w : List ℕ) (f : Frame) → verdict w ≡ result f
+    → (length (contentsOf f) < length (bodyOf w)) × (length (bodyOf w) ≤ 118)
 unfolding verdict
-accepted-short w f e =
+accepted-shrinks w f e =
     by-bool (isTerminated w)
-    (λ y. let j = judge-shrinks (kindOf (getD w 0 0)) (bodyOf w) f (simp y at e) in omega (arith, j .0, j .1))
+    (λ y. judge-shrinks (kindOf (getD w 0 0)) (bodyOf w) f (simp y at e))
     (λ y. let q : refused 6 ≡ result f = simp y at e in
     let z : _≡_ {A = ℕ} 0 1 = cc in absurd (omega arith))
+
+-- So they are at most 117 bytes: flags and checksum are three of the 120 on the wire.
+pub accepted-short : (w : List ℕ) (f : Frame) → verdict w ≡ result f → length (contentsOf f) ≤ 117
+accepted-short w f e = let k = accepted-shrinks w f e in omega (arith, k .0, k .1)

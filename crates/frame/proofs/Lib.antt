@@ -13,3 +13,4 @@ pub mod Table
 pub mod JudgeCalls
 pub mod RoundTrip
 pub mod Calls
+pub mod LeadingLaws

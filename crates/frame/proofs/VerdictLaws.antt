@@ -44,7 +44,7 @@ module _ (kind : Kind) (body : List ℕ) where
   pub whole-length : length (candidateOf kind body) ≡ length body + 2
   whole-length = omega (arith, length-append body (0xF2 ∷ []))
 
-  whole-body : bodyOf (candidateOf kind body) ≡ body
+  pub whole-body : bodyOf (candidateOf kind body) ≡ body
   whole-body = take-at body (0xF2 ∷ []) (length (candidateOf kind body) - 2) (omega (arith, whole-length))
 
   whole-stop : lastOf (candidateOf kind body) ≡ 0xF2

@@ -6,11 +6,12 @@ use mathlib.Core.List.{List, [], _∷_, _++_}
 use lib.Dec.{leb, ltb, eqb}
 use lib.Bits.{bitXor}
 use lib.ListN.{length, getD, take, drop}
-use Rattle.lists.specs.Choice.{pick, within, noneOf, countOf}
+use Rattle.lists.specs.Choice.{pick, within, noneOf, countOf, countBefore}
 use Rattle.lists.specs.Splice.{splice}
 use Rattle.answer.specs.Refusals.{numberOf}
 use Rattle.frame.specs.Stuffing.{isStuffed, stuffByte, unstuff, Unstuffed, badEscape, bytes, prepend}
-use Rattle.frame.specs.Flags.{flagless, startFlag, stopFlag, isStart}
+use Rattle.frame.specs.Flags.{flagless, startFlag, stopFlag, isStart, isFlag}
+use Rattle.frame.specs.Leading.{isStopAt}
 use Rattle.frame.specs.Checksum.{sumFrom, checksum}
 use Rattle.frame.specs.Frame.{Frame, standard, extended, wireOf}
 use Rattle.frame.specs.Verdict.{Verdict, judge, addressCount, lastOf}
@@ -186,3 +187,15 @@ judgeWhole kind body = pick (flagless body) (judge kind body) (refused 6)
 abbrev pub ExaminesWhole : Kind → List ℕ → Examined → Type 0
 ExaminesWhole kind body (Unsound why) = judgeWhole kind body ≡ refused (numberOf why)
 ExaminesWhole kind body (Sound header start len) = (flagless body ≡ true) × SoundAt kind body header start len
+
+-- No byte before an index is F0 to F3, and their exclusive or.
+pub record PlainTo (s : List ℕ) (at sum : ℕ) : Type 0 where
+  pub inside : at ≤ length s
+  pub none-before : countBefore isStuffed s ≡ at + countBefore isStuffed (drop at s)
+  pub summed : sum ≡ checksum (take at s)
+
+-- The verdict on the candidate of a kind whose start flag stands right before a slice. One that does not end in it, or is
+-- too long, is none.
+abbrev pub openVerdict : Kind → List ℕ → Verdict
+openVerdict kind rest =
+    pick (isStopAt rest (countBefore isFlag rest)) (judgeWhole kind (take (countBefore isFlag rest) rest)) (refused 6)

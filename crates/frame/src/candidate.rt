@@ -20,7 +20,7 @@ ghost use Rattle.frame.specs.Private.{unstuffedBytes, lastAt, headerKind
 ghost use Rattle.frame.specs.Private.{Tallied, WithoutHeader, ExaminesWhole};
 
 // The most bytes that may stand between the flags.
-const BODY_LIMIT: usize = 118;
+pub(crate) const BODY_LIMIT: usize = 118;
 
 // The byte after an escape that is F0 more unstuffed: 00 to 03.
 const ESCAPED_LIMIT: u8 = 3;

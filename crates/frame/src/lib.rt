@@ -4,6 +4,7 @@ pub mod address;
 mod bytes;
 mod candidate;
 pub mod flags;
+mod front;
 mod measure;
 mod number;
 mod plain;
@@ -18,7 +19,7 @@ ghost use mathlib.Core.List.{_++_};
 ghost use mathlib.Core.Bool.{false};
 ghost use Prim.Native.Nat.{_+_, _≤_};
 ghost use lib.ListN.{length, take, drop};
-ghost use Rattle.answer.specs.Answer.{through};
+ghost use Rattle.answer.specs.Answer.{refused, through};
 ghost use Rattle.answer.specs.Draft.{draftAnswer, draftOut, writtenMeans};
 ghost use Rattle.numbers.specs.Number.{bytesOf};
 ghost use Rattle.frame.specs.Flags.{candidateOf};
@@ -26,7 +27,9 @@ ghost use Rattle.frame.specs.Stuffing.{unstuff};
 ghost use Rattle.frame.specs.Frame.{standard, extended};
 ghost use Rattle.frame.specs.Verdict.{judge, verdict};
 ghost use Rattle.frame.specs.Answers.{frameDraft, lengthMeans, readMeans, judgeAnswer, readAnswer, readOut, leftIn};
+ghost use Rattle.frame.specs.Leading.{openCount, leadingCount};
 ghost use Rattle.frame.specs.Private.{frameOf, readAs, unstuffedBytes, judgeWhole, Unescaped, ExaminesWhole};
+ghost use Rattle.frame.specs.Private.{openVerdict};
 
 // The two kinds of frame.
 pub enum Kind {
@@ -51,6 +54,13 @@ pub enum Read {
     Standard { len: usize },
     Extended { to: u8, from: u8, len: usize },
     Refused(Refusal),
+}
+
+// The answer to reading the candidate that a slice begins with, and how many bytes it has with its flags. A slice that
+// begins with none has 0, and is refused as an empty slice is.
+pub struct Leading {
+    pub read: Read,
+    pub taken: usize,
 }
 
 // How many bytes a standard frame takes on the wire, which is the room that writing it needs. Refusal 2.
@@ -131,6 +141,21 @@ pub fn read_frame(wire: &[u8], out: &mut [u8]) -> Read
     read_stuffed(kind, body, out)
 }
 
+// Reads the candidate that a slice begins with: a start flag, and the stop flag as the next flag, with at most 118 bytes
+// between them. What follows is not looked at. Refusals 6, 3, 4, 5 and 1.
+pub fn read_leading(s: &[u8], out: &mut [u8]) -> Leading
+    ensures { λ r. ⌜ r .taken ≡ leadingCount (now (s .entry)) ⌝ }
+    ensures { λ r. ⌜ readMeans (r .read) ≡ readAnswer (verdict (take (r .taken) (now (s .entry))))
+        (length (now (out .entry))) ⌝ }
+    ensures { λ r. ⌜ now (out .exit) ≡ readOut (verdict (take (r .taken) (now (s .entry)))) (now (out .entry)) ⌝ }
+{
+    if !front::starts(s) {
+        return no_leading();
+    }
+    let kind = flags::kind_of(s[0]);
+    read_open(kind, &s[1..], out)
+}
+
 // Judges the candidate that a start flag of this kind, the first `len` bytes of an array (all where it has fewer) and
 // the stop flag make: refusals 6, 2, 3, 4 and 5. The contents of an accepted frame are brought to the front; a refusal
 // changes nothing.
@@ -140,6 +165,44 @@ pub fn judge_array(kind: Kind, bytes: &mut [u8; 118], len: usize) -> Read
         ≡ leftIn (verdict (candidateOf kind (take len (now (bytes .entry))))) (now (bytes .entry)) ⌝ }
 {
     judge_first(kind, bytes, len)
+}
+
+fn no_leading() -> Leading
+    ensures { λ r. ⌜ readMeans (r .read) ≡ refused 6 ⌝ }
+    ensures { λ r. ⌜ r .taken ≡ 0 ⌝ }
+{
+    Leading {
+        read: Read::Refused(Refusal::Truncated),
+        taken: 0,
+    }
+}
+
+// Reads the candidate of this kind whose start flag stands right before a slice.
+fn read_open(kind: Kind, rest: &[u8], out: &mut [u8]) -> Leading
+    ensures { λ r. ⌜ r .taken ≡ openCount (now (rest .entry)) ⌝ }
+    ensures { λ r. ⌜ readMeans (r .read) ≡ readAnswer (openVerdict kind (now (rest .entry)))
+        (length (now (out .entry))) ⌝ }
+    ensures { λ r. ⌜ now (out .exit) ≡ readOut (openVerdict kind (now (rest .entry))) (now (out .entry)) ⌝ }
+{
+    let run = front::plain_run(rest);
+    let at = run.at;
+    let end = front::first_flag(rest, at);
+    if !front::is_stop_at(rest, end) {
+        return no_leading();
+    }
+    let body = &rest[..end];
+    if end == at {
+        let read = read_plain(kind, body, run.sum, out);
+        return Leading {
+            read,
+            taken: end + 2,
+        };
+    }
+    let read = read_stuffed(kind, body, out);
+    Leading {
+        read,
+        taken: end + 2,
+    }
 }
 
 fn wire_length(header: Header, contents: &[u8]) -> WireLength

@@ -40,7 +40,7 @@ pub data Called : LineReader → Call → ValueAnswer → LineReader → Type 0 
   finished : {r : LineReader} (s : Stepped) → finish-reads.Learnt tt (r, tt) s (r, tt)
       → Called r finish (answerMeans (s .answer)) (s .next)
 
-called-turns : (r u : LineReader) (c : Call) (a : ValueAnswer) → Called r c a u
+pub called-turns : (r u : LineReader) (c : Call) (a : ValueAnswer) → Called r c a u
     → (a ≡ valueAnswerOf (outcomeAt r c)) × (u ≡ nextAfter r c)
 called-turns r u c a (stepped s k) = (k .answer-is, k .next-is)
 called-turns r u c a (finished s k) = (k .answer-is, k .next-is)

@@ -1,17 +1,20 @@
 -- The bytes that a chunk takes are answered, and leave the reader, as they do singly.
-use mathlib.Core.Path.{_≡_, refl, sym, ap, _∙_, subst}
+use mathlib.Core.Path.{_≡_, refl, sym, ap, ap₂, _∙_, subst}
 use mathlib.Core.Bool.{Bool, true, false, true≢false}
 use mathlib.Core.List.{List, [], _∷_}
 use native.Mathlib.Omega.{arith}
-use lib.ListN.{take}
-use Prim.Native.Nat.{ℕ, zero, suc, _+_}
+use lib.ListN.{length, take, length-map}
+use lib.Seq.{take-take}
+use Prim.Native.Nat.{ℕ, zero, suc, _+_, _≤_}
 use Rattle.lists.specs.Choice.{pick}
-use Rattle.lists.specs.Machine.{run}
+use Rattle.lists.specs.Machine.{run, leftAfter}
+use Rattle.lists.proofs.Lists.{take-bounds, take-map}
+use Rattle.framing.specs.Reference.{byte}
 use Rattle.framing.specs.Demand3.{feed}
 use Rattle.line.specs.Outcome.{Outcome, nothing, judged}
 use Rattle.line.specs.Reader.{ReaderTurn, stepOf, outcomeAt, nextAfter}
-use Rattle.line.specs.Feed.{isAnswer, ChunkTurn, chunkTurn, laterBy, feedOf}
-use Rattle.line.specs.Chunks.{byByte, TakenToAnswer, AsSingly}
+use Rattle.line.specs.Feed.{isAnswer, ChunkTurn, chunkTurn, laterBy, feedOf, cutChunk, chunkOf}
+use Rattle.line.specs.Chunks.{byByte, TakenToAnswer, TakesFirst, AsSingly}
 use Rattle.line.specs.declared.LineReader.{LineReader}
 
 no-answer : (o : Outcome) → isAnswer o ≡ false → o ≡ nothing
@@ -72,3 +75,42 @@ chunk-taken r (b ∷ s) =
       all = λ z. omega (arith, k .all z);
       some = λ n. omega arith;
     }
+
+-- ---- a chunk, cut to its first 65,536 bytes
+
+module _ (r : LineReader) (s : List ℕ) where
+  -- No more bytes are taken than the chunk has.
+  pub cut-within : chunkOf r s .taken ≤ length s
+  cut-within = omega (arith, chunk-taken r (cutChunk s) .within, take-bounds 65536 s .1)
+
+  -- The bytes taken are the chunk's first.
+  pub first-of-cut : take (chunkOf r s .taken) (cutChunk s) ≡ take (chunkOf r s .taken) s
+  first-of-cut =
+      take-take (chunkOf r s .taken) 65536 s
+      (omega (arith, chunk-taken r (cutChunk s) .within, take-bounds 65536 s .0))
+
+  cut-singly : Singly r s (chunkOf r s)
+  cut-singly =
+      subst (λ (l : List ℕ). AsSingly r (feed l) (byByte (chunkOf r s .taken) (chunkOf r s .answer)) (chunkOf r s .next))
+      first-of-cut (chunk-singly r (cutChunk s))
+
+-- a call that is answered, takes and leaves what a chunk gives
+module _ (r : LineReader) (given : List ℕ) (taken : ℕ) (o : Outcome) (t : taken ≡ chunkOf r given .taken)
+    (a : o ≡ chunkOf r given .answer) where
+  -- It takes the chunk to its end, 65,536 bytes at the most, or to the byte that is answered.
+  pub takes-to-answer : TakenToAnswer (cutChunk given) taken o
+  takes-to-answer =
+      subst (λ (n : ℕ). TakenToAnswer (cutChunk given) n o) (sym t)
+      (subst (TakenToAnswer (cutChunk given) (chunkOf r given .taken)) (sym a) (chunk-taken r (cutChunk given)))
+
+  -- The bytes that it takes are answered, and leave the reader, as they do singly.
+  pub takes-first : (next : LineReader) → next ≡ chunkOf r given .next
+      → TakesFirst r (feed given) taken (byByte taken o) next
+  takes-first next e =
+      let f = cut-singly r given in
+      let first : feed (take (chunkOf r given .taken) given) ≡ take taken (feed given) =
+      ap (λ (n : ℕ). feed (take n given)) (sym t) ∙ sym (take-map byte taken given) in (
+        omega (arith, t, cut-within r given, length-map given byte),
+        ap₂ byByte t a ∙ f .outcomes-are ∙ ap (run outcomeAt nextAfter r) first,
+        e ∙ f .reader-is ∙ ap (leftAfter nextAfter r) first,
+      )

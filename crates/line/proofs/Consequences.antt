@@ -22,7 +22,7 @@ use Rattle.line.specs.declared.Mode.the-variants.{Outside, InStandard, I
 use Rattle.frame.specs.declared.Kind.the-variants.{Standard, Extended}
 use Rattle.line.proofs.Follows.{reader-follows, rowing-suits}
 use Rattle.line.proofs.Calls.{CalledLent, lent-turns}
-use Rattle.line.proofs.ChunkCalls.{CalledIn, chunks-demand-3}
+use Rattle.line.proofs.ChunkCalls.{CalledOn, chunks-demand-3}
 use lib.ListN.{length}
 
 pub as-new-after-stop : (calls rest : List Call)
@@ -72,8 +72,8 @@ from-never-1 k (c ∷ calls) = (call-not-1 k c, from-never-1 (candidateAfter row
 pub never-1 : (calls : List Call) → Never1 (readerOutcomes calls)
 never-1 calls = subst Never1 (sym (reader-follows .same calls)) (from-never-1 none calls)
 
--- No call of a row of `feed_in`, `step_in` and `finish_in` is answered 1.
-pub calls-never-1 : {calls : List Call} {outcomes : List Outcome} → AnsweredBy CalledIn AsNew calls outcomes
+-- No call of a row, in whichever form, is answered 1.
+pub calls-never-1 : {calls : List Call} {outcomes : List Outcome} → AnsweredBy CalledOn AsNew calls outcomes
     → Never1 outcomes
 calls-never-1 {calls} {outcomes} k =
     subst Never1 (sym (chunks-demand-3 .same calls outcomes k)) (from-never-1 none calls)

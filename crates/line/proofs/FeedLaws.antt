@@ -53,24 +53,26 @@ module _ (r : LineReader) (s : List ℕ) (i : ℕ) (below : i < length s) where
   answered e = ap (laterBy i) (first ∙ ap at e)
 
 -- a turn of a loop over the bytes s, where f is what all of them give
-module _ (f : ChunkTurn) (r : LineReader) (s : List ℕ) (i : ℕ) (below : i < length s)
-    (so-far : f ≡ laterBy i (feedOf r (drop i s))) (bytes : List ℕ) (m : LentStep)
-    (moves : LentStepIs bytes m (stepOf r (getD s i 0))) where
+module _ (f : ChunkTurn) (r₀ : LineReader) (s : List ℕ) (i : ℕ) (below : i < length s)
+    (so-far : f ≡ laterBy i (feedOf r₀ (drop i s))) (bytes : List ℕ) (m : LentStep)
+    (moves : LentStepIs bytes m (stepOf r₀ (getD s i 0))) where
   pub goes-on : says (toldMeans (m .told)) ≡ false
       → f ≡ laterBy (i + 1) (feedOf (lentReader bytes (m .state)) (drop (i + 1) s))
   goes-on e =
-      so-far ∙ not-answered r s i below (ap says (sym (moves .told-is)) ∙ e)
+      so-far ∙ not-answered r₀ s i below (ap says (sym (moves .told-is)) ∙ e)
       ∙ ap (λ (u : LineReader). laterBy (i + 1) (feedOf u (drop (i + 1) s))) (sym (moves .next-is))
 
   pub answers : says (toldMeans (m .told)) ≡ true
-      → ChunkStepIs bytes (record { told = m .told; state = m .state; taken = i + 1 }) f
-  answers e =
-      let q : f ≡ chunkTurn (stepOf r (getD s i 0) .answer) (stepOf r (getD s i 0) .next) (i + 1) =
-      so-far ∙ answered r s i below (ap says (sym (moves .told-is)) ∙ e) in
+      → (r : ChunkStep) → r ≡ record { told = m .told; state = m .state; taken = i + 1 } → ChunkStepIs bytes r f
+  answers e r is =
+      let q : f ≡ chunkTurn (stepOf r₀ (getD s i 0) .answer) (stepOf r₀ (getD s i 0) .next) (i + 1) =
+      so-far ∙ answered r₀ s i below (ap says (sym (moves .told-is)) ∙ e) in
       record {
-        told-is = moves .told-is ∙ ap (λ (g : ChunkTurn). summaryOf (g .answer)) (sym q);
-        next-is = moves .next-is ∙ ap (λ (g : ChunkTurn). g .next) (sym q);
-        taken-is = ap (λ (g : ChunkTurn). g .taken) (sym q);
+        told-is = ap (λ (g : ChunkStep). toldMeans (g .told)) is ∙ moves .told-is
+            ∙ ap (λ (g : ChunkTurn). summaryOf (g .answer)) (sym q);
+        next-is = ap (λ (g : ChunkStep). lentReader bytes (g .state)) is ∙ moves .next-is
+            ∙ ap (λ (g : ChunkTurn). g .next) (sym q);
+        taken-is = ap (λ (g : ChunkStep). g .taken) is ∙ ap (λ (g : ChunkTurn). g .taken) (sym q);
       }
 
 -- no byte is left

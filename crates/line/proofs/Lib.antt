@@ -6,6 +6,7 @@ pub mod Consequences
 pub mod FeedLaws
 pub mod FeedBounds
 pub mod RunLaws
+pub mod WholeLaws
 pub mod OutsideLaws
 pub mod ChunkLaws
 pub mod ChunkCalls

@@ -36,8 +36,8 @@ search-ends s from n e =
     ap (λ (k : ℕ). from + k)
     (e ∙ ap (countBefore isFlag) (take-all (length s - from) (drop from s) (omega (arith, length-drop from s))))
 
--- the bytes of a run, with any bytes after them, as they are fed
-feed-run : (run rest : List ℕ) (r : LineReader) → noneOf isFlag run ≡ true
+-- The bytes of a run, with any bytes after them, as they are fed.
+pub feed-run : (run rest : List ℕ) (r : LineReader) → noneOf isFlag run ≡ true
     → feedOf r (run ++ rest) ≡ laterBy (length run) (feedOf (afterRun r run) rest)
 unfolding feedOf noneOf
 feed-run [] rest r clear = plus-zero (feedOf r rest)
@@ -102,7 +102,7 @@ unheld-run r h (b ∷ run) =
 
 module _ (m : Mode) (h : isHeld m ≡ true) where
   -- where they are, and there is room for them
-  held-run : (run bytes : List ℕ) (len : ℕ) → length bytes ≡ capacity → len + length run ≤ capacity
+  pub held-run : (run bytes : List ℕ) (len : ℕ) → length bytes ≡ capacity → len + length run ≤ capacity
       → afterRun (reader bytes len m) run ≡ reader (splice bytes len run) (len + length run) m
   held-run [] bytes len a room =
       sym (ap₂ (λ (l : List ℕ) (n : ℕ). reader l n m) (splice-nil bytes len) (add-zero len))

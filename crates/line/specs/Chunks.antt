@@ -2,7 +2,7 @@
 -- singly.
 use mathlib.Core.Path.{_≡_}
 use mathlib.Core.List.{List, [], _∷_}
-use lib.ListN.{length}
+use lib.ListN.{length, take}
 use Prim.Native.Nat.{ℕ, zero, suc, _≤_}
 use Rattle.lists.specs.Machine.{run, leftAfter}
 use Rattle.framing.specs.Reference.{Call}
@@ -23,6 +23,13 @@ pub record TakenToAnswer (given : List ℕ) (taken : ℕ) (o : Outcome) : Type 0
   pub within : taken ≤ length given
   pub all : o ≡ nothing → taken ≡ length given
   pub some : (o ≡ nothing → ⊥) → 1 ≤ taken
+
+-- A call was given several, and the first of them, so many as it took, have the outcomes and leave the reader that they
+-- do singly.
+abbrev pub TakesFirst : LineReader → (given : List Call) → (taken : ℕ) → List Outcome → LineReader → Type 0
+TakesFirst r given taken outcomes next =
+    (taken ≤ length given) × (outcomes ≡ run outcomeAt nextAfter r (take taken given))
+    × (next ≡ leftAfter nextAfter r (take taken given))
 
 -- The outcomes and the last reader of calls made singly: each byte by itself, and each finish.
 pub record AsSingly (r : LineReader) (calls : List Call) (outcomes : List Outcome) (last : LineReader) : Type 0 where

@@ -1,13 +1,16 @@
--- Bytes fed to a line reader up to the first that is answered.
+-- Bytes fed to a line reader up to the first that is answered, and the call that takes a chunk: document 02, No. 4.
 use mathlib.Core.Path.{_≡_}
 use mathlib.Core.Bool.{Bool, true, false}
 use mathlib.Core.List.{List, [], _∷_}
 use Prim.Native.Nat.{ℕ, _+_}
+use lib.ListN.{take}
 use Rattle.lists.specs.Choice.{pick}
 use Rattle.line.specs.Outcome.{Outcome, nothing, Summary, silent, tells, toldMeans, summaryOf}
 use Rattle.line.specs.Reader.{lentReader, stepOf}
 use Rattle.line.specs.declared.LineReader.{LineReader}
 use Rattle.line.specs.declared.ChunkStep.{ChunkStep}
+use Rattle.line.specs.declared.ChunkAnswer.{ChunkAnswer}
+use Rattle.line.specs.declared.Told.{Told}
 
 -- Whether anything is told.
 abbrev pub says : Summary → Bool
@@ -38,8 +41,28 @@ feedOf r (b ∷ bs) =
     pick (isAnswer (stepOf r b .answer)) (chunkTurn (stepOf r b .answer) (stepOf r b .next) 1)
     (laterBy 1 (feedOf (stepOf r b .next) bs))
 
--- What a function returns, with `bytes` in the lent array afterwards.
-pub record ChunkStepIs (bytes : List ℕ) (s : ChunkStep) (t : ChunkTurn) : Type 0 where
-  pub told-is : toldMeans (s .told) ≡ summaryOf (t .answer)
-  pub next-is : lentReader bytes (s .state) ≡ t .next
-  pub taken-is : s .taken ≡ t .taken
+-- ---- a chunk
+
+-- A chunk of more than 65,536 bytes is cut to its first 65,536.
+abbrev pub cutChunk : List ℕ → List ℕ
+cutChunk s = take 65536 s
+
+-- What a call on a chunk gives.
+abbrev pub chunkOf : LineReader → List ℕ → ChunkTurn
+chunkOf r s = feedOf r (cutChunk s)
+
+-- ---- what a function returns
+
+-- What is told and how many bytes were taken, with the reader that is left.
+pub record ChunkIs (next : LineReader) (told : Told) (taken : ℕ) (t : ChunkTurn) : Type 0 where
+  pub told-is : toldMeans told ≡ summaryOf (t .answer)
+  pub next-is : next ≡ t .next
+  pub taken-is : taken ≡ t .taken
+
+-- Over a lent array, with `bytes` in it afterwards.
+abbrev pub ChunkStepIs : (bytes : List ℕ) → ChunkStep → ChunkTurn → Type 0
+ChunkStepIs bytes s t = ChunkIs (lentReader bytes (s .state)) (s .told) (s .taken) t
+
+-- On a whole reader: what is answered, and every field of the reader afterwards.
+abbrev pub ChunkAnswerIs : (next : LineReader) → ChunkAnswer → ChunkTurn → Type 0
+ChunkAnswerIs next a t = ChunkIs next (a .told) (a .taken) t

@@ -1,20 +1,24 @@
 -- Contracts of private functions, which no caller reads: an open candidate with one byte more, the array beside an
--- answer, and runs of bytes that are no flags.
+-- answer, runs of bytes that are no flags, and candidates that stand whole in a chunk.
 use mathlib.Core.Path.{_≡_}
 use mathlib.Core.Bool.{Bool, true, false}
 use mathlib.Core.List.{List, []}
 use lib.Dec.{ltb}
-use lib.ListN.{take, drop, set}
+use lib.ListN.{length, take, drop, set}
 use Rattle.lists.specs.Choice.{pick}
+use Rattle.lists.specs.Splice.{splice}
 use Rattle.lists.specs.Machine.{leftAfter}
 use Rattle.framing.specs.Reference.{plain}
-use Rattle.answer.specs.Answer.{result, refused}
-use Rattle.frame.specs.Answers.{standardOutline, extendedOutline}
-use Rattle.line.specs.Outcome.{capacity, Summary, silent, tells, summaryOf, outcomeOf, padded}
+use Rattle.answer.specs.Answer.{Answer, result, refused}
+use Rattle.frame.specs.Leading.{leadingCount}
+use Rattle.frame.specs.Verdict.{verdict, bodyOf}
+use Rattle.frame.specs.Answers.{FrameOutline, standardOutline, extendedOutline, judgeAnswer, leftIn}
+use Rattle.line.specs.Outcome.{capacity, Summary, silent, tells, toldMeans, summaryOf, outcomeOf, padded}
 use Prim.Native.Nat.{ℕ, _+_, _≤_}
 use Rattle.line.specs.Feed.{laterBy, feedOf}
 use Rattle.line.specs.Reader.{ReaderTurn, reader, roleStep}
 use Rattle.line.specs.declared.LineReader.{LineReader}
+use Rattle.line.specs.declared.Told.{Told}
 use Rattle.line.specs.declared.Mode.{Mode}
 use Rattle.line.specs.declared.Mode.the-variants.{Outside, InStandard, InExtended, Overlong}
 
@@ -51,3 +55,28 @@ afterRun r run = leftAfter (λ r b. roleStep plain r b .next) r run
 pub record Reaches (s : List ℕ) (from : ℕ) (r : LineReader) (at : ℕ) (next : LineReader) : Type 0 where
   pub onward : from ≤ at
   pub same : laterBy from (feedOf r (drop from s)) ≡ laterBy at (feedOf next (drop at s))
+
+-- ---- candidates that stand whole in a chunk
+
+-- How many bytes the candidate has that bytes begin with, where none is open before them.
+abbrev pub leadingIn : Mode → List ℕ → ℕ
+leadingIn Outside s = leadingCount s
+leadingIn InStandard s = 0
+leadingIn InExtended s = 0
+leadingIn Overlong s = 0
+
+-- How many contents bytes an answer tells of.
+abbrev pub contentsCount : Answer FrameOutline → ℕ
+contentsCount (result (standardOutline len)) = len
+contentsCount (result (extendedOutline to from len)) = len
+contentsCount (refused n) = 0
+
+-- What a whole candidate leaves in an array: what its bytes leave there that were held, and judged in place.
+abbrev pub leftByWhole : (bytes wire : List ℕ) → List ℕ
+leftByWhole bytes wire = leftIn (verdict wire) (splice bytes 0 (bodyOf wire))
+
+-- A candidate that was judged as it stands.
+pub record JudgedWhole (bytes wire left : List ℕ) (told : Told) : Type 0 where
+  pub array : length bytes ≡ capacity
+  pub told-is : toldMeans told ≡ tells (judgeAnswer (verdict wire))
+  pub left-is : left ≡ leftByWhole bytes wire

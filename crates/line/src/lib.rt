@@ -1,6 +1,8 @@
-// The line reader: fed one byte at a time, or several up to the first that is answered, it tells of each frame and each
-// refusal at the call where it ends. Document 01, "The line".
+// The line reader: fed one byte at a time, or a chunk up to the first byte that is answered, it tells of each frame and
+// each refusal at the call where it ends. Document 01, "The line"; document 02, No. 4.
+mod chunk;
 mod runs;
+mod whole;
 
 use answer::Refusal;
 use frame::Kind;
@@ -18,8 +20,7 @@ ghost use Rattle.line.specs.Outcome.{toldMeans, tells, summaryOf, nothin
 ghost use Rattle.line.specs.Rowing.{rowing, rowingBounds};
 ghost use Rattle.line.specs.Reader.{lentReader, reader, newReader, modeSeen, roleStep, stepOf, finishOf};
 ghost use Rattle.line.specs.Reader.{LentStepIs, StepIs, ReaderTurn};
-ghost use Rattle.line.specs.declared.Told.the-variants.{Nothing};
-ghost use Rattle.line.specs.Feed.{says, feedOf, ChunkStepIs};
+ghost use Rattle.line.specs.Feed.{chunkOf, ChunkStepIs, ChunkAnswerIs};
 ghost use Rattle.line.specs.Private.{withByte, Whole, besideTold};
 
 // The most bytes that may stand between the flags of a frame.
@@ -27,6 +28,9 @@ const ROOM: usize = 118;
 
 // How many bytes are held right after a flag.
 const FRESH: usize = 0;
+
+// The most bytes of a chunk that a call takes.
+pub const CHUNK_LIMIT: usize = 65536;
 
 // What a call tells. A frame's contents are the first bytes of an array beside it.
 pub enum Told {
@@ -76,12 +80,24 @@ pub struct LentStep {
     pub state: State,
 }
 
-// The answer to several bytes fed at once over a lent array, the state afterwards, and how many of the bytes were
-// taken.
+// The answer to a chunk over a lent array, the state afterwards, and how many bytes of the chunk were taken.
 pub struct ChunkStep {
     pub told: Told,
     pub state: State,
     pub taken: usize,
+}
+
+// The answer to a chunk, and how many of its bytes were taken. A frame's contents are the first bytes of the array in
+// the reader afterwards.
+pub struct ChunkAnswer {
+    pub told: Told,
+    pub taken: usize,
+}
+
+// The answer to a chunk, and the reader afterwards.
+pub struct ChunkFed {
+    pub answer: ChunkAnswer,
+    pub next: LineReader,
 }
 
 impl LineReader {
@@ -105,6 +121,23 @@ impl LineReader {
         let state = self.state;
         let step = step_in(&mut bytes, state, b);
         by_value(step, bytes)
+    }
+
+    // Feeds a chunk up to the first byte that is answered; with no answer it takes all of it. A chunk of more than 65,536
+    // bytes is cut to its first 65,536.
+    pub fn feed(self, chunk: &[u8]) -> ChunkFed
+        ensures { λ r. ⌜ ChunkAnswerIs (r .next) (r .answer) (chunkOf self (now (chunk .entry))) ⌝ }
+    {
+        let mut bytes = self.bytes;
+        let before = self.state;
+        let step = feed_in(&mut bytes, before, chunk);
+        let told = step.told;
+        let taken = step.taken;
+        let state = step.state;
+        ChunkFed {
+            answer: ChunkAnswer { told, taken },
+            next: LineReader { bytes, state },
+        }
     }
 
     // Ends the input: a candidate that is open is truncated, and the reader is as new.
@@ -143,59 +176,24 @@ pub fn finish_in(state: State) -> LentStep
     restart(mode, Mode::Outside)
 }
 
-// Feeds bytes to a reader whose array is lent, up to the first that is answered; with no answer it takes all of them.
-// Runs of bytes that are no flags are taken whole, and the flags go through `step_in`.
-pub fn feed_in(bytes: &mut [u8; 118], state: State, input: &[u8]) -> ChunkStep
+// Feeds a chunk to a reader whose array is lent and whose state goes in and comes back, as `LineReader::feed` does, and
+// copies nothing but the bytes that it holds.
+pub fn feed_in(bytes: &mut [u8; 118], state: State, chunk: &[u8]) -> ChunkStep
     ensures { λ r. ⌜ ChunkStepIs (now (bytes .exit)) r
-        (feedOf (lentReader (now (bytes .entry)) state) (now (input .entry))) ⌝ }
+        (chunkOf (lentReader (now (bytes .entry)) state) (now (chunk .entry))) ⌝ }
 {
-    let mut s = state;
-    let mut i: usize = 0;
-    while i < input.len() {
-        let run = runs::consume(bytes, s, input, i);
-        s = run.state;
-        let j = run.at;
-        if input.len() <= j {
-            return unanswered(s, j);
-        }
-        let step = step_in(bytes, s, input[j]);
-        s = step.state;
-        i = j + 1;
-        let told = step.told;
-        if is_answer(told) {
-            return ChunkStep {
-                told,
-                state: s,
-                taken: i,
-            };
-        }
-    }
-    unanswered(s, i)
+    let most = lists::lesser(CHUNK_LIMIT, chunk.len());
+    chunk::feed_all(bytes, state, &chunk[..most])
 }
 
-fn unanswered(state: State, taken: usize) -> ChunkStep
-    ensures { λ r. ⌜ r ≡ record { told = Nothing; state = state; taken = taken } ⌝ }
+// Feeds a chunk to a reader that is lent, as `LineReader::feed` does, and leaves the next reader in its place. The
+// contents of a frame are read from the lent reader.
+pub fn feed_lent(reader: &mut LineReader, chunk: &[u8]) -> ChunkAnswer
+    ensures { λ r. ⌜ ChunkAnswerIs (now (reader .exit)) r (chunkOf (now (reader .entry)) (now (chunk .entry))) ⌝ }
 {
-    ChunkStep {
-        told: Told::Nothing,
-        state,
-        taken,
-    }
-}
-
-fn is_answer(told: Told) -> bool
-    ensures { λ r. ⌜ r ≡ says (toldMeans told) ⌝ }
-{
-    match told {
-        Told::Nothing => false,
-        Told::Refused(_) => true,
-        Told::Standard { len: _ } => true,
-        Told::Extended {
-            to: _,
-            from: _,
-            len: _,
-        } => true,
-    }
+    let fed = LineReader::feed(*reader, chunk);
+    *reader = fed.next;
+    fed.answer
 }
 
 // A start flag, or the end of input: whatever is open is truncated.

@@ -4,10 +4,11 @@ use crate::State;
 use frame::flags;
 ghost use mathlib.Core.Path.{_≡_};
 ghost use mathlib.Core.Bool.{true};
-ghost use Prim.Native.Nat.{_+_, _<_};
+ghost use Prim.Native.Nat.{_+_, _≤_, _<_};
 ghost use lib.ListN.{length, drop};
 ghost use Rattle.lists.specs.Choice.{countBefore};
 ghost use Rattle.frame.specs.Flags.{isFlag};
+ghost use Rattle.line.specs.Outcome.{capacity};
 ghost use Rattle.line.specs.Reader.{lentReader, reader};
 ghost use Rattle.line.specs.Private.{isHeld, Reaches, afterRun};
 
@@ -74,7 +75,7 @@ fn hold(bytes: &mut [u8; 118], len: usize, mode: Mode, run: &[u8]) -> State
         if run.len() <= room {
             lists::copy_short(run, bytes, len);
             return State {
-                len: len + run.len(),
+                len: held_with(len, run),
                 mode,
             };
         }
@@ -84,4 +85,13 @@ fn hold(bytes: &mut [u8; 118], len: usize, mode: Mode, run: &[u8]) -> State
         len: crate::FRESH,
         mode: Mode::Overlong,
     }
+}
+
+// How many bytes are held with those of a run.
+fn held_with(len: usize, run: &[u8]) -> usize
+    requires { ⌜ len + length (now run) ≤ capacity ⌝ }
+    requires { ⌜ 0 < length (now run) ⌝ }
+    ensures { λ r. ⌜ r ≡ len + length (now (run .entry)) ⌝ }
+{
+    len + run.len()
 }

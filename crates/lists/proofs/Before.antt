@@ -48,8 +48,8 @@ module _ (p : ℕ → Bool) where
       let q : countBefore p (drop i s) ≡ 0 = ap (countBefore p) (drop-of-length-le s {i = i} h) in
       omega (arith, so-far, q)
 
-  -- a part in which no element passes
-  clear-front : (n : ℕ) (s : List ℕ) → n ≤ length s → noneOf p (take n s) ≡ true
+  -- A part in which no element passes.
+  pub clear-front : (n : ℕ) (s : List ℕ) → n ≤ length s → noneOf p (take n s) ≡ true
       → countBefore p s ≡ n + countBefore p (drop n s)
   unfolding countBefore noneOf
   clear-front zero s h e = sym (zero-add (countBefore p s))

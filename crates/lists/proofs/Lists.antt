@@ -1,7 +1,7 @@
 -- Laws on parts of lists.
-use Prim.Native.Nat.{ℕ, suc, _+_, _-_, _≤_, _<_}
-use mathlib.Core.Path.{_≡_, sym, ap, _∙_}
-use mathlib.Core.List.{List, [], _∷_, _++_, append-assoc}
+use Prim.Native.Nat.{ℕ, zero, suc, _+_, _-_, _≤_, _<_}
+use mathlib.Core.Path.{_≡_, refl, sym, ap, _∙_}
+use mathlib.Core.List.{List, [], _∷_, _++_, map, append-assoc}
 use native.Mathlib.Numerals.{add-one}
 use native.Mathlib.Omega.{arith}
 use lib.Dec.{leb}
@@ -88,6 +88,19 @@ take-lesser s len n e =
     (λ y. let q : n ≡ length s = simp y at e in
     let h : length s < len = leb-false _ _ y in
     (take-all n s (omega arith) ∙ sym (take-all len s (omega arith)), omega arith))
+
+-- The first elements are at most so many, and at most those of the list.
+pub take-bounds : (n : ℕ) (s : List ℕ) → (length (take n s) ≤ n) × (length (take n s) ≤ length s)
+take-bounds zero s = (omega arith, omega arith)
+take-bounds (suc n) [] = (omega arith, omega arith)
+take-bounds (suc n) (x ∷ s) =
+    let k = take-bounds n s in (omega (arith, k .0), omega (arith, k .1))
+
+-- The first elements, each changed.
+pub take-map : {A B : Type 0} (f : A → B) (n : ℕ) (s : List A) → take n (map f s) ≡ map f (take n s)
+take-map f zero s = refl
+take-map f (suc n) [] = refl
+take-map f (suc n) (x ∷ s) = ap (λ l. f x ∷ l) (take-map f n s)
 
 -- The last element by itself.
 pub last-apart : (s : List ℕ) → 1 ≤ length s → s ≡ take (length s - 1) s ++ (getD s (length s - 1) 0 ∷ [])

@@ -1,7 +1,10 @@
 -- Laws of a machine run on a list of calls.
 use mathlib.Core.Path.{_≡_, refl, sym, ap, ap₂, _∙_}
 use mathlib.Core.Bool.{Bool, true, false}
-use mathlib.Core.List.{List, [], _∷_, _++_, map}
+use mathlib.Core.List.{List, [], _∷_, _++_, map, append-assoc}
+use Prim.Native.Nat.{ℕ, _≤_}
+use lib.ListN.{length, take, drop, take-append-drop}
+use lib.Seq.{drop-append-le}
 use Rattle.lists.specs.Machine.{run, leftAfter, only, answersOnly, Ran, ended, call, RanBy, ended-by, call-by}
 use Rattle.lists.specs.Choice.{Every}
 use Rattle.lists.proofs.Cases.{by-bool}
@@ -90,20 +93,33 @@ module _ {S T C A : Type 0} (called : S → C → A → S → Type 0) (answer : 
         r .1 ∙ ap (λ (v : T). leftAfter next v calls) (e .1),
       )
 
--- The same where one call stands for several.
-module _ {S T C A : Type 0} (made : S → List C → List A → S → Type 0) (answer : T → C → A) (next : T → C → T)
+-- The first elements of a list, and what is left of it with others after it.
+cut-append : {C : Type 0} (n : ℕ) (given later : List C) → n ≤ length given
+    → take n given ++ drop n (given ++ later) ≡ given ++ later
+cut-append n given later h =
+    ap (λ l. take n given ++ l) (drop-append-le n given later h)
+    ∙ sym (append-assoc (take n given) (drop n given) later)
+    ∙ ap (λ l. l ++ later) (take-append-drop n given)
+
+-- The same where one call is given several, and takes the first of them.
+module _ {S T C A : Type 0} (made : S → List C → ℕ → List A → S → Type 0) (answer : T → C → A) (next : T → C → T)
     (seen : S → T)
-    (each : (s t : S) (cs : List C) (rs : List A) → made s cs rs t
-    → (rs ≡ run answer next (seen s) cs) × (seen t ≡ leftAfter next (seen s) cs)) where
+    (each : (s t : S) (given : List C) (taken : ℕ) (first : List A) → made s given taken first t
+    → (taken ≤ length given) × (first ≡ run answer next (seen s) (take taken given))
+    × (seen t ≡ leftAfter next (seen s) (take taken given))) where
   pub ran-by-run : {s u : S} {calls : List C} {answers : List A} → RanBy made s calls answers u
       → (answers ≡ run answer next (seen s) calls) × (seen u ≡ leftAfter next (seen s) calls)
   ran-by-run ended-by = (refl, refl)
-  ran-by-run (call-by s t cs rs {calls = calls} k rest) =
-      let e = each s t cs rs k in
-      let r = ran-by-run rest in (
-        ap₂ (λ (xs ys : List A). xs ++ ys) (e .0) (r .0 ∙ ap (λ (v : T). run answer next v calls) (e .1))
-            ∙ sym (run-append answer next (seen s) cs calls),
-        r .1 ∙ ap (λ (v : T). leftAfter next v calls) (e .1) ∙ sym (left-append next (seen s) cs calls),
+  ran-by-run (call-by s t given later taken first k rest) =
+      let e = each s t given taken first k in
+      let r = ran-by-run rest in
+      let calls = take taken given in
+      let left = drop taken (given ++ later) in
+      let whole = cut-append taken given later (e .0) in (
+        ap₂ (λ (xs ys : List A). xs ++ ys) (e .1) (r .0 ∙ ap (λ (v : T). run answer next v left) (e .2))
+            ∙ sym (run-append answer next (seen s) calls left) ∙ ap (run answer next (seen s)) whole,
+        r .1 ∙ ap (λ (v : T). leftAfter next v left) (e .2) ∙ sym (left-append next (seen s) calls left)
+            ∙ ap (leftAfter next (seen s)) whole,
       )
 
 -- What each call shows of itself, every call of a row has.

@@ -1,6 +1,8 @@
 -- A machine with a state of any kind, run on a list of calls: each call gets the state as the last one left it.
 use mathlib.Core.Bool.{Bool}
 use mathlib.Core.List.{List, [], _∷_, _++_}
+use Prim.Native.Nat.{ℕ}
+use lib.ListN.{drop}
 use Rattle.lists.specs.Choice.{pick}
 
 -- The answer to a call, and the state afterwards.
@@ -44,15 +46,16 @@ module _ {S C A : Type 0} (called : S → C → A → S → Type 0) where
     call : (s t : S) (c : C) (a : A) {u : S} {calls : List C} {answers : List A} → called s c a t
         → Ran t calls answers u → Ran s (c ∷ calls) (a ∷ answers) u
 
--- `made s cs rs t`: one call on the state s stands for the calls cs, was answered so that rs are the answers to them,
--- and left the state t.
-module _ {S C A : Type 0} (made : S → List C → List A → S → Type 0) where
-  -- Such calls in a row from a state on, with all calls that they stand for, the answers to these, and the state that
-  -- the last one left.
+-- `made s given taken answers t`: one call on the state s was given the calls `given`, took the first `taken` of them,
+-- which were answered so, and left the state t.
+module _ {S C A : Type 0} (made : S → List C → ℕ → List A → S → Type 0) where
+  -- Such calls in a row that get through a list of calls, with the answers to these and the state that the last one
+  -- left. Each is given any first part of what the one before it did not take.
   pub data RanBy : S → List C → List A → S → Type 0 where
     ended-by : {s : S} → RanBy s [] [] s
-    call-by : (s t : S) (cs : List C) (rs : List A) {u : S} {calls : List C} {answers : List A} → made s cs rs t
-        → RanBy t calls answers u → RanBy s (cs ++ calls) (rs ++ answers) u
+    call-by : (s t : S) (given later : List C) (taken : ℕ) (first : List A) {u : S} {answers : List A}
+        → made s given taken first t → RanBy t (drop taken (given ++ later)) answers u
+        → RanBy s (given ++ later) (first ++ answers) u
 
 module _ {S C A : Type 0} where
   -- Calls in a row from a new state on, with their answers, by what calls in a row are.
@@ -66,5 +69,5 @@ module _ {S C A : Type 0} where
   abbrev pub Answered : (S → C → A → S → Type 0) → (S → Type 0) → List C → List A → Type 0
   Answered called new calls answers = FromNew (Ran called) new calls answers
 
-  abbrev pub AnsweredBy : (S → List C → List A → S → Type 0) → (S → Type 0) → List C → List A → Type 0
+  abbrev pub AnsweredBy : (S → List C → ℕ → List A → S → Type 0) → (S → Type 0) → List C → List A → Type 0
   AnsweredBy made new calls answers = FromNew (RanBy made) new calls answers

@@ -5,17 +5,18 @@ use mathlib.Core.List.{List, [], _∷_, _++_, append-nil}
 use Prim.Native.Nat.{ℕ, suc, _+_, _-_, _^_, _≤_, _<_}
 use native.Mathlib.Nat.{zero-add, add-zero, add-assoc}
 use native.Mathlib.Omega.{arith}
-use lib.ListN.{length, take, drop}
+use lib.ListN.{length, take, drop, take-append-drop}
 use lib.Dec.{ltb}
 use borrow.Author.Tests.{le-ltb}
 use Rattle.lists.specs.Choice.{pick}
 use Rattle.line.specs.Outcome.{Outcome, nothing, judged, toldMeans, outcomeOf}
-use Rattle.line.specs.Feed.{isAnswer, ChunkTurn, chunkTurn, laterBy, feedOf, ChunkStepIs}
+use Rattle.line.specs.Feed.{isAnswer, ChunkTurn, chunkTurn, laterBy, feedOf, cutChunk, chunkOf, ChunkStepIs}
 use Rattle.line.specs.Reader.{lentReader, stepOf}
 use Rattle.frame.specs.Flags.{roleOf}
 use Rattle.line.specs.declared.ChunkStep.{ChunkStep}
 use Rattle.line.specs.declared.LineReader.{LineReader}
-use Rattle.line.proofs.ChunkCalls.{feeds-outcome}
+use Rattle.line.proofs.ChunkLaws.{first-of-cut}
+use Rattle.line.proofs.ChunkCalls.{fed-outcome}
 use Rattle.text.specs.Lines.{callLine}
 use Rattle.text.specs.Strays.{strayAt, strays}
 use Rattle.text.specs.Text.{frameOne, refusedOne}
@@ -172,12 +173,19 @@ first-leads s b bytes f false h e l =
     (counting u (f .answer) (f .next) (strays (isOpen (u .reader .state .mode)) (take (f .taken) bytes))) w)
     (quiet-next s b h a) l))
 
-feed-leads : (s : Listing) (bytes : List ℕ) → CountsFit s → LeadsTo s bytes (feedOf (s .reader) bytes)
+-- whatever comes after them
+feed-leads : (s : Listing) (bytes later : List ℕ) → CountsFit s → LeadsTo s (bytes ++ later) (feedOf (s .reader) bytes)
 unfolding feedOf
-feed-leads s [] h = subst (λ (x : Listing). Leads s [] 0 x []) (counting-none s h) (lead-none s [])
-feed-leads s (b ∷ bytes) h =
-    first-leads s b bytes (feedOf (stepOf (s .reader) b .next) bytes) (isAnswer (stepOf (s .reader) b .answer)) h refl
-    (feed-leads (quiet s b) bytes (h .0, h .1, omega arith))
+feed-leads s [] later h = subst (λ (x : Listing). Leads s later 0 x []) (counting-none s h) (lead-none s later)
+feed-leads s (b ∷ bytes) later h =
+    first-leads s b (bytes ++ later) (feedOf (stepOf (s .reader) b .next) bytes)
+    (isAnswer (stepOf (s .reader) b .answer)) h refl
+    (feed-leads (quiet s b) bytes later (h .0, h .1, omega arith))
+
+chunk-leads : (s : Listing) (chunk : List ℕ) → CountsFit s → LeadsTo s chunk (chunkOf (s .reader) chunk)
+chunk-leads s chunk h =
+    subst (λ (l : List ℕ). LeadsTo s l (chunkOf (s .reader) chunk)) (take-append-drop 65536 chunk)
+    (feed-leads s (cutChunk chunk) (drop 65536 chunk) h)
 
 feed-some : (r : LineReader) (bytes : List ℕ) → 0 < length bytes → 0 < feedOf r bytes .taken
 unfolding feedOf
@@ -189,29 +197,34 @@ feed-some r (b ∷ bytes) h = by-answer (isAnswer (stepOf r b .answer)) (feedOf 
     by-answer true f = omega arith
     by-answer false f = omega arith
 
+cut-some : (s : List ℕ) → 0 < length s → 0 < length (cutChunk s)
+cut-some [] h = absurd (omega arith)
+cut-some (b ∷ s) h = omega arith
+
 -- ---- a call on them
 
 module _ (bytes₀ : List ℕ) (t : Tally) (rest bytes : List ℕ) (f : ChunkStep)
-    (g : ChunkStepIs bytes f (feedOf (lentReader bytes₀ (t .state)) rest)) (h : CountsFit (listing bytes₀ t)) where
+    (g : ChunkStepIs bytes f (chunkOf (lentReader bytes₀ (t .state)) rest)) (h : CountsFit (listing bytes₀ t)) where
   pub advances : (n x y z fc rc sc : ℕ) → n ≡ numberAfter (t .frames) (t .refusals) → x ≡ add64 (t .frames) fc
       → fc ≡ frameCount (toldMeans (f .told))
       → y ≡ add64 (t .refusals) rc → rc ≡ refusedCount (toldMeans (f .told)) → z ≡ add64 (t .strays) sc
-      → sc ≡ strayCount (isOpen (t .state .mode)) rest
+      → sc ≡ strayCount (isOpen (t .state .mode)) (cutChunk rest)
       → {out out′ : List ℕ} {at end : ℕ} → Wrote out at (callLine n (outcomeOf (toldMeans (f .told)) bytes)) out′ end
       → end ≤ at + lineRoom
       → Advances (listing bytes₀ t) rest bytes out at out′
       (record { taken = f .taken; at = end; tally = record { state = f .state; frames = x; refusals = y; strays = z } })
   advances n x y z fc rc sc en ex efc ey erc ez esc p k =
       let s : Listing = listing bytes₀ t in
-      let d : ChunkTurn = feedOf (s .reader) rest in
+      let d : ChunkTurn = chunkOf (s .reader) rest in
       let o : Outcome = d .answer in
-      let l : LeadsTo s rest d = feed-leads s rest h in
+      let l : LeadsTo s rest d = chunk-leads s rest h in
       let fr : add64 (t .frames) (frameOne o) ≡ x =
       sym (ex ∙ ap (add64 (t .frames)) (efc ∙ ap frameCount (g .told-is) ∙ frame-count o)) in
       let re : add64 (t .refusals) (refusedOne o) ≡ y =
       sym (ey ∙ ap (add64 (t .refusals)) (erc ∙ ap refusedCount (g .told-is) ∙ refused-count o)) in
       let st : add64 (t .strays) (strays (isOpen (t .state .mode)) (take (d .taken) rest)) ≡ z =
-      sym (ez ∙ ap (add64 (t .strays)) (esc ∙ sym (stray-count-is (s .reader) rest))) in
+      sym (ez ∙ ap (add64 (t .strays)) (esc ∙ sym (stray-count-is (s .reader) (cutChunk rest))
+      ∙ ap (strays (isOpen (t .state .mode))) (first-of-cut (s .reader) rest))) in
       let next : counting s o (d .next) (strays (isOpen (t .state .mode)) (take (d .taken) rest))
       ≡ listing bytes (record { state = f .state; frames = x; refusals = y; strays = z }) =
       (λ i. record { reader = sym (g .next-is) i; frames = fr i; refusals = re i; strays = st i }) in
@@ -222,9 +235,10 @@ module _ (bytes₀ : List ℕ) (t : Tally) (rest bytes : List ℕ) (f : ChunkSte
             subst (λ (i : ℕ). Leads s rest i
             (listing bytes (record { state = f .state; frames = x; refusals = y; strays = z })) w) (sym (g .taken-is))
             (subst (λ (u : Listing). Leads s rest (d .taken) u w) next l);
-        some = λ e. omega (arith, g .taken-is, feed-some (s .reader) rest e);
+        some = λ e. omega (arith, g .taken-is, feed-some (s .reader) (cutChunk rest) (cut-some rest e));
         wrote =
             wrote-as (ap (λ (i : ℕ). callLine i (outcomeOf (toldMeans (f .told)) bytes)) en
-            ∙ ap (callLine (numberAfter (t .frames) (t .refusals))) (feeds-outcome bytes f (s .reader) rest g)) p;
+            ∙ ap (callLine (numberAfter (t .frames) (t .refusals)))
+            (fed-outcome (lentReader bytes (f .state)) (f .told) (f .taken) (s .reader) (cutChunk rest) g)) p;
         within = k;
       }

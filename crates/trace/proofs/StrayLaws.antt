@@ -13,11 +13,12 @@ use borrow.Author.Tests.{eqb-true}
 use Rattle.lists.specs.Choice.{pick, countBefore}
 use Rattle.lists.proofs.Before.{before-fits}
 use Rattle.lists.proofs.Cases.{by-bool}
+use Rattle.lists.proofs.Lists.{take-bounds}
 use Rattle.framing.specs.Reference.{Role, starts, stops, plain}
 use Rattle.framing.specs.Bounded.{terminatedIn}
 use Rattle.frame.proofs.FlagLaws.{isStarts, role-tests}
 use Rattle.line.specs.Outcome.{summaryOf}
-use Rattle.line.specs.Feed.{isAnswer, ChunkTurn, chunkTurn, laterBy, feedOf, ChunkStepIs}
+use Rattle.line.specs.Feed.{isAnswer, ChunkTurn, chunkTurn, laterBy, feedOf, cutChunk, chunkOf, ChunkStepIs}
 use Rattle.line.specs.Rowing.{rowing, rowingBounds}
 use Rattle.line.specs.Reader.{modeSeen, reader, roleStep, stepOf}
 use Rattle.line.proofs.FeedLaws.{plus-zero}
@@ -144,15 +145,21 @@ module _ (r : LineReader) (rest : List ℕ) (k n : ℕ) (ek : k ≡ strayCount (
       rw u (by-mode (r .state .mode) (r .bytes) rest n (q ∙ ek)))
       (λ y. let q : n ≡ 0 = simp y at en in none-passed r rest n q)
 
-  -- the bytes after them are fed, as the code takes them
-  pub passed-fed : (bytes : List ℕ) (f : ChunkStep)
-      → ChunkStepIs bytes f (feedOf r (take (length rest - n) (drop n rest)))
-      → ChunkStepIs bytes (record { told = f .told; state = f .state; taken = n + f .taken }) (feedOf r rest)
-  passed-fed bytes f g =
-      let part : take (length rest - n) (drop n rest) ≡ drop n rest =
-      take-all (length rest - n) (drop n rest) (omega (arith, length-drop n rest)) in
-      let q : laterBy n (feedOf r (take (length rest - n) (drop n rest))) ≡ feedOf r rest =
-      ap (λ (l : List ℕ). laterBy n (feedOf r l)) part ∙ sym passed-same in
+-- the bytes after them are fed, as the code takes them
+module _ (r : LineReader) (rest : List ℕ) (k n : ℕ) (ek : k ≡ strayCount (isOpen (r .state .mode)) (cutChunk rest))
+    (en : n ≡ passedOver (r .state .len) k) where
+  pub passed-fed : (bytes : List ℕ) (f : ChunkStep) (chunk : List ℕ) → chunk ≡ cutChunk rest
+      → ChunkStepIs bytes f (chunkOf r (take (length chunk - n) (drop n chunk)))
+      → ChunkStepIs bytes (record { told = f .told; state = f .state; taken = n + f .taken }) (chunkOf r rest)
+  passed-fed bytes f chunk e g =
+      let part : take (length chunk - n) (drop n chunk) ≡ drop n chunk =
+      take-all (length chunk - n) (drop n chunk) (omega (arith, length-drop n chunk)) in
+      let whole : cutChunk (drop n chunk) ≡ drop n chunk =
+      take-all 65536 (drop n chunk) (omega (arith, length-drop n chunk, ap length e, take-bounds 65536 rest .0)) in
+      let q : laterBy n (chunkOf r (take (length chunk - n) (drop n chunk))) ≡ chunkOf r rest =
+      ap (λ (l : List ℕ). laterBy n (chunkOf r l)) part
+      ∙ ap (λ (l : List ℕ). laterBy n (feedOf r l)) (whole ∙ ap (drop n) e)
+      ∙ sym (passed-same r (cutChunk rest) k n ek en) in
       record {
         told-is = g .told-is ∙ ap (λ (t : ChunkTurn). summaryOf (t .answer)) q;
         next-is = g .next-is ∙ ap (λ (t : ChunkTurn). t .next) q;

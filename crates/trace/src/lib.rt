@@ -12,7 +12,7 @@ ghost use Prim.Native.Nat.{_+_, _≤_};
 ghost use lib.ListN.{length};
 ghost use Rattle.answer.specs.Answer.{result};
 ghost use Rattle.answer.specs.Draft.{draftAnswer, draftOut, writtenMeans};
-ghost use Rattle.line.specs.Feed.{feedOf, ChunkStepIs};
+ghost use Rattle.line.specs.Feed.{cutChunk, chunkOf, ChunkStepIs};
 ghost use Rattle.line.specs.Outcome.{toldMeans};
 ghost use Rattle.line.specs.Reader.{lentReader};
 ghost use Rattle.text.specs.Writing.{Wrote, lineRoom};
@@ -53,7 +53,7 @@ struct Advanced {
     tally: Tally,
 }
 
-// What bytes up to the first that is answered give, and how many of them are stray.
+// What a chunk gives, and how many of the bytes taken are stray.
 struct Fed {
     step: ChunkStep,
     strays: u64,
@@ -154,8 +154,8 @@ fn listed_of(taken: usize, wrote: usize, bytes: [u8; 118], t: Tally) -> Listed
     }
 }
 
-// Takes bytes up to the first that is answered, at least one, and writes its line at an index where there is room for
-// any.
+// Takes bytes up to the first that is answered, at least one and at most 65,536, and writes the line of an answer at an
+// index where there is room for any.
 fn advance(bytes: &mut [u8; 118], t: Tally, rest: &[u8], out: &mut [u8], at: usize) -> Advanced
     requires { ⌜ at + lineRoom ≤ length (now out) ⌝ }
     ensures { λ r. ⌜ Advances (listing (now (bytes .entry)) t) (now (rest .entry)) (now (bytes .exit))
@@ -186,17 +186,18 @@ fn advance(bytes: &mut [u8; 118], t: Tally, rest: &[u8], out: &mut [u8], at: usi
     }
 }
 
-// Feeds bytes up to the first that is answered. The stray bytes are counted first, and passed over where they would
-// leave the reader as it is, so that they are looked at once.
+// Feeds a chunk, as far as the line reader takes one. The stray bytes are counted first, and passed over where they
+// would leave the reader as it is, so that they are looked at once.
 fn feed(bytes: &mut [u8; 118], before: State, rest: &[u8]) -> Fed
     ensures { λ r. ⌜ ChunkStepIs (now (bytes .exit)) (r .step)
-        (feedOf (lentReader (now (bytes .entry)) before) (now (rest .entry))) ⌝ }
-    ensures { λ r. ⌜ r .strays ≡ strayCount (isOpen (before .mode)) (now (rest .entry)) ⌝ }
+        (chunkOf (lentReader (now (bytes .entry)) before) (now (rest .entry))) ⌝ }
+    ensures { λ r. ⌜ r .strays ≡ strayCount (isOpen (before .mode)) (cutChunk (now (rest .entry))) ⌝ }
 {
     let mode = before.mode;
-    let strays = stray_count(mode, rest);
+    let chunk = &rest[..lists::lesser(line::CHUNK_LIMIT, rest.len())];
+    let strays = stray_count(mode, chunk);
     let passed = passed_over(before.len, strays);
-    let step = line::feed_in(bytes, before, &rest[passed..]);
+    let step = line::feed_in(bytes, before, &chunk[passed..]);
     let told = step.told;
     let state = step.state;
     let taken = passed + step.taken;

@@ -12,18 +12,21 @@ feed-in-requires c κs = search needs
 
 pack-state-requires : tie.Need-pack-state-requires
 pack-state-requires c κs =
-    fed-len-fits _ _ _ _ _ (c .before .feed-in .ensures)
-    (c .before .before .before .before .before .before .args .state .now)
+    let a = c .before .before .before .before .before .before .args in
+    fed-len-fits _ (a .input .now) _ _ _ (c .before .feed-in .ensures) (a .state .now)
     (omega (arith, c .before .before .before .before .row-known))
     (c .before .before .before .state-in .ensures)
 
 of-told-requires : tie.Need-of-told-requires
-of-told-requires c κs = fed-within _ _ _ _ _ (c .before .before .feed-in .ensures)
+of-told-requires c κs =
+    let f = c .before .before in
+    fed-within _ (f .before .before .before .before .before .args .input .now) _ _ _ (f .feed-in .ensures)
 
 returns : tie.Need-returns
 returns c =
     let f = c .before .before .before in
-    fed-as _ _ _ _ _ (f .feed-in .ensures) _ (f .before .before .before .before .before .args .state .now) _
+    let a = f .before .before .before .before .before .args in
+    fed-as _ (a .input .now) _ _ _ (f .feed-in .ensures) _ (a .state .now) _
     (f .before .before .state-in .ensures)
     (c .before .pack-state .ensures) (c .of-told .ensures)
 

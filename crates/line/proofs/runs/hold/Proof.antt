@@ -1,8 +1,10 @@
-use mathlib.Core.Path.{_≡_, sym}
+use mathlib.Core.Path.{_≡_, sym, ap, _∙_}
+use Prim.Native.Nat.{ℕ}
 use native.Mathlib.Omega.{arith}
 use lib.ListN.{length}
 use lib.Seq.{length-take-le}
 use Rattle.line.specs.Outcome.{capacity}
+use Rattle.line.specs.Reader.{reader}
 use Rattle.line.proofs.RunLaws.{kept-all, kept-first, full-run}
 use borrow.Author.Needs.{needs}
 use Rattle.line.proofs.runs.hold.Statement.{statement}
@@ -14,16 +16,18 @@ sub-room c = search needs
 copy-short-requires : tie.Need-copy-short-requires
 copy-short-requires c κs = search needs
 
-add-t13 : tie.Need-add-t13
-add-t13 c = search needs
+held-with-requires : tie.Need-held-with-requires
+held-with-requires c κs = (search needs, search needs)
 
 returns : tie.Need-returns
 returns c =
-    let i = c .before .before in
+    let k = c .before in
+    let i = k .before .before in
     let p = i .before .before .before in
     let a : length (p .args .bytes .now) ≡ capacity = search needs in
-    kept-all (p .args .mode) (p .pre .0) (p .args .run .now) (p .args .bytes .now) _ (p .args .len) a
-    (i .before .if1 .taken) (i .if2 .taken) (c .copy-short .ensures)
+    ap (λ (n : ℕ). reader (k .copy-short .last .1 .0) n (p .args .mode)) (c .held-with .ensures)
+    ∙ kept-all (p .args .mode) (p .pre .0) (p .args .run .now) (p .args .bytes .now) _ (p .args .len) a
+    (i .before .if1 .taken) (i .if2 .taken) (k .copy-short .ensures)
 
 slice-aggregate-copy-short : tie.Need-slice-aggregate-copy-short
 slice-aggregate-copy-short c = sym (length-take-le _ _ (omega (arith, c .before .if2 .left)))
@@ -51,7 +55,7 @@ hold-spec =
     (tie.spec
     sub-room
     copy-short-requires
-    add-t13
+    held-with-requires
     returns
     slice-aggregate-copy-short
     copy-short-requires-2

@@ -1,0 +1,325 @@
+-- Laws of a candidate that stands whole in a chunk: what its bytes give that are fed singly, and what a slice that is
+-- read into the array leaves there.
+use mathlib.Core.Path.{_≡_, refl, sym, ap, ap₂, _∙_, subst}
+use mathlib.Core.Bool.{true}
+use mathlib.Core.List.{List, [], _∷_, _++_, append-assoc}
+use native.Mathlib.Omega.{arith}
+use lib.Dec.{ltb}
+use lib.ListN.{length, getD, take, drop, length-drop, length-append}
+use lib.Seq.{drop-drop, drop-append-le, take-at, take-all, take-take, length-take-le}
+use Prim.Native.Nat.{ℕ, _+_, _-_, _≤_, _<_}
+use borrow.Author.Tests.{le-leb, ltb-true, ltb-false}
+use Rattle.lists.specs.Choice.{noneOf, countBefore}
+use Rattle.lists.specs.Splice.{splice, copied}
+use Rattle.lists.proofs.Cases.{by-bool}
+use Rattle.lists.proofs.Lists.{drop-take}
+use Rattle.lists.proofs.Splices.{splice-next, length-splice, copied-fits}
+use Rattle.framing.specs.Bounded.{inside}
+use Rattle.answer.specs.Answer.{Answer, result, refused}
+use Rattle.answer.specs.Draft.{draftOut}
+use Rattle.frame.specs.Flags.{startFlag, stopFlag, isStart, isFlag, candidateOf}
+use Rattle.frame.specs.Frame.{Frame, standard, extended, contentsOf}
+use Rattle.frame.specs.Verdict.{Verdict, verdict, bodyOf}
+use Rattle.frame.specs.Leading.{isStopAt, leadingCount}
+use Rattle.frame.specs.Answers.{FrameOutline, judgeAnswer, readAnswer, readOut, leftIn}
+use Rattle.frame.specs.declared.Kind.{Kind}
+use Rattle.frame.specs.declared.Kind.the-variants.{Standard, Extended}
+use Rattle.frame.proofs.VerdictLaws.{whole-body}
+use Rattle.frame.proofs.ContentsLaws.{accepted-shrinks}
+use Rattle.frame.proofs.LeadingLaws.{leadingKind, leadingBody, leadingRest, leads, leading-short, leading-clear}
+use Rattle.frame.proofs.LeadingLaws.{leading-count, leading-wire, leading-some, verdict-none}
+use Rattle.line.specs.Outcome.{judged, capacity, toldMeans, summaryOf}
+use Rattle.line.specs.Reader.{lentReader, reader, modeIn}
+use Rattle.line.specs.Feed.{ChunkTurn, chunkTurn, laterBy, feedOf, ChunkStepIs}
+use Rattle.line.specs.Private.{isHeld, leadingIn, contentsCount, leftByWhole, JudgedWhole}
+use Rattle.line.specs.declared.LineReader.{LineReader}
+use Rattle.line.specs.declared.State.{State}
+use Rattle.line.specs.declared.Told.{Told}
+use Rattle.line.specs.declared.ChunkStep.{ChunkStep}
+use Rattle.line.specs.declared.Mode.{Mode}
+use Rattle.line.specs.declared.Mode.the-variants.{Outside, InStandard, InExtended, Overlong}
+use Rattle.line.proofs.RunLaws.{feed-run, held-run}
+
+-- ---- a slice that is read into the array
+
+-- There is room for the contents, so reading answers what judging does.
+pub read-judges : (w : List ℕ) (room : ℕ) → capacity ≤ room → readAnswer (verdict w) room ≡ judgeAnswer (verdict w)
+unfolding readAnswer judgeAnswer
+read-judges w room h = of-verdict (verdict w) refl
+  where
+    of-verdict : (v : Verdict) → verdict w ≡ v → readAnswer v room ≡ judgeAnswer v
+    of-verdict (refused n) e = refl
+    of-verdict (result f) e =
+        let k = accepted-shrinks w f e in
+        let l : length (contentsOf f) ≤ room = omega (arith, k .0, k .1) in
+        simp (le-leb (length (contentsOf f)) room l)
+
+-- The contents are no more than the bytes between the flags.
+pub count-inside : (w : List ℕ) → contentsCount (judgeAnswer (verdict w)) ≤ length (bodyOf w)
+unfolding judgeAnswer contentsOf
+count-inside w = of-verdict (verdict w) refl
+  where
+    of-verdict : (v : Verdict) → verdict w ≡ v → contentsCount (judgeAnswer v) ≤ length (bodyOf w)
+    of-verdict (refused n) e = omega arith
+    of-verdict (result (standard c)) e = omega (arith, accepted-shrinks w (standard c) e .0)
+    of-verdict (result (extended to from c)) e = omega (arith, accepted-shrinks w (extended to from c) e .0)
+
+count-of : (f : Frame) → contentsCount (judgeAnswer (result f)) ≡ length (contentsOf f)
+unfolding judgeAnswer contentsOf
+count-of (standard c) = refl
+count-of (extended to from c) = refl
+
+-- What reading leaves, with the bytes between the flags put behind the contents.
+pub left-filled : (v : Verdict) (out body last : List ℕ) (n : ℕ) → n ≡ contentsCount (judgeAnswer v)
+    → n ≤ length body → length body ≤ length out
+    → last ≡ copied (readOut v out) n (drop n body) → last ≡ leftIn v (splice out 0 body)
+unfolding judgeAnswer readOut draftOut leftIn
+left-filled (refused m) out body last n e i h k =
+    copied-fits body out last 0 (omega arith) (k ∙ ap (λ (j : ℕ). copied out j (drop j body)) e)
+left-filled (result f) out body last n e i h k =
+    let c : List ℕ = contentsOf f in
+    let en : n ≡ length c = e ∙ count-of f in
+    let z : 0 + length c ≡ length c = omega arith in
+    let room : 0 + length c ≤ length out = omega arith in
+    let first : readOut (result f) out ≡ splice out 0 c =
+    simp (le-leb (length c) (length out) (omega arith)) (ap (λ (m : ℕ). c ++ drop m out) (sym z)) in
+    let all : length (readOut (result f) out) ≡ length out = ap length first ∙ length-splice out 0 c room in
+    let rest = drop n body in
+    let put = copied-fits rest (readOut (result f) out) last n (omega (arith, all, length-drop n body)) k in
+    let width : 0 + length (c ++ rest) ≡ 0 + length body =
+    omega (arith, length-append c rest, length-drop n body, en) in
+    let past = drop (0 + length body) out in
+    splice-next out 0 c rest n room first (omega arith) put
+    ∙ append-assoc c rest (drop (0 + length (c ++ rest)) out)
+    ∙ ap (λ (m : ℕ). c ++ (rest ++ drop m out)) width
+    ∙ ap (λ (l : List ℕ). c ++ l) (sym (drop-append-le n body past i))
+    ∙ ap (λ (m : ℕ). c ++ drop m (body ++ past)) en
+
+-- the call that reads a slice w, by what it answers and how many contents bytes that tells of
+module _ (w bytes : List ℕ) (some : 2 ≤ length w) (short : length w ≤ 120) (array : length bytes ≡ capacity)
+    (a : Answer FrameOutline) (answers : a ≡ readAnswer (verdict w) (length bytes)) (n : ℕ)
+    (counts : n ≡ contentsCount a) where
+  pub slice-judged : a ≡ judgeAnswer (verdict w)
+  slice-judged = answers ∙ read-judges w (length bytes) (omega arith)
+
+  body-count : length (bodyOf w) ≡ length w - 2
+  body-count = length-take-le (length w - 2) (drop 1 w) (omega (arith, length-drop 1 w))
+
+  body-counts : n ≤ length (bodyOf w)
+  body-counts = omega (arith, counts, ap contentsCount slice-judged, count-inside w)
+
+  pub slice-inside : n + 2 ≤ length w
+  slice-inside = omega (arith, body-counts, body-count)
+
+  -- the bytes between the flags after as many as the contents have, as the code takes them
+  body-rest : take (length w - 1 - (n + 1)) (drop (n + 1) w) ≡ drop n (bodyOf w)
+  body-rest =
+      let k = length w - 2 - n in
+      let m : length w - 1 - (n + 1) ≡ k = omega arith in
+      let i : n + k ≡ length w - 2 = omega (arith, slice-inside) in
+      let j : 1 + n ≡ n + 1 = omega arith in
+      ap₂ (λ (x : ℕ) (l : List ℕ). take x l) m (sym (drop-drop n 1 w ∙ ap (λ (x : ℕ). drop x w) j))
+      ∙ sym (drop-take n k (drop 1 w) (omega (arith, slice-inside, length-drop 1 w)))
+      ∙ ap (λ (x : ℕ). drop n (take x (drop 1 w))) i
+
+  pub slice-left : (read last : List ℕ) → read ≡ readOut (verdict w) bytes
+      → last ≡ copied read n (take (length w - 1 - (n + 1)) (drop (n + 1) w)) → last ≡ leftByWhole bytes w
+  slice-left read last e k =
+      left-filled (verdict w) bytes (bodyOf w) last n (counts ∙ ap contentsCount slice-judged) body-counts
+      (omega (arith, body-count))
+      (k ∙ ap₂ (λ (x y : List ℕ). copied x n y) e body-rest)
+
+-- ---- its bytes, fed singly
+
+kind-held : (kind : Kind) → isHeld (modeIn (inside kind)) ≡ true
+kind-held Standard = refl
+kind-held Extended = refl
+
+module _ (bytes : List ℕ) (array : length bytes ≡ capacity) (len : ℕ) (body rest : List ℕ)
+    (room : length body ≤ capacity) (clear : noneOf isFlag body ≡ true) where
+  -- the candidate's stop flag, where its bytes are held
+  abbrev held : List ℕ
+  held = splice bytes 0 body
+
+  held-first : take (0 + length body) held ≡ body
+  held-first = take-at body (drop (0 + length body) bytes) (0 + length body) (omega arith)
+
+  at-stop : (kind : Kind)
+      → feedOf (reader held (0 + length body) (modeIn (inside kind))) (stopFlag ∷ rest)
+      ≡ chunkTurn (judged (verdict (candidateOf kind (take (0 + length body) held))))
+      (reader (leftIn (verdict (candidateOf kind (take (0 + length body) held))) held) 0 Outside) 1
+  unfolding feedOf
+  at-stop Standard = refl
+  at-stop Extended = refl
+
+  at-start : (kind : Kind) (s : List ℕ)
+      → feedOf (reader bytes len Outside) (startFlag kind ∷ s) ≡ laterBy 1 (feedOf (reader bytes 0 (modeIn (inside kind))) s)
+  unfolding feedOf
+  at-start Standard s = refl
+  at-start Extended s = refl
+
+  -- the turn that judges the candidate
+  abbrev judgedTurn : List ℕ → ℕ → ChunkTurn
+  judgedTurn wire taken = chunkTurn (judged (verdict wire)) (reader (leftIn (verdict wire) held) 0 Outside) taken
+
+  candidate-fed : (kind : Kind)
+      → feedOf (reader bytes len Outside) (startFlag kind ∷ (body ++ stopFlag ∷ rest))
+      ≡ judgedTurn (candidateOf kind body) (length body + 2)
+  candidate-fed kind =
+      let m = modeIn (inside kind) in
+      let n : 1 + (length body + 1) ≡ length body + 2 = omega arith in
+      at-start kind (body ++ stopFlag ∷ rest)
+      ∙ ap (laterBy 1) (feed-run body (stopFlag ∷ rest) (reader bytes 0 m) clear
+      ∙ ap (λ (u : LineReader). laterBy (length body) (feedOf u (stopFlag ∷ rest)))
+      (held-run m (kind-held kind) body bytes 0 array (omega arith))
+      ∙ ap (laterBy (length body)) (at-stop kind))
+      ∙ ap₂ (λ (l : List ℕ) (k : ℕ). judgedTurn (candidateOf kind l) k) held-first n
+
+-- ---- at the beginning of bytes
+
+-- what a count that is not 0 tells
+leading-found : (s : List ℕ) → 0 < leadingCount s
+    → (isStart (getD s 0 0) ≡ true) × (isStopAt (drop 1 s) (countBefore isFlag (drop 1 s)) ≡ true)
+unfolding leadingCount
+leading-found s h =
+    by-bool (isStart (getD s 0 0))
+    (λ y. by-bool (isStopAt (drop 1 s) (countBefore isFlag (drop 1 s)))
+    (λ z. (y, z))
+    (λ z. let q : 0 < 0 = simp (y, z) at h in absurd (omega arith)))
+    (λ n. let q : 0 < 0 = simp n at h in absurd (omega arith))
+
+-- The candidate is judged at its stop flag, and the array is left as the code leaves it.
+whole-fed : (bytes : List ℕ) → length bytes ≡ capacity → (len : ℕ) (s : List ℕ) → 0 < leadingCount s
+    → feedOf (reader bytes len Outside) s
+    ≡ chunkTurn (judged (verdict (take (leadingCount s) s)))
+    (reader (leftByWhole bytes (take (leadingCount s) s)) 0 Outside) (leadingCount s)
+whole-fed bytes array len s h =
+    let f = leading-found s h in
+    let body = leadingBody s (f .0) (f .1) in
+    let kind = leadingKind s (f .0) (f .1) in
+    let after = leadingRest s (f .0) (f .1) in
+    let count = leading-count s (f .0) (f .1) in
+    let wire : take (leadingCount s) s ≡ candidateOf kind body =
+    ap (λ (n : ℕ). take n s) (sym (leading-some s (f .0))) ∙ leading-wire s (f .0) (f .1) in
+    let room = leading-short s (f .0) (f .1) in
+    let clear = leading-clear s (f .0) (f .1) in
+    let same : body ≡ bodyOf (take (leadingCount s) s) = sym (ap bodyOf wire ∙ whole-body kind body) in
+    ap (feedOf (reader bytes len Outside)) (leads s (f .0) (f .1))
+    ∙ candidate-fed bytes array len body after room clear kind
+    ∙ ap₂ (judgedTurn bytes array len body after room clear) (sym wire) (sym count)
+    ∙ ap (λ (l : List ℕ). chunkTurn (judged (verdict (take (leadingCount s) s)))
+    (reader (leftIn (verdict (take (leadingCount s) s)) (splice bytes 0 l)) 0 Outside) (leadingCount s)) same
+
+-- no more bytes than there are
+leading-inside : (m : Mode) (s : List ℕ) → leadingIn m s ≤ length s
+leading-inside Outside s =
+    by-bool (ltb 0 (leadingCount s))
+    (λ y. let f = leading-found s (ltb-true 0 (leadingCount s) y) in
+    omega (arith, leading-count s (f .0) (f .1), ap length (leads s (f .0) (f .1)), length-append (leadingBody s (f .0) (f .1)) (stopFlag ∷ leadingRest s (f .0) (f .1))))
+    (λ n. omega (arith, ltb-false 0 (leadingCount s) n))
+leading-inside InStandard s = omega arith
+leading-inside InExtended s = omega arith
+leading-inside Overlong s = omega arith
+
+-- the call that reads it, by what it answers and how many contents bytes that tells of
+module _ (s bytes : List ℕ) (array : length bytes ≡ capacity) (taken : ℕ) (count : taken ≡ leadingCount s)
+    (found : 0 < taken) (a : Answer FrameOutline) (answers : a ≡ readAnswer (verdict (take taken s)) (length bytes)) (n : ℕ)
+    (counts : n ≡ contentsCount a) where
+  abbrev wire : List ℕ
+  wire = take taken s
+
+  wire-length : (length wire ≡ taken) × (2 ≤ length wire) × (length wire ≤ 120)
+  wire-length =
+      let f = leading-found s (subst (λ (k : ℕ). 0 < k) count found) in
+      let c = leading-count s (f .0) (f .1) in
+      let m = leading-short s (f .0) (f .1) in
+      let l : length wire ≡ taken = length-take-le taken s (omega (arith, count, leading-inside Outside s)) in
+      (l, omega (arith, l, count, c), omega (arith, l, count, c, m))
+
+  pub wire-judged : a ≡ judgeAnswer (verdict wire)
+  wire-judged = slice-judged wire bytes (wire-length .1) (wire-length .2) array a answers n counts
+
+  pub wire-inside : (n + 2 ≤ taken) × (taken ≤ length s)
+  wire-inside =
+      let k = slice-inside wire bytes (wire-length .1) (wire-length .2) array a answers n counts in
+      (omega (arith, k, wire-length .0), omega (arith, count, leading-inside Outside s))
+
+  -- the bytes behind the contents, as the code takes them
+  behind : take (taken - 1 - (n + 1)) (drop (n + 1) s) ≡ take (length wire - 1 - (n + 1)) (drop (n + 1) wire)
+  behind =
+      let k = taken - (n + 1) in
+      let i : n + 1 + k ≡ taken = omega (arith, wire-inside .0) in
+      let m : taken - 1 - (n + 1) ≡ length wire - 1 - (n + 1) = omega (arith, wire-length .0) in
+      sym (take-take (taken - 1 - (n + 1)) k (drop (n + 1) s) (omega arith))
+      ∙ ap₂ take m
+      (sym (drop-take (n + 1) k s (omega (arith, i, wire-inside .1))) ∙ ap (λ (x : ℕ). drop (n + 1) (take x s)) i)
+
+  pub wire-left : (read last : List ℕ) → read ≡ readOut (verdict wire) bytes
+      → last ≡ copied read n (take (taken - 1 - (n + 1)) (drop (n + 1) s)) → last ≡ leftByWhole bytes wire
+  wire-left read last e k =
+      slice-left wire bytes (wire-length .1) (wire-length .2) array a answers n counts read last e
+      (k ∙ ap (copied read n) behind)
+
+-- where there is none, nothing is left in the array
+pub none-left : (s bytes last : List ℕ) (taken : ℕ) → taken ≡ 0 → last ≡ readOut (verdict (take taken s)) bytes
+    → last ≡ bytes
+unfolding readOut draftOut
+none-left s bytes last taken z e =
+    e ∙ ap (λ (n : ℕ). readOut (verdict (take n s)) bytes) z ∙ ap (λ (v : Verdict). readOut v bytes) verdict-none
+
+-- the part from an index on, as the code takes it
+rest-part : (s : List ℕ) (at : ℕ) → take (length s - at) (drop at s) ≡ drop at s
+rest-part s at = take-all (length s - at) (drop at s) (omega (arith, length-drop at s))
+
+module _ (mode : Mode) (s : List ℕ) (at taken : ℕ) (count : taken ≡ leadingIn mode (take (length s - at) (drop at s))) where
+  pub whole-inside : at ≤ length s → at + taken ≤ length s
+  whole-inside h =
+      omega (
+        arith,
+        count,
+        leading-inside mode (take (length s - at) (drop at s)),
+        ap length (rest-part s at),
+        length-drop at s,
+      )
+
+  some-outside : 0 < taken → mode ≡ Outside
+  some-outside h = by-mode mode (subst (λ (n : ℕ). 0 < n) count h)
+    where
+      by-mode : (m : Mode) → 0 < leadingIn m (take (length s - at) (drop at s)) → m ≡ Outside
+      by-mode Outside k = refl
+      by-mode InStandard k = absurd (omega arith)
+      by-mode InExtended k = absurd (omega arith)
+      by-mode Overlong k = absurd (omega arith)
+
+  -- a turn of a loop over the bytes s, where f is what all of them give
+  pub whole-answers : (f : ChunkTurn) (bytes : List ℕ) (state : State) → state .mode ≡ mode → 0 < taken
+      → f ≡ laterBy at (feedOf (lentReader bytes state) (drop at s))
+      → (left : List ℕ) (told : Told)
+      → JudgedWhole bytes (take taken (take (length s - at) (drop at s))) left told
+      → (r : ChunkStep) → r ≡ record { told = told; state = record { len = 0; mode = Outside }; taken = at + taken }
+      → ChunkStepIs left r f
+  whole-answers f bytes state m h so-far left told j r is =
+      let rest = take (length s - at) (drop at s) in
+      let out = some-outside h in
+      let n : taken ≡ leadingCount rest = count ∙ ap (λ (x : Mode). leadingIn x rest) out in
+      let wire = take taken rest in
+      let q : f ≡ chunkTurn (judged (verdict wire)) (reader (leftByWhole bytes wire) 0 Outside) (at + taken) =
+      so-far
+      ∙ ap₂ (λ (x : Mode) (l : List ℕ). laterBy at (feedOf (reader bytes (state .len) x) l)) (m ∙ out)
+      (sym (rest-part s at))
+      ∙ ap (laterBy at) (whole-fed bytes (j .array) (state .len) rest (subst (λ (k : ℕ). 0 < k) n h))
+      ∙ ap (λ (k : ℕ). laterBy at (chunkTurn (judged (verdict (take k rest)))
+      (reader (leftByWhole bytes (take k rest)) 0 Outside) k)) (sym n) in
+      record {
+        told-is = ap (λ (x : ChunkStep). toldMeans (x .told)) is ∙ j .told-is
+            ∙ ap (λ (g : ChunkTurn). summaryOf (g .answer)) (sym q);
+        next-is = ap₂ (λ (l : List ℕ) (x : ChunkStep). lentReader l (x .state)) (j .left-is) is
+            ∙ ap (λ (g : ChunkTurn). g .next) (sym q);
+        taken-is = ap (λ (x : ChunkStep). x .taken) is ∙ ap (λ (g : ChunkTurn). g .taken) (sym q);
+      }
+
+-- a call that leaves the array as it was
+pub unmoved : (f : ChunkTurn) (bytes left : List ℕ) (state : State) (l : List ℕ) (at : ℕ) → left ≡ bytes
+    → f ≡ laterBy at (feedOf (lentReader bytes state) l) → f ≡ laterBy at (feedOf (lentReader left state) l)
+unmoved f bytes left state l at e so-far =
+    so-far ∙ ap (λ (b : List ℕ). laterBy at (feedOf (lentReader b state) l)) (sym e)

@@ -1,0 +1,73 @@
+use mathlib.Core.Path.{refl, sym, ap, _∙_}
+use native.Mathlib.Omega.{arith}
+use Rattle.line.specs.Private.{leadingIn}
+use Rattle.line.specs.declared.Mode.{Mode}
+use borrow.Author.Needs.{needs}
+use Rattle.line.proofs.whole.judge.Statement.{statement}
+use Rattle.line.proofs.whole.judge.Tie as tie
+
+enum-told : tie.Need-enum-told
+enum-told c = search needs
+
+judge-leading-requires : tie.Need-judge-leading-requires
+judge-leading-requires c κs = search needs
+
+enum-told-2 : tie.Need-enum-told-2
+enum-told-2 c = search needs
+
+none-requires : tie.Need-none-requires
+none-requires c κs = search needs
+
+enum-told-3 : tie.Need-enum-told-3
+enum-told-3 c = search needs
+
+none-requires-2 : tie.Need-none-requires-2
+none-requires-2 c κs = search needs
+
+enum-told-4 : tie.Need-enum-told-4
+enum-told-4 c = search needs
+
+none-requires-3 : tie.Need-none-requires-3
+none-requires-3 c κs = search needs
+
+returns : tie.Need-returns
+returns c =
+    let k = c .judge-leading .ensures in
+    let s = c .before .before .before .before .before .args .input .now in
+    let g = c .before .before .enum-told .given .1 in
+    (k .0 ∙ sym (ap (λ (m : Mode). leadingIn m s) g), (k .1 .0, k .1 .1))
+
+returns-2 : tie.Need-returns-2
+returns-2 c =
+    let s = c .before .before .before .before .args .input .now in
+    let g = c .before .enum-told2 .given .1 in
+    (c .none .ensures ∙ sym (ap (λ (m : Mode). leadingIn m s) g), ((λ z. refl), (λ h. absurd (omega arith))))
+
+returns-3 : tie.Need-returns-3
+returns-3 c =
+    let s = c .before .before .before .before .args .input .now in
+    let g = c .before .enum-told3 .given .1 in
+    (c .none2 .ensures ∙ sym (ap (λ (m : Mode). leadingIn m s) g), ((λ z. refl), (λ h. absurd (omega arith))))
+
+returns-4 : tie.Need-returns-4
+returns-4 c =
+    let s = c .before .before .before .before .args .input .now in
+    let g = c .before .enum-told4 .given .1 in
+    (c .none3 .ensures ∙ sym (ap (λ (m : Mode). leadingIn m s) g), ((λ z. refl), (λ h. absurd (omega arith))))
+
+pub judge-spec : {M : Type 1} → statement M
+judge-spec =
+    tie.close
+    (tie.spec
+    enum-told
+    judge-leading-requires
+    enum-told-2
+    none-requires
+    enum-told-3
+    none-requires-2
+    enum-told-4
+    none-requires-3
+    returns
+    returns-2
+    returns-3
+    returns-4)

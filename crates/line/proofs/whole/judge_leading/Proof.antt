@@ -1,0 +1,107 @@
+use mathlib.Core.Path.{_≡_, sym, ap, _∙_}
+use Prim.Native.Nat.{ℕ, _+_, _≤_, _<_}
+use native.Mathlib.Omega.{arith}
+use lib.ListN.{length, take}
+use Rattle.frame.specs.Verdict.{verdict}
+use Rattle.frame.specs.Answers.{readMeans, readOut}
+use Rattle.line.specs.Outcome.{capacity, tells}
+use Rattle.line.proofs.WholeLaws.{wire-judged, wire-inside, wire-left, none-left}
+use borrow.Author.Needs.{needs}
+use Rattle.line.proofs.whole.judge_leading.Statement.{statement}
+use Rattle.line.proofs.whole.judge_leading.Tie as tie
+
+read-leading-requires : tie.Need-read-leading-requires
+read-leading-requires c κs = search needs
+
+none-requires : tie.Need-none-requires
+none-requires c κs = search needs
+
+returns : tie.Need-returns
+returns c =
+    let r = c .before .before in
+    let z = c .before .if1 .taken in
+    let e = c .none .ensures in (
+      e ∙ sym z ∙ r .read-leading .ensures .0,
+      ((λ h. none-left (r .before .before .before .args .input .now) _ _ _ z (r .read-leading .ensures .1 .1)), (λ h. absurd (omega arith))),
+    )
+
+contents-len-requires : tie.Need-contents-len-requires
+contents-len-requires c κs = search needs
+
+-- a candidate was found
+found : (t : tie.Else1) → 0 < t .before .read-leading .result .taken
+found t = omega (arith, t .if1 .left)
+
+inside : (c : tie.After-contents-len)
+    → (c .contents-len .result + 2 ≤ c .before .before .read-leading .result .taken)
+    × (c .before .before .read-leading .result .taken ≤ length (c .before .before .before .before .before .args .input .now))
+inside c =
+    let r = c .before .before in
+    let p = r .before .before .before in
+    let a : length (p .args .bytes .now) ≡ capacity = search needs in
+    wire-inside (p .args .input .now) (p .args .bytes .now) a (r .read-leading .result .taken)
+    (r .read-leading .ensures .0) (found (c .before)) (readMeans (r .read-leading .result .read))
+    (r .read-leading .ensures .1 .0) (c .contents-len .result) (c .contents-len .ensures)
+
+add-copy : tie.Need-add-copy
+add-copy c = record { fits = omega (arith, inside c, c .before .before .before .before .before .good) }
+
+sub-copy : tie.Need-sub-copy
+sub-copy c = omega (arith, inside c)
+
+sub-copy-2 : tie.Need-sub-copy-2
+sub-copy-2 c = omega (arith, inside c)
+
+part-copy-start : tie.Need-part-copy-start
+part-copy-start c = omega (arith, inside c)
+
+part-copy-end : tie.Need-part-copy-end
+part-copy-end c = omega (arith, inside c)
+
+copy-requires : tie.Need-copy-requires
+copy-requires c κs = search needs
+
+told-of-requires : tie.Need-told-of-requires
+told-of-requires c κs = search needs
+
+returns-2 : tie.Need-returns-2
+returns-2 c =
+    let n = c .before .before .before .before in
+    let t = n .before in
+    let r = t .before in
+    let p = r .before .before .before in
+    let a : length (p .args .bytes .now) ≡ capacity = search needs in
+    let s = p .args .input .now in
+    let bytes = p .args .bytes .now in
+    let taken = r .read-leading .result .taken in
+    let means = readMeans (r .read-leading .result .read) in (
+      r .read-leading .ensures .0,
+      (
+        (λ z. absurd (omega (arith, z, found t))),
+        (λ h. record {
+          array = a;
+          told-is = c .told-of .ensures ∙ ap tells (wire-judged s bytes a taken (r .read-leading .ensures .0) h means
+              (r .read-leading .ensures .1 .0) (n .contents-len .result) (n .contents-len .ensures));
+          left-is = wire-left s bytes a taken (r .read-leading .ensures .0) h means (r .read-leading .ensures .1 .0)
+              (n .contents-len .result) (n .contents-len .ensures) (r .read-leading .last .1 .0) _
+              (r .read-leading .ensures .1 .1) (c .before .copy .ensures);
+        }),
+      ),
+    )
+
+pub judge-leading-spec : {M : Type 1} → statement M
+judge-leading-spec =
+    tie.close
+    (tie.spec
+    read-leading-requires
+    none-requires
+    returns
+    contents-len-requires
+    add-copy
+    sub-copy
+    sub-copy-2
+    part-copy-start
+    part-copy-end
+    copy-requires
+    told-of-requires
+    returns-2)

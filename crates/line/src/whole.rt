@@ -1,0 +1,76 @@
+// Candidates that stand whole in a chunk. They are judged as they stand, and only what the array has to hold of them is
+// copied.
+use crate::Mode;
+use crate::Told;
+use frame::Read;
+ghost use mathlib.Core.Path.{_≡_};
+ghost use Prim.Native.Nat.{_<_};
+ghost use lib.ListN.{take};
+ghost use Rattle.frame.specs.Leading.{leadingCount};
+ghost use Rattle.frame.specs.Answers.{readMeans};
+ghost use Rattle.line.specs.Private.{leadingIn, contentsCount, JudgedWhole};
+
+// What is told of a candidate, and how many bytes it has with its flags; 0 where there is none.
+pub(crate) struct Judged {
+    pub(crate) told: Told,
+    pub(crate) taken: usize,
+}
+
+// Judges the candidate that the input begins with, where none is open before it. Behind its contents the array gets the
+// bytes that stand between its flags, because that is what it holds where they came singly.
+pub(crate) fn judge(bytes: &mut [u8; 118], mode: Mode, input: &[u8]) -> Judged
+    ensures { λ r. ⌜ r .taken ≡ leadingIn mode (now (input .entry)) ⌝ }
+    ensures { λ r. ⌜ (r .taken ≡ 0 → now (bytes .exit) ≡ now (bytes .entry)) ⌝ }
+    ensures { λ r. ⌜ (0 < r .taken → JudgedWhole (now (bytes .entry)) (take (r .taken) (now (input .entry)))
+        (now (bytes .exit)) (r .told)) ⌝ }
+{
+    match mode {
+        Mode::Outside => judge_leading(bytes, input),
+        Mode::InStandard => none(),
+        Mode::InExtended => none(),
+        Mode::Overlong => none(),
+    }
+}
+
+fn judge_leading(bytes: &mut [u8; 118], input: &[u8]) -> Judged
+    ensures { λ r. ⌜ r .taken ≡ leadingCount (now (input .entry)) ⌝ }
+    ensures { λ r. ⌜ (r .taken ≡ 0 → now (bytes .exit) ≡ now (bytes .entry)) ⌝ }
+    ensures { λ r. ⌜ (0 < r .taken → JudgedWhole (now (bytes .entry)) (take (r .taken) (now (input .entry)))
+        (now (bytes .exit)) (r .told)) ⌝ }
+{
+    let leading = frame::read_leading(input, bytes);
+    let read = leading.read;
+    let taken = leading.taken;
+    if taken == 0 {
+        return none();
+    }
+    let n = contents_len(read);
+    lists::copy(&input[n + 1..taken - 1], bytes, n);
+    Judged {
+        told: crate::told_of(read),
+        taken,
+    }
+}
+
+fn none() -> Judged
+    ensures { λ r. ⌜ r .taken ≡ 0 ⌝ }
+{
+    Judged {
+        told: Told::Nothing,
+        taken: 0,
+    }
+}
+
+fn contents_len(read: Read) -> usize
+    ensures { λ r. ⌜ r ≡ contentsCount (readMeans read) ⌝ }
+{
+    match read {
+        Read::Standard { len } => len,
+        Read::Extended {
+            to: _,
+            from: _,
+            len,
+        } => len,
+        Read::Refused(_) => 0,
+    }
+}
