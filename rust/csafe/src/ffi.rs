@@ -273,6 +273,7 @@ mod tests {
         assert_eq!(feed(&[0xF1; 2]), (2, 6, 1));
         assert_eq!(feed(&[0x41; 119]), (119, 0x200, 3));
         assert_eq!(feed(&[0xF2]), (1, 2, 0));
+        assert_eq!(feed(&[0x41; 65_537]), (65_536, 0x200, 0));
         let mut open = 4 * 2 + 2;
         assert_eq!((finish(&mut open).0, open), (6, 0));
         assert_eq!((finish(&mut open).0, open), (0x200, 0));

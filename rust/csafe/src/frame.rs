@@ -1,5 +1,8 @@
 //! CSAFE frames: measured, written, and read from a slice that holds exactly one.
 
+use core::fmt;
+use core::hash::{Hash, Hasher};
+
 use crate::{ffi, Error};
 
 /// The most bytes that a frame has on the wire, its flags and escapes included.
@@ -83,6 +86,82 @@ impl Frame<'_> {
             Kind::Standard => standard_length(self.contents),
             Kind::Extended { to, from } => extended_length(to, from, self.contents),
         }
+    }
+}
+
+/// A frame that has its contents itself, so that it outlasts the reader's next call.
+/// [`LineReader::answers`](crate::LineReader::answers) gives such frames.
+///
+/// It takes as many bytes as the longest contents do and a few more, and a copy copies them all.
+#[derive(Clone, Copy)]
+pub struct OwnedFrame {
+    kind: Kind,
+    len: u8,
+    bytes: [u8; CONTENTS_LIMIT],
+}
+
+impl OwnedFrame {
+    /// Takes a copy of a frame that was read. The contracts of the library keep its contents within
+    /// [`CONTENTS_LIMIT`].
+    #[inline]
+    pub(crate) fn copy_of(frame: Frame<'_>) -> OwnedFrame {
+        let len = frame.contents.len();
+        let mut bytes = [0; CONTENTS_LIMIT];
+        bytes[..len].copy_from_slice(frame.contents);
+        OwnedFrame {
+            kind: frame.kind,
+            len: len as u8,
+            bytes,
+        }
+    }
+
+    /// Whether it has addresses, and which.
+    #[inline]
+    #[must_use]
+    pub const fn kind(&self) -> Kind {
+        self.kind
+    }
+
+    /// Its contents, without escapes.
+    #[inline]
+    #[must_use]
+    pub fn contents(&self) -> &[u8] {
+        &self.bytes[..usize::from(self.len)]
+    }
+
+    /// The same frame with borrowed contents.
+    #[inline]
+    #[must_use]
+    pub fn frame(&self) -> Frame<'_> {
+        Frame {
+            kind: self.kind,
+            contents: self.contents(),
+        }
+    }
+}
+
+impl PartialEq for OwnedFrame {
+    #[inline]
+    fn eq(&self, other: &OwnedFrame) -> bool {
+        self.frame() == other.frame()
+    }
+}
+
+impl Eq for OwnedFrame {}
+
+impl Hash for OwnedFrame {
+    #[inline]
+    fn hash<H: Hasher>(&self, state: &mut H) {
+        self.frame().hash(state);
+    }
+}
+
+impl fmt::Debug for OwnedFrame {
+    fn fmt(&self, f: &mut fmt::Formatter<'_>) -> fmt::Result {
+        f.debug_struct("OwnedFrame")
+            .field("kind", &self.kind)
+            .field("contents", &self.contents())
+            .finish()
     }
 }
 
@@ -209,4 +288,55 @@ pub fn extended_length(to: u8, from: u8, contents: &[u8]) -> Result<usize, Error
 pub fn read<'a>(wire: &[u8], out: &'a mut [u8]) -> Result<Frame<'a>, Error> {
     let answer = ffi::read(wire, out).accepted()?;
     Ok(answer.frame_in(out))
+}
+
+#[cfg(test)]
+mod tests {
+    use std::format;
+    use std::hash::{BuildHasher, BuildHasherDefault, DefaultHasher};
+
+    use super::*;
+
+    const EXTENDED: Kind = Kind::Extended {
+        to: 0x05,
+        from: 0x00,
+    };
+
+    #[test]
+    fn an_owned_frame_is_the_frame_that_it_was_copied_from() {
+        let bytes: [u8; CONTENTS_LIMIT] = core::array::from_fn(|at| at as u8);
+        for kind in [Kind::Standard, EXTENDED] {
+            for len in 0..=CONTENTS_LIMIT {
+                let contents = &bytes[..len];
+                let owned = OwnedFrame::copy_of(Frame { kind, contents });
+                assert_eq!(owned.kind(), kind);
+                assert_eq!(owned.contents(), contents);
+                assert_eq!(owned.frame(), Frame { kind, contents });
+            }
+        }
+    }
+
+    #[test]
+    fn owned_frames_are_compared_by_kind_and_contents() {
+        let owned = |kind, contents| OwnedFrame::copy_of(Frame { kind, contents });
+        let hash =
+            |frame: OwnedFrame| BuildHasherDefault::<DefaultHasher>::default().hash_one(frame);
+        let frame = owned(EXTENDED, &[0x41]);
+        assert_eq!(frame, owned(EXTENDED, &[0x41]));
+        assert_eq!(hash(frame), hash(owned(EXTENDED, &[0x41])));
+        assert_ne!(frame, owned(Kind::Standard, &[0x41]));
+        assert_ne!(frame, owned(EXTENDED, &[0x42]));
+        assert_ne!(frame, owned(EXTENDED, &[0x41, 0x00]));
+    }
+
+    #[test]
+    fn an_owned_frame_shows_its_contents_alone() {
+        let contents = &[0x41];
+        let owned = OwnedFrame::copy_of(Frame {
+            kind: Kind::Standard,
+            contents,
+        });
+        let shown = format!("{owned:02X?}");
+        assert_eq!(shown, "OwnedFrame { kind: Standard, contents: [41] }");
+    }
 }

@@ -28,17 +28,13 @@
 //! /// Reads one chunk of the line, prints what it tells, and counts the frames that name the machine as their source.
 //! fn read_chunk(reader: &mut LineReader, chunk: &[u8]) -> usize {
 //!     let mut count = 0;
-//!     let mut rest = chunk;
-//!     while !rest.is_empty() {
-//!         let fed = reader.feed(rest);
-//!         rest = &rest[fed.taken..];
-//!         match fed.told {
-//!             Some(Ok(frame)) => {
-//!                 println!("{:?} {:02X?}", frame.kind, frame.contents);
-//!                 count += usize::from(frame.kind == Kind::Extended { to: 0x00, from: MACHINE });
+//!     for answer in reader.answers(chunk) {
+//!         match answer {
+//!             Ok(frame) => {
+//!                 println!("{:?} {:02X?}", frame.kind(), frame.contents());
+//!                 count += usize::from(frame.kind() == Kind::Extended { to: 0x00, from: MACHINE });
 //!             }
-//!             Some(Err(refusal)) => println!("refused: {refusal}"),
-//!             None => {}
+//!             Err(refusal) => println!("refused: {refusal}"),
 //!         }
 //!     }
 //!     count
@@ -85,7 +81,7 @@ pub mod line;
 pub mod workout;
 
 pub use error::Error;
-pub use frame::Frame;
+pub use frame::{Frame, OwnedFrame};
 pub use lease::LeaseTable;
 pub use line::LineReader;
 pub use workout::Workout;

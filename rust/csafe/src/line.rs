@@ -2,20 +2,72 @@
 //!
 //! [`LineReader`] owns its bytes. The functions of this module do the same on bytes and a number that stand
 //! elsewhere. Nobody else may access those during a call; in shared memory that includes other processes.
+//!
+//! A call of [`LineReader::feed`] or [`feed`] takes bytes up to the first that is answered, and at most
+//! [`CHUNK_LIMIT`]. [`LineReader::answers`] makes as many calls as a chunk needs.
+//!
+//! # Example
+//!
+//! A stream is read to its end through a buffer of seven bytes. What a read hands over begins and ends anywhere in a
+//! frame.
+//!
+//! ```
+//! use std::io::{self, Read};
+//!
+//! use csafe::{Error, LineReader, OwnedFrame};
+//!
+//! /// All frames and refusals of a stream, in order.
+//! fn read_to_end(mut stream: impl Read) -> io::Result<Vec<Result<OwnedFrame, Error>>> {
+//!     let mut reader = LineReader::new();
+//!     let mut told = Vec::new();
+//!     let mut buffer = [0; 7];
+//!     loop {
+//!         match stream.read(&mut buffer) {
+//!             Ok(0) => break,
+//!             Ok(len) => told.extend(reader.answers(&buffer[..len])),
+//!             Err(error) if error.kind() == io::ErrorKind::Interrupted => {}
+//!             Err(error) => return Err(error),
+//!         }
+//!     }
+//!     // A frame that the stream's end has cut short is told by the finish.
+//!     told.extend(reader.finish().err().map(Err));
+//!     Ok(told)
+//! }
+//!
+//! // Two frames with a stray byte between them, one with a wrong checksum, and the beginning of one. The reads give 7,
+//! // 2, 7, 3 and 5 bytes.
+//! let first = [0xF1, 0x24, 0x02, 0x03, 0x00, 0x25, 0xF2, 0x55, 0xF0];
+//! let second = [0x00, 0x05, 0x81, 0x81, 0xF2, 0xF1, 0x41, 0x42, 0xF2, 0xF1];
+//! let third = [0x76, 0x04, 0x13, 0x02, 0x01];
+//! let stream = first.as_slice().chain(second.as_slice()).chain(third.as_slice());
+//! let told = read_to_end(stream)?;
+//!
+//! assert_eq!(told.len(), 4);
+//! assert_eq!(told[0].unwrap().contents(), [0x24, 0x02, 0x03, 0x00]);
+//! assert_eq!(told[1].unwrap().contents(), [0x81]);
+//! assert_eq!(told[2..], [Err(Error::BadChecksum), Err(Error::Truncated)]);
+//! # Ok::<(), io::Error>(())
+//! ```
 
 use core::fmt;
+use core::iter::FusedIterator;
 
-use crate::{ffi, Error, Frame};
+use crate::{ffi, Error, Frame, OwnedFrame};
 
 /// The bytes of a reader: the most that may stand between the flags of a frame.
 pub const HELD_LEN: usize = 118;
+
+/// The most bytes that one call takes. A longer chunk is cut to its first bytes, as if the others were not there.
+pub const CHUNK_LIMIT: usize = 65_536;
 
 /// What a call of [`LineReader::feed`] or [`feed`] did with its bytes.
 #[derive(Clone, Copy, Debug, PartialEq, Eq, Hash)]
 #[non_exhaustive]
 pub struct Fed<'a> {
-    /// How many bytes were taken: all of them where nothing was told. The next call has to start with the byte after
-    /// the last that was taken.
+    /// How many bytes were taken. The next call has to start with the byte after the last of them.
+    ///
+    /// Where something was told, the last byte taken gave it. Where nothing was told, all bytes were taken, or
+    /// [`CHUNK_LIMIT`] of a longer chunk.
     pub taken: usize,
     /// What the last byte taken gave: nothing, a frame whose contents stand in the reader, or why a candidate for a
     /// frame was refused.
@@ -23,7 +75,8 @@ pub struct Fed<'a> {
 }
 
 /// As [`LineReader::feed`], on lent bytes and the number that goes with them, which is 0 for a new reader. Any number
-/// and any bytes are a reader. The contents of a frame that is told are the first of the bytes.
+/// and any bytes are a reader. The contents of a frame that is told are the first of the bytes. A chunk longer than
+/// [`CHUNK_LIMIT`] is cut here too.
 ///
 /// # Errors
 ///
@@ -40,8 +93,8 @@ pub struct Fed<'a> {
 /// ```
 #[inline]
 #[must_use = "the bytes that were not taken have to be fed again, and what was told is told once"]
-pub fn feed<'a>(bytes: &'a mut [u8; HELD_LEN], state: &mut u64, input: &[u8]) -> Fed<'a> {
-    let (taken, answer) = ffi::feed(bytes, state, input);
+pub fn feed<'a>(bytes: &'a mut [u8; HELD_LEN], state: &mut u64, chunk: &[u8]) -> Fed<'a> {
+    let (taken, answer) = ffi::feed(bytes, state, chunk);
     let told = match answer.accepted() {
         Err(error) => Some(Err(error)),
         Ok(answer) if answer.is_told() => Some(Ok(answer.frame_in(bytes))),
@@ -66,6 +119,9 @@ pub fn finish(state: &mut u64) -> Result<(), Error> {
 /// A candidate for a frame begins at a start flag. Its stop flag has it judged as [`frame::read`](crate::frame::read)
 /// judges a slice. A start flag before that ends it as [`Error::Truncated`] and begins the next one. Bytes outside of
 /// any candidate give no answer.
+///
+/// [`feed`](LineReader::feed) gives one answer a call and copies nothing. [`answers`](LineReader::answers) is an
+/// iterator over all answers of a chunk.
 ///
 /// ```
 /// use csafe::{Error, LineReader};
@@ -104,7 +160,10 @@ impl LineReader {
     }
 
     /// Feeds bytes up to the first that is answered. Answers how many were taken, and what they gave. With no answer
-    /// all of them were taken. The next call starts right after the last byte taken.
+    /// all of them were taken. An empty chunk gives no answer. The next call starts right after the last byte taken.
+    ///
+    /// A chunk longer than [`CHUNK_LIMIT`] is cut to its first [`CHUNK_LIMIT`] bytes, so with no answer among those
+    /// that many were taken.
     ///
     /// However a stream is cut into calls, its answers are those of its bytes fed one by one.
     ///
@@ -121,8 +180,45 @@ impl LineReader {
     /// The reader goes on after each of them.
     #[inline]
     #[must_use = "the bytes that were not taken have to be fed again, and what was told is told once"]
-    pub fn feed(&mut self, input: &[u8]) -> Fed<'_> {
-        feed(&mut self.bytes, &mut self.state, input)
+    pub fn feed(&mut self, chunk: &[u8]) -> Fed<'_> {
+        feed(&mut self.bytes, &mut self.state, chunk)
+    }
+
+    /// The answers of a chunk of any length, in order. It is fed by as many calls of [`feed`](LineReader::feed) as it
+    /// needs, each when the next answer is asked for.
+    ///
+    /// Each frame has a copy of its contents, so it can be kept while the reader goes on. [`feed`](LineReader::feed)
+    /// itself makes no copy.
+    ///
+    /// Where the iterator is dropped before it has answered `None`, the bytes after its last answer are not fed.
+    /// [`Answers::rest`] has them.
+    ///
+    /// # Errors
+    ///
+    /// Candidates are refused as by [`feed`](LineReader::feed). A refusal does not end the iterator.
+    ///
+    /// ```
+    /// use csafe::{Error, LineReader};
+    ///
+    /// let mut reader = LineReader::new();
+    /// let chunk = [0xF1, 0x76, 0xF1, 0x41, 0x41, 0xF2, 0x55, 0xF0];
+    /// let mut answers = reader.answers(&chunk);
+    /// assert_eq!(answers.next(), Some(Err(Error::Truncated)));
+    /// assert_eq!(answers.rest(), &chunk[3..]);
+    /// let frame = answers.next().unwrap()?;
+    /// assert_eq!(answers.next(), None);
+    /// assert_eq!(answers.rest(), []);
+    ///
+    /// assert_eq!(reader.finish(), Err(Error::Truncated));
+    /// assert_eq!(frame.contents(), [0x41]);
+    /// # Ok::<(), Error>(())
+    /// ```
+    #[inline]
+    pub fn answers<'r, 'c>(&'r mut self, chunk: &'c [u8]) -> Answers<'r, 'c> {
+        Answers {
+            reader: self,
+            rest: chunk,
+        }
     }
 
     /// Ends the input, after which the reader is as new.
@@ -150,3 +246,45 @@ impl fmt::Debug for LineReader {
             .finish_non_exhaustive()
     }
 }
+
+/// The answers of a chunk, which is fed as they are asked for. [`LineReader::answers`] makes it.
+#[derive(Debug)]
+#[must_use = "the bytes are fed as the answers are asked for"]
+pub struct Answers<'r, 'c> {
+    reader: &'r mut LineReader,
+    rest: &'c [u8],
+}
+
+impl<'c> Answers<'_, 'c> {
+    /// The bytes that are not fed yet: those after the last that was answered. Once the iterator has answered `None`,
+    /// all are fed.
+    #[inline]
+    #[must_use]
+    pub fn rest(&self) -> &'c [u8] {
+        self.rest
+    }
+}
+
+impl Iterator for Answers<'_, '_> {
+    type Item = Result<OwnedFrame, Error>;
+
+    #[inline]
+    fn next(&mut self) -> Option<Result<OwnedFrame, Error>> {
+        while !self.rest.is_empty() {
+            let fed = self.reader.feed(self.rest);
+            self.rest = &self.rest[fed.taken..];
+            if let Some(told) = fed.told {
+                return Some(told.map(OwnedFrame::copy_of));
+            }
+        }
+        None
+    }
+
+    /// Each answer takes a byte at least.
+    #[inline]
+    fn size_hint(&self) -> (usize, Option<usize>) {
+        (0, Some(self.rest.len()))
+    }
+}
+
+impl FusedIterator for Answers<'_, '_> {}

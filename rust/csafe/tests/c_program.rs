@@ -48,6 +48,12 @@ feed: 0 ok nothing to=00 from=00 len=0
 taken 3, state 5
 finish: 6 truncated to=00 from=00 len=0
 finish: 0 ok nothing to=00 from=00 len=0
+feed: 0 ok nothing to=00 from=00 len=0
+taken 65536, state 9
+feed: 0 ok to=00 from=00 len=1 41
+taken 1, state 0
+feed: 0 ok nothing to=00 from=00 len=0
+taken 1, state 0
 write_distance_workout: 0 ok to=00 from=00 len=23 21 03 D1 07 24 1A 07 05 05 80 F4 01 00 00 34 03 C8 00 58 24 02 00 00
 write_distance_workout: 12 out of limits to=00 from=00 len=0
 write_distance_workout: 1 no room to=00 from=00 len=0

@@ -125,6 +125,19 @@ static void feed_and_print(uint8_t *bytes, uint64_t *state, const uint8_t *input
     }
 }
 
+/* The stop flag stands right after the bytes that the first call takes. */
+static void feed_a_long_chunk(void)
+{
+    static uint8_t chunk[CSAFE_CHUNK_LIMIT + 2];
+    uint8_t bytes[CSAFE_LINE_LEN] = {0};
+    uint64_t state = 0;
+    chunk[CSAFE_CHUNK_LIMIT - 3] = 0xF1;
+    chunk[CSAFE_CHUNK_LIMIT - 2] = 0x41;
+    chunk[CSAFE_CHUNK_LIMIT - 1] = 0x41;
+    chunk[CSAFE_CHUNK_LIMIT] = 0xF2;
+    feed_and_print(bytes, &state, chunk, sizeof chunk);
+}
+
 static void read_line(void)
 {
     static const uint8_t first[] = {0x55, 0xF1, 0x76, 0x04, 0xF0, 0xF3, 0x01, 0x05, 0x41, 0x41, 0xF2, 0xF1, 0xF3};
@@ -179,6 +192,7 @@ int main(void)
     measure_frames();
     read_frames();
     read_line();
+    feed_a_long_chunk();
     workouts();
     leases();
     return 0;

@@ -1,9 +1,12 @@
-//! A reader for a live line, fed byte by byte.
+//! A reader for a live line, fed byte by byte or by chunks of bytes.
 
 use std::ops::Range;
 
 use crate::frame::{self, BODY_MAX, START_EXTENDED, START_STANDARD, STOP};
 use crate::refusal;
+
+/// The most bytes that are taken of one chunk.
+pub const CHUNK_MAX: usize = 65_536;
 
 /// Bytes tested together in the search for a flag.
 const BLOCK: usize = 32;
@@ -61,9 +64,11 @@ impl Line {
     }
 
     /// Takes bytes up to the first that is answered, and tells how many were
-    /// taken. With no answer all of them are.
+    /// taken. With no answer all of them are. A chunk longer than [`CHUNK_MAX`]
+    /// is cut to its first [`CHUNK_MAX`] bytes.
     #[inline]
     pub fn feed_chunk(&mut self, chunk: &[u8]) -> (usize, Answer) {
+        let chunk = &chunk[..chunk.len().min(CHUNK_MAX)];
         let mut taken = 0;
         while let Some(run) = first_flag(&chunk[taken..]) {
             self.extend(&chunk[taken..taken + run]);

@@ -4,7 +4,7 @@ mod examples;
 
 use plain::command::{self, Cursor, Found};
 use plain::frame::{self, Read};
-use plain::line::{Answer, Line};
+use plain::line::{Answer, Line, CHUNK_MAX};
 use plain::reply::{self, Status};
 use plain::workout::{self, Goal, Workout};
 use plain::{lease, listing};
@@ -615,6 +615,49 @@ fn line_follows_its_rule() {
             None => line.finish(),
         };
         assert_eq!(answer, rule(&mut open, call));
+    }
+}
+
+#[test]
+fn a_chunk_is_taken_up_to_its_answer() {
+    let (to, from, len) = (0x05, 0x00, 1);
+    let cases = [
+        ("", 0, Answer::Nothing),
+        ("55 F2 F1", 3, Answer::Nothing),
+        ("", 0, Answer::Nothing),
+        ("00 F0 05", 2, Answer::Refused(6)),
+        (
+            "05 00 41 41 F2 F1",
+            5,
+            Answer::Frame(Read::Extended { to, from, len }),
+        ),
+        ("F1 41 42 F2 55", 4, Answer::Refused(5)),
+        ("55", 1, Answer::Nothing),
+    ];
+    let mut line = Line::new();
+    for (chunk, taken, answer) in cases {
+        assert_eq!(line.feed_chunk(&bytes(chunk)), (taken, answer), "{chunk}");
+    }
+}
+
+#[test]
+fn a_chunk_is_cut_to_its_first_65_536_bytes() {
+    assert_eq!(CHUNK_MAX, 65_536);
+    let empty = Answer::Frame(Read::Standard { len: 0 });
+    // The place of the stop flag, and what the first and the second call tell.
+    let cases = [
+        (65_534, (65_535, empty), (4, Answer::Nothing)),
+        (65_535, (65_536, empty), (3, Answer::Nothing)),
+        (65_536, (65_536, Answer::Nothing), (1, empty)),
+        (65_537, (65_536, Answer::Nothing), (2, empty)),
+        (65_538, (65_536, Answer::Nothing), (3, empty)),
+    ];
+    for (stop, first, second) in cases {
+        let mut chunk = vec![0x55; 65_539];
+        chunk[stop - 2..=stop].copy_from_slice(&[0xF1, 0x00, 0xF2]);
+        let mut line = Line::new();
+        assert_eq!(line.feed_chunk(&chunk), first, "{stop}");
+        assert_eq!(line.feed_chunk(&chunk[first.0..]), second, "{stop}");
     }
 }
 

@@ -1,5 +1,7 @@
 //! What the two sides work on, the same in every run.
 
+use std::ops::RangeInclusive;
+
 use crate::common::Xorshift;
 use crate::sides::{Ours, Side};
 
@@ -17,11 +19,17 @@ const TRIES: usize = 4;
 const LINE_LEN: usize = 524_288;
 const STRAY_LIMIT: usize = 60;
 
+/// Of the traffic on a line: the lengths of its frames on the wire, the most stray bytes between two of them, and one
+/// frame in how many is damaged.
+const TRAFFIC_WIRES: RangeInclusive<usize> = 10..=60;
+const TRAFFIC_STRAYS: usize = 5;
+const TRAFFIC_DAMAGE: usize = 20;
+
 /// Contents for which an extended frame has room where nothing is escaped.
 pub const CONTENTS_LIMIT: usize = 114;
 
 /// The addresses that can be held.
-const MACHINES: std::ops::RangeInclusive<u32> = 0x01..=0xFC;
+const MACHINES: RangeInclusive<u32> = 0x01..=0xFC;
 
 #[derive(Clone, Copy, PartialEq)]
 pub enum Kind {
@@ -65,12 +73,12 @@ impl Frames {
         None
     }
 
-    /// Extended frames of any lengths, with any bytes.
-    pub fn any() -> Frames {
+    /// Extended frames whose contents are any bytes and have any of these lengths.
+    pub fn of_lengths(lens: RangeInclusive<usize>) -> Frames {
         let mut random = Xorshift::new();
         let mut frames = Frames::default();
         while frames.wire_len() < INPUT_LEN {
-            let len = random.below(CONTENTS_LIMIT + 1);
+            let len = lens.start() + random.below(lens.end() - lens.start() + 1);
             let contents = random.bytes(len, 0);
             if let Some(wire) = written(Kind::Extended, &contents) {
                 frames.contents.push(contents);
@@ -115,10 +123,14 @@ pub fn damaged(wires: &[Vec<u8>]) -> Vec<Vec<u8>> {
     let mut random = Xorshift::new();
     let mut wires = wires.to_vec();
     for wire in &mut wires {
-        let at = random.below(wire.len());
-        wire[at] ^= 1 + random.below(255) as u8;
+        change_a_byte(wire, &mut random);
     }
     wires
+}
+
+fn change_a_byte(wire: &mut [u8], random: &mut Xorshift) {
+    let at = random.below(wire.len());
+    wire[at] ^= 1 + random.below(255) as u8;
 }
 
 /// Frames one after another.
@@ -138,11 +150,41 @@ pub fn line_with_strays(wires: &[Vec<u8>]) -> Vec<u8> {
     line
 }
 
+/// Frames of both kinds with any bytes, of which few are escaped, stray bytes before three of four, and some damage.
+pub fn traffic() -> Vec<u8> {
+    let mut random = Xorshift::new();
+    let mut line = Vec::new();
+    while line.len() < LINE_LEN {
+        if random.below(4) > 0 {
+            let len = 1 + random.below(TRAFFIC_STRAYS);
+            line.extend(contents(&mut random, len, 0));
+        }
+        let mut wire = traffic_frame(&mut random);
+        if random.below(TRAFFIC_DAMAGE) == 0 {
+            change_a_byte(&mut wire, &mut random);
+        }
+        line.extend(wire);
+    }
+    line
+}
+
+fn traffic_frame(random: &mut Xorshift) -> Vec<u8> {
+    loop {
+        let kind = [Kind::Standard, Kind::Extended][random.below(2)];
+        let len = random.below(*TRAFFIC_WIRES.end());
+        let wire = written(kind, &random.bytes(len, 0));
+        if let Some(wire) = wire.filter(|wire| TRAFFIC_WIRES.contains(&wire.len())) {
+            return wire;
+        }
+    }
+}
+
 pub fn any_bytes() -> Vec<u8> {
     Xorshift::new().bytes(LINE_LEN, 0)
 }
 
-pub fn no_flag() -> Vec<u8> {
+/// Bytes that are no flags.
+pub fn stray_bytes() -> Vec<u8> {
     contents(&mut Xorshift::new(), LINE_LEN, 0)
 }
 

@@ -8,12 +8,14 @@
 //!
 //! Before a row is measured, both sides have to answer each call on its input alike and write the same bytes. They
 //! are timed in one process, in short slices that take turns. The ratio is plain Rust's time to ours, so above 1 ours
-//! is faster. Buffers are not cleared between calls. Bytes are those on the wire.
+//! is faster. Buffers are not cleared between calls. Bytes are those on the wire. Lines are fed in chunks of 65,536
+//! bytes, and to plain Rust a second time byte by byte.
 
 #[path = "../../tests/common/mod.rs"]
 mod common;
 mod header;
 mod inputs;
+mod lines;
 mod rows;
 mod sides;
 mod sweep;
@@ -52,6 +54,7 @@ fn main() {
     let choice = Choice::from_arguments();
     header::print();
     rows::print(&choice);
+    lines::print(&choice);
     let swept = sweep::print(&choice);
     if choice.lengths {
         sweep::print_lengths(&swept);

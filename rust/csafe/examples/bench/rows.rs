@@ -1,14 +1,14 @@
-//! The rows of single inputs: frames of any length, lines, leases.
+//! The rows of single inputs: frames of any length, and leases.
 
-use crate::inputs::{self, Frames, Kind};
-use crate::sides::Plain;
+use crate::inputs::{self, Frames, Kind, CONTENTS_LIMIT};
+use crate::sides::{Ours, Plain};
 use crate::table::Table;
 use crate::timing;
-use crate::work::{self, Feeding, Holding, Measuring, Reading, Stopping, Work, FREE};
+use crate::work::{self, Holding, Measuring, Reading, Stopping, Work, FREE};
 use crate::Choice;
 
 /// Slices of each side for a row.
-const SLICES: usize = 301;
+pub const SLICES: usize = 301;
 
 /// What a row counts in a second, in millions.
 enum Done {
@@ -26,16 +26,15 @@ pub fn print(choice: &Choice) {
     let table = Table::new(&["what", "ours", "plain Rust", "unit", "ratio"]);
     let mut rows = Rows { choice, table };
     rows.frames();
-    rows.lines();
     rows.leases();
 }
 
 impl Rows<'_> {
-    fn row(&mut self, what: &str, done: Done, work: &mut impl Work) {
+    fn row(&mut self, what: &str, done: Done, work: &mut (impl Work<Ours> + Work<Plain>)) {
         if !self.choice.has(what) {
             return;
         }
-        let times = timing::compare(work, SLICES);
+        let times = timing::compare::<Plain>(work, SLICES);
         let (amount, unit) = match done {
             Done::Bytes(len) => (len, "MB/s"),
             Done::Calls(count) => (count, "M calls/s"),
@@ -51,7 +50,7 @@ impl Rows<'_> {
     }
 
     fn frames(&mut self) {
-        let frames = Frames::any();
+        let frames = Frames::of_lengths(0..=CONTENTS_LIMIT);
         let damaged = inputs::damaged(&frames.wires);
         let done = || Done::Bytes(frames.wire_len());
         self.row(
@@ -68,29 +67,6 @@ impl Rows<'_> {
         self.row("write, any length and bytes", done(), writing);
         let measuring = &mut Measuring(Kind::Extended, &frames.contents);
         self.row("wire length, any length and bytes", done(), measuring);
-    }
-
-    fn lines(&mut self) {
-        let frames = Frames::any();
-        let lines = [
-            (
-                "line, frames one after another",
-                inputs::line_of(&frames.wires),
-            ),
-            (
-                "line, frames with stray bytes between them",
-                inputs::line_with_strays(&frames.wires),
-            ),
-            (
-                "line, damaged frames one after another",
-                inputs::line_of(&inputs::damaged(&frames.wires)),
-            ),
-            ("line, any bytes", inputs::any_bytes()),
-            ("line, no flag", inputs::no_flag()),
-        ];
-        for (what, line) in &lines {
-            self.row(what, Done::Bytes(line.len()), &mut Feeding(line));
-        }
     }
 
     fn leases(&mut self) {

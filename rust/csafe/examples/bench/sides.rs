@@ -1,18 +1,19 @@
-//! The two sides of the comparison, behind one trait.
+//! The two sides of the comparison, behind one trait, and the line readers of both.
 //!
 //! Each answer becomes one number before the caller sees it, on both sides by the same functions. Handed over as it
 //! is, an answer would be stored and loaded again, at a cost that depends on how a side lays it out. The numbers are
 //! laid out as neither side lays out its own answers, so that the change is work for both.
 
 use csafe::frame::{self, Frame, Kind};
-use csafe::{lease, Error, LineReader};
-use plain::{frame as plain_frame, lease as plain_lease, line as plain_line};
+use csafe::{lease, line, Error, LineReader};
+use plain::line::{self as plain_line, Answer};
+use plain::{frame as plain_frame, lease as plain_lease};
 
 pub const TABLE_LEN: usize = lease::TABLE_LEN;
+pub const CHUNK_LIMIT: usize = line::CHUNK_LIMIT;
 
 /// A side. Equal answers of the two sides are equal numbers.
 pub trait Side {
-    type Line: Line;
     fn read(wire: &[u8], out: &mut [u8]) -> u64;
     fn write_standard(contents: &[u8], out: &mut [u8]) -> u64;
     fn write_extended(to: u8, from: u8, contents: &[u8], out: &mut [u8]) -> u64;
@@ -23,7 +24,12 @@ pub trait Side {
     fn stop(table: &[u8], address: u32, token: u64, out: &mut [u8]) -> u64;
 }
 
-/// A line reader of one side.
+/// A side as far as it has a line reader.
+pub trait LineSide {
+    type Line: Line;
+}
+
+/// A line reader. Equal answers are equal numbers.
 pub trait Line {
     fn new() -> Self;
     /// Feeds bytes up to the first that is answered, shows the answer and its place with the contents, which are
@@ -37,9 +43,10 @@ pub struct Ours;
 /// The independent implementation.
 pub struct Plain;
 
-impl Side for Ours {
-    type Line = LineReader;
+/// The independent line reader, fed byte by byte.
+pub struct PlainByByte;
 
+impl Side for Ours {
     #[inline(always)]
     fn read(wire: &[u8], out: &mut [u8]) -> u64 {
         our_read(frame::read(wire, out))
@@ -81,6 +88,10 @@ impl Side for Ours {
     }
 }
 
+impl LineSide for Ours {
+    type Line = LineReader;
+}
+
 impl Line for LineReader {
     fn new() -> LineReader {
         LineReader::new()
@@ -118,8 +129,6 @@ fn our_read(answer: Result<Frame<'_>, Error>) -> u64 {
 }
 
 impl Side for Plain {
-    type Line = plain_line::Line;
-
     #[inline(always)]
     fn read(wire: &[u8], out: &mut [u8]) -> u64 {
         plain_read(plain_frame::read(wire, out))
@@ -161,22 +170,54 @@ impl Side for Plain {
     }
 }
 
+impl LineSide for Plain {
+    type Line = plain_line::Line;
+}
+
 impl Line for plain_line::Line {
     fn new() -> plain_line::Line {
         plain_line::Line::new()
     }
 
     #[inline(always)]
-    fn feed(&mut self, chunk: &[u8], mut see: impl FnMut(u64, &[u8])) -> usize {
+    fn feed(&mut self, chunk: &[u8], see: impl FnMut(u64, &[u8])) -> usize {
         let (taken, told) = self.feed_chunk(chunk);
-        match told {
-            plain_line::Answer::Frame(read) => {
-                see(plain_read(Ok(read)) | place(taken), self.contents())
-            }
-            plain_line::Answer::Refused(number) => see(plain_read(Err(number)) | place(taken), &[]),
-            plain_line::Answer::Nothing => {}
-        }
+        show(self, taken, told, see);
         taken
+    }
+}
+
+impl LineSide for PlainByByte {
+    type Line = ByByte;
+}
+
+pub struct ByByte(plain_line::Line);
+
+impl Line for ByByte {
+    fn new() -> ByByte {
+        ByByte(plain_line::Line::new())
+    }
+
+    #[inline(always)]
+    fn feed(&mut self, chunk: &[u8], see: impl FnMut(u64, &[u8])) -> usize {
+        for (at, byte) in chunk.iter().enumerate() {
+            let told = self.0.feed(*byte);
+            if told != Answer::Nothing {
+                show(&self.0, at + 1, told, see);
+                return at + 1;
+            }
+        }
+        chunk.len()
+    }
+}
+
+/// Shows what the independent reader told, if anything.
+#[inline(always)]
+fn show(line: &plain_line::Line, taken: usize, told: Answer, mut see: impl FnMut(u64, &[u8])) {
+    match told {
+        Answer::Frame(read) => see(plain_read(Ok(read)) | place(taken), line.contents()),
+        Answer::Refused(number) => see(plain_read(Err(number)) | place(taken), &[]),
+        Answer::Nothing => {}
     }
 }
 

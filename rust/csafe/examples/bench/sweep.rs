@@ -1,6 +1,7 @@
 //! Every length of contents, each measured by itself.
 
 use crate::inputs::{self, Frames, Kind, CONTENTS_LIMIT};
+use crate::sides::Plain;
 use crate::table::Table;
 use crate::timing::{self, Times};
 use crate::work::{Feeding, Measuring, Reading, Writing};
@@ -117,10 +118,10 @@ impl Swept {
 fn times(sweep: &Sweep, frames: &Frames) -> Times {
     let (wires, contents) = (&frames.wires, &frames.contents);
     match sweep.does {
-        Does::Read => timing::compare(&mut Reading(wires), SLICES),
-        Does::Write => timing::compare(&mut Writing(sweep.kind, contents), SLICES),
-        Does::Measure => timing::compare(&mut Measuring(sweep.kind, contents), SLICES),
-        Does::Line => timing::compare(&mut Feeding(&inputs::line_of(wires)), SLICES),
+        Does::Read => timing::compare::<Plain>(&mut Reading(wires), SLICES),
+        Does::Write => timing::compare::<Plain>(&mut Writing(sweep.kind, contents), SLICES),
+        Does::Measure => timing::compare::<Plain>(&mut Measuring(sweep.kind, contents), SLICES),
+        Does::Line => timing::compare::<Plain>(&mut Feeding(&inputs::line_of(wires)), SLICES),
     }
 }
 

@@ -3,7 +3,7 @@
 use std::hint::black_box;
 use std::time::Instant;
 
-use crate::sides::{Ours, Plain, Side};
+use crate::sides::Ours;
 use crate::work::Work;
 
 /// About how many seconds a slice lasts at least: so short that most of them run undisturbed, and so long that reading
@@ -39,27 +39,27 @@ impl Times {
     }
 }
 
-/// Checks that both sides answer and write alike, and then times so many slices of each in turn.
-pub fn compare(work: &mut impl Work, slices: usize) -> Times {
+/// Checks that our side and another one answer and write alike, and then times so many slices of each in turn.
+pub fn compare<S>(work: &mut (impl Work<Ours> + Work<S>), slices: usize) -> Times {
     assert!(
-        shown::<Ours>(work) == shown::<Plain>(work),
+        shown::<Ours>(work) == shown::<S>(work),
         "the two sides differ"
     );
-    let runs = 1 + (SLICE / slice::<Plain>(work, 1)) as usize;
+    let runs = 1 + (SLICE / slice::<S>(work, 1)) as usize;
     let mut times = Times::NONE;
     for _ in 0..slices {
         times = times.least(Times {
             ours: slice::<Ours>(work, runs),
-            plain: slice::<Plain>(work, runs),
+            plain: slice::<S>(work, runs),
         });
     }
     times
 }
 
 /// All answers of one side, and the bytes that they are about.
-fn shown<S: Side>(work: &mut impl Work) -> (Vec<u64>, Vec<u8>) {
+fn shown<S>(work: &mut impl Work<S>) -> (Vec<u64>, Vec<u8>) {
     let (mut answers, mut all) = (Vec::new(), Vec::new());
-    work.run::<S>(|answer, bytes| {
+    work.run(|answer, bytes| {
         answers.push(answer);
         all.extend_from_slice(bytes);
     });
@@ -68,10 +68,10 @@ fn shown<S: Side>(work: &mut impl Work) -> (Vec<u64>, Vec<u8>) {
 
 /// Seconds that one of so many runs takes.
 #[inline(never)]
-fn slice<S: Side>(work: &mut impl Work, runs: usize) -> f64 {
+fn slice<S>(work: &mut impl Work<S>, runs: usize) -> f64 {
     let start = Instant::now();
     for _ in 0..runs {
-        work.run::<S>(|answer, bytes| {
+        work.run(|answer, bytes| {
             black_box(answer);
             black_box(bytes.as_ptr());
         });

@@ -3,26 +3,23 @@
 use std::hint::black_box;
 
 use crate::inputs::{Kind, FROM, TO};
-use crate::sides::{Line, Side, TABLE_LEN};
-
-/// What a line hands over at once.
-const CHUNK: usize = 65_536;
+use crate::sides::{Line, LineSide, Side, CHUNK_LIMIT, TABLE_LEN};
 
 /// Where a buffer begins shows in the times, so it is the start of a line of the cache for both sides.
 #[repr(align(64))]
 struct Aligned<T>(T);
 
-/// Calls on one input.
-pub trait Work {
+/// Calls of a side on one input.
+pub trait Work<S> {
     /// Makes the calls once and shows each answer with the bytes that it is about.
-    fn run<S: Side>(&mut self, see: impl FnMut(u64, &[u8]));
+    fn run(&mut self, see: impl FnMut(u64, &[u8]));
 }
 
 pub struct Reading<'a>(pub &'a [Vec<u8>]);
 
-impl Work for Reading<'_> {
+impl<S: Side> Work<S> for Reading<'_> {
     #[inline(always)]
-    fn run<S: Side>(&mut self, mut see: impl FnMut(u64, &[u8])) {
+    fn run(&mut self, mut see: impl FnMut(u64, &[u8])) {
         let Aligned(out) = &mut Aligned([0; 128]);
         for wire in self.0 {
             let answer = S::read(black_box(wire), black_box(out));
@@ -33,9 +30,9 @@ impl Work for Reading<'_> {
 
 pub struct Writing<'a>(pub Kind, pub &'a [Vec<u8>]);
 
-impl Work for Writing<'_> {
+impl<S: Side> Work<S> for Writing<'_> {
     #[inline(always)]
-    fn run<S: Side>(&mut self, mut see: impl FnMut(u64, &[u8])) {
+    fn run(&mut self, mut see: impl FnMut(u64, &[u8])) {
         let Aligned(out) = &mut Aligned([0; 128]);
         // Addresses that the compiler knew would let it write a frame's beginning in advance.
         let (to, from) = black_box((TO, FROM));
@@ -52,9 +49,9 @@ impl Work for Writing<'_> {
 
 pub struct Measuring<'a>(pub Kind, pub &'a [Vec<u8>]);
 
-impl Work for Measuring<'_> {
+impl<S: Side> Work<S> for Measuring<'_> {
     #[inline(always)]
-    fn run<S: Side>(&mut self, mut see: impl FnMut(u64, &[u8])) {
+    fn run(&mut self, mut see: impl FnMut(u64, &[u8])) {
         // Addresses that the compiler knew would let it count them in advance.
         let (to, from) = black_box((TO, FROM));
         for contents in self.1 {
@@ -68,13 +65,14 @@ impl Work for Measuring<'_> {
     }
 }
 
+/// A line is fed in chunks of the greatest length that a call takes.
 pub struct Feeding<'a>(pub &'a [u8]);
 
-impl Work for Feeding<'_> {
+impl<S: LineSide> Work<S> for Feeding<'_> {
     #[inline(always)]
-    fn run<S: Side>(&mut self, mut see: impl FnMut(u64, &[u8])) {
+    fn run(&mut self, mut see: impl FnMut(u64, &[u8])) {
         let Aligned(line) = &mut Aligned(S::Line::new());
-        for chunk in black_box(self.0).chunks(CHUNK) {
+        for chunk in black_box(self.0).chunks(CHUNK_LIMIT) {
             let mut rest = chunk;
             while !rest.is_empty() {
                 let taken = line.feed(rest, &mut see);
@@ -87,9 +85,9 @@ impl Work for Feeding<'_> {
 /// Each address is held and then freed, after which the table is as it was.
 pub struct Holding<'a>(pub Leases, pub &'a [(u32, u64)]);
 
-impl Work for Holding<'_> {
+impl<S: Side> Work<S> for Holding<'_> {
     #[inline(always)]
-    fn run<S: Side>(&mut self, mut see: impl FnMut(u64, &[u8])) {
+    fn run(&mut self, mut see: impl FnMut(u64, &[u8])) {
         for (address, token) in self.1 {
             let answer = S::hold(black_box(&mut self.0), *address, *token);
             see(answer, &self.0);
@@ -103,9 +101,9 @@ impl Work for Holding<'_> {
 
 pub struct Stopping<'a>(pub Leases, pub &'a [(u32, u64)]);
 
-impl Work for Stopping<'_> {
+impl<S: Side> Work<S> for Stopping<'_> {
     #[inline(always)]
-    fn run<S: Side>(&mut self, mut see: impl FnMut(u64, &[u8])) {
+    fn run(&mut self, mut see: impl FnMut(u64, &[u8])) {
         let Aligned(out) = &mut Aligned([0; 16]);
         for (address, token) in self.1 {
             let table = black_box(&self.0);

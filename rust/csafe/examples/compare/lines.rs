@@ -6,7 +6,8 @@ use plain::line::Line;
 use crate::answer::{Answer, Function, Outcome};
 use crate::both::literal;
 use crate::common::Xorshift;
-use crate::held::Held;
+use crate::frame_damage::EXTENDED_START;
+use crate::held::{first_of, Held, CHUNK_LIMIT};
 use crate::lent_output::Output;
 use crate::tally::Tally;
 use crate::traces::Stretches;
@@ -14,6 +15,12 @@ use crate::{ours, theirs, Comparison};
 
 /// How many readers are kept to go on from later.
 const KEPT: usize = 4;
+
+/// One line in so many begins with about as many bytes without a flag as a call takes, or twice as many.
+const LONG_SHARE: usize = 1_024;
+
+/// The most bytes that such a beginning is shorter by, so that the end of what a call takes stands in the rest.
+const SHORTER_BY: usize = 256;
 
 /// A reader on both sides, and what ours has to hold.
 #[derive(Clone)]
@@ -45,6 +52,7 @@ impl Reader {
 
     /// Feeds the independent reader up to its first answer.
     fn feed_singly(&mut self, chunk: &[u8]) -> (usize, Answer) {
+        let chunk = first_of(chunk);
         for (at, byte) in chunk.iter().enumerate() {
             let answer = theirs::feed(&mut self.theirs, *byte);
             let contents = match answer.outcome() {
@@ -119,12 +127,23 @@ impl Lines {
 
     fn put_line(&mut self, random: &mut Xorshift) {
         self.line.clear();
+        if random.below(LONG_SHARE) == 0 {
+            self.put_long_beginning(random);
+        }
         for _ in 0..=random.below(4) {
             self.line.extend(self.stretches.any(random));
         }
         if random.below(4) == 0 {
             self.line.truncate(random.below(self.line.len() + 1));
         }
+    }
+
+    /// Bytes without a flag, so that no answer ends a call before it has taken all that it may.
+    fn put_long_beginning(&mut self, random: &mut Xorshift) {
+        let limits = 1 + random.below(2);
+        let len = limits * CHUNK_LIMIT - random.below(SHORTER_BY);
+        let filler = random.below(usize::from(EXTENDED_START)) as u8;
+        self.line.resize(len, filler);
     }
 
     fn feed(&mut self, at: usize, len: usize, tally: &mut Tally) -> Result<usize, String> {

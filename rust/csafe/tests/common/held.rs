@@ -1,8 +1,16 @@
-//! What a line reader has to hold.
+//! What a line reader has to hold, and how much of a chunk it may take.
 
 use csafe::line::HELD_LEN;
 
 use crate::frame_damage::{EXTENDED_START, STANDARD_START, STOP};
+
+/// The most bytes that a call takes. The number stands here too, so that neither side's own is taken for right.
+pub const CHUNK_LIMIT: usize = 65_536;
+
+/// The bytes of a chunk that a call looks at.
+pub fn first_of(chunk: &[u8]) -> &[u8] {
+    &chunk[..chunk.len().min(CHUNK_LIMIT)]
+}
 
 /// The modes of a reader, as its state counts them.
 const OUTSIDE: u64 = 0;

@@ -1,25 +1,86 @@
 //! Lines fed to both readers: to ours in chunks of any length, to the independent one byte by byte.
 
-use csafe::line::{self, Fed, HELD_LEN};
-use csafe::LineReader;
+mod chunks;
+
+use std::fmt;
+
+use csafe::line::{self, HELD_LEN};
+use csafe::{Error, Frame, LineReader, OwnedFrame};
 use plain::line::{Answer, Line};
 
 use crate::common::Xorshift;
 use crate::frame_damage::{EXTENDED_START, STANDARD_START, STOP};
 use crate::frames::as_read;
-use crate::held::Held;
+use crate::held::{first_of, Held};
 use crate::output::{hex, told, Output};
 use crate::tally::Tally;
 use crate::traces::{Stretches, ALPHABET};
 
-/// Both readers. Ours stands twice: on lent bytes between two margins, and as the type that owns its bytes.
+/// Both readers. Ours stands three times: on lent bytes between two margins, as the type that owns its bytes, and as
+/// that type behind its iterator. The independent one stands twice: fed byte by byte, and by the chunk.
 struct Readers {
     lent: Output,
     state: u64,
     owned: LineReader,
+    iterated: LineReader,
     theirs: Line,
+    theirs_by_chunk: Line,
     held: Held,
     tally: Tally,
+}
+
+/// What a call did: how many bytes it took, what it answered, and the contents of a frame.
+#[derive(Debug, PartialEq)]
+struct Done {
+    taken: usize,
+    answer: Answer,
+    contents: Vec<u8>,
+}
+
+impl Done {
+    fn by_ours(taken: usize, told: Option<Result<Frame<'_>, Error>>) -> Done {
+        let (answer, contents) = match told {
+            None => (Answer::Nothing, Vec::new()),
+            Some(Ok(frame)) => (Answer::Frame(as_read(frame)), frame.contents.to_vec()),
+            Some(Err(error)) => (Answer::Refused(error.number()), Vec::new()),
+        };
+        Done {
+            taken,
+            answer,
+            contents,
+        }
+    }
+
+    fn by_theirs(taken: usize, answer: Answer, line: &Line) -> Done {
+        let contents = match answer {
+            Answer::Frame(_) => line.contents().to_vec(),
+            _ => Vec::new(),
+        };
+        Done {
+            taken,
+            answer,
+            contents,
+        }
+    }
+
+    fn check_same(&self, expected: &Done, which: &str, input: &dyn Fn() -> String) {
+        assert!(
+            self == expected,
+            "{which} {self}, and the independent reader, byte by byte, {expected}: {}",
+            told(input)
+        );
+    }
+}
+
+impl fmt::Display for Done {
+    fn fmt(&self, f: &mut fmt::Formatter<'_>) -> fmt::Result {
+        let (taken, answer) = (self.taken, self.answer);
+        write!(
+            f,
+            "took {taken} and told {answer:?} {}",
+            hex(&self.contents)
+        )
+    }
 }
 
 impl Readers {
@@ -30,7 +91,9 @@ impl Readers {
             lent,
             state: 0,
             owned: LineReader::new(),
+            iterated: LineReader::new(),
             theirs: Line::new(),
+            theirs_by_chunk: Line::new(),
             held: Held::new(bytes.expect("the room is that of a reader")),
             tally: Tally::default(),
         }
@@ -42,72 +105,72 @@ impl Readers {
         while at < line.len() {
             let len = chunk(line.len() - at);
             let input = || format!("{len} bytes from {at} of the line {}", hex(line));
-            at += self.feed_chunk(&line[at..at + len], &input);
+            at += self.feed_chunk(&line[at..at + len], &input).taken;
         }
     }
 
-    fn feed_chunk(&mut self, chunk: &[u8], input: &dyn Fn() -> String) -> usize {
-        let (taken, answer) = self.feed_singly(chunk);
-        let contents = match answer {
-            Answer::Frame(_) => self.theirs.contents(),
-            _ => &[],
-        };
-        let bytes = self
-            .lent
-            .lent()
-            .try_into()
-            .expect("the room is that of a reader");
-        let lent = line::feed(bytes, &mut self.state, chunk);
+    fn feed_chunk(&mut self, chunk: &[u8], input: &dyn Fn() -> String) -> Done {
+        let done = self.feed_singly(chunk);
+        let lent = self.feed_lent(chunk);
+        lent.check_same(&done, "ours, on lent bytes,", input);
         let owned = self.owned.feed(chunk);
-        for (ours, which) in [(lent, "lent"), (owned, "owned")] {
-            assert_eq!(
-                (ours.taken, as_answer(ours)),
-                (taken, answer),
-                "ours (left, on {which} bytes) and the independent answer (right) differ: {}",
-                told(input)
-            );
-            assert!(
-                contents_of(ours) == contents,
-                "the contents differ: ours {}, on {which} bytes, independent {}: {}",
-                hex(contents_of(ours)),
-                hex(contents),
-                told(input)
-            );
-        }
+        Done::by_ours(owned.taken, owned.told).check_same(&done, "ours, on its own bytes,", input);
+        let iterated = self.feed_iterated(chunk);
+        iterated.check_same(&done, "our iterator", input);
+        let (taken, answer) = self.theirs_by_chunk.feed_chunk(chunk);
+        let by_chunk = Done::by_theirs(taken, answer, &self.theirs_by_chunk);
+        by_chunk.check_same(&done, "the independent reader, by the chunk,", input);
         self.check_held(input);
-        match answer {
+        match done.answer {
             Answer::Nothing => {}
             Answer::Frame(_) => self.tally.add(&Ok(())),
             Answer::Refused(number) => self.tally.add::<()>(&Err(number)),
         }
-        taken
+        done
+    }
+
+    fn feed_lent(&mut self, chunk: &[u8]) -> Done {
+        let bytes = self.lent.lent().try_into();
+        let bytes = bytes.expect("the room is that of a reader");
+        let fed = line::feed(bytes, &mut self.state, chunk);
+        Done::by_ours(fed.taken, fed.told)
+    }
+
+    /// The iterator goes on to the end of its chunk, so it gets no more than a call takes. It is dropped after its
+    /// first answer.
+    fn feed_iterated(&mut self, chunk: &[u8]) -> Done {
+        let chunk = first_of(chunk);
+        let mut answers = self.iterated.answers(chunk);
+        let told = answers.next();
+        let taken = chunk.len() - answers.rest().len();
+        Done::by_ours(taken, told.as_ref().map(borrowed))
     }
 
     /// The independent reader is fed up to its first answer.
-    fn feed_singly(&mut self, chunk: &[u8]) -> (usize, Answer) {
+    fn feed_singly(&mut self, chunk: &[u8]) -> Done {
+        let chunk = first_of(chunk);
         for (at, byte) in chunk.iter().enumerate() {
             let answer = self.theirs.feed(*byte);
-            let contents = match answer {
-                Answer::Frame(_) => self.theirs.contents(),
-                _ => &[],
-            };
-            self.held.take(*byte, contents);
+            let done = Done::by_theirs(at + 1, answer, &self.theirs);
+            self.held.take(*byte, &done.contents);
             if answer != Answer::Nothing {
-                return (at + 1, answer);
+                return done;
             }
         }
-        (chunk.len(), Answer::Nothing)
+        Done::by_theirs(chunk.len(), Answer::Nothing, &self.theirs)
     }
 
     fn finish(&mut self, input: &dyn Fn() -> String) {
         let ours = line::finish(&mut self.state);
         self.held.finish();
         assert_eq!(ours, self.owned.finish(), "{}", told(input));
+        assert_eq!(ours, self.iterated.finish(), "{}", told(input));
         let answer = match ours {
             Ok(()) => Answer::Nothing,
             Err(error) => Answer::Refused(error.number()),
         };
         assert_eq!(answer, self.theirs.finish(), "{}", told(input));
+        assert_eq!(answer, self.theirs_by_chunk.finish(), "{}", told(input));
         self.check_held(input);
     }
 
@@ -128,19 +191,11 @@ impl Readers {
     }
 }
 
-/// What the independent reader answers where ours answers this.
-fn as_answer(fed: Fed<'_>) -> Answer {
-    match fed.told {
-        None => Answer::Nothing,
-        Some(Ok(frame)) => Answer::Frame(as_read(frame)),
-        Some(Err(error)) => Answer::Refused(error.number()),
-    }
-}
-
-fn contents_of(fed: Fed<'_>) -> &[u8] {
-    match fed.told {
-        Some(Ok(frame)) => frame.contents,
-        _ => &[],
+/// An answer of the iterator, as a call gives it.
+fn borrowed(told: &Result<OwnedFrame, Error>) -> Result<Frame<'_>, Error> {
+    match told {
+        Ok(owned) => Ok(owned.frame()),
+        Err(error) => Err(*error),
     }
 }
 

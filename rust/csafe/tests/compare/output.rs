@@ -41,7 +41,14 @@ pub fn told(input: &dyn Fn() -> String) -> String {
     format!("seed {SEED:#018X}, {}", input())
 }
 
+/// The bytes in hexadecimal. One that is repeated often is told with its number, as `41*65536`.
 pub fn hex(bytes: &[u8]) -> String {
-    let digits: Vec<String> = bytes.iter().map(|byte| format!("{byte:02X}")).collect();
-    format!("[{}]", digits.join(" "))
+    let mut texts = Vec::new();
+    for run in bytes.chunk_by(|byte, next| byte == next) {
+        match run {
+            [byte, _, _, _, _, ..] => texts.push(format!("{byte:02X}*{}", run.len())),
+            _ => texts.extend(run.iter().map(|byte| format!("{byte:02X}"))),
+        }
+    }
+    format!("[{}]", texts.join(" "))
 }

@@ -94,6 +94,7 @@ fn the_headers_lengths_are_those_of_the_package() {
         ("CSAFE_WIRE_LIMIT", frame::WIRE_LIMIT),
         ("CSAFE_CONTENTS_LIMIT", frame::CONTENTS_LIMIT),
         ("CSAFE_LINE_LEN", line::HELD_LEN),
+        ("CSAFE_CHUNK_LIMIT", line::CHUNK_LIMIT),
         ("CSAFE_WORKOUT_LEN", workout::LEN),
         ("CSAFE_STOP_LIMIT", lease::STOP_LIMIT),
         ("CSAFE_TABLE_LEN", lease::TABLE_LEN),

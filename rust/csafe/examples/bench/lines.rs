@@ -1,0 +1,65 @@
+//! The rows of lines. Plain Rust is measured by the chunk, as ours is, and byte by byte.
+
+use crate::inputs::{self, Frames, CONTENTS_LIMIT};
+use crate::rows::SLICES;
+use crate::sides::{Plain, PlainByByte};
+use crate::table::Table;
+use crate::timing;
+use crate::work::Feeding;
+use crate::Choice;
+
+/// Each ratio is of the times of ours and of plain Rust that were taken in turn.
+const COLUMNS: [&str; 7] = [
+    "what",
+    "ours",
+    "plain Rust",
+    "plain Rust by byte",
+    "unit",
+    "ratio",
+    "ratio by byte",
+];
+
+pub fn print(choice: &Choice) {
+    let mut table = Table::new(&COLUMNS);
+    for (what, line) in lines() {
+        if choice.has(what) {
+            table.row(&row(what, &line));
+        }
+    }
+}
+
+fn lines() -> [(&'static str, Vec<u8>); 7] {
+    let any = Frames::of_lengths(0..=CONTENTS_LIMIT).wires;
+    let long = Frames::of_lengths(90..=110).wires;
+    let damaged = inputs::damaged(&any);
+    [
+        ("line, traffic", inputs::traffic()),
+        ("line, long frames", inputs::line_of(&long)),
+        ("line, frames one after another", inputs::line_of(&any)),
+        (
+            "line, frames with stray bytes between them",
+            inputs::line_with_strays(&any),
+        ),
+        (
+            "line, damaged frames one after another",
+            inputs::line_of(&damaged),
+        ),
+        ("line, any bytes", inputs::any_bytes()),
+        ("line, stray bytes alone", inputs::stray_bytes()),
+    ]
+}
+
+fn row(what: &str, line: &[u8]) -> [String; COLUMNS.len()] {
+    let by_chunk = timing::compare::<Plain>(&mut Feeding(line), SLICES);
+    let by_byte = timing::compare::<PlainByByte>(&mut Feeding(line), SLICES);
+    let rate = |time: f64| format!("{:.1}", line.len() as f64 / time / 1e6);
+    [
+        what.to_string(),
+        rate(by_chunk.ours),
+        rate(by_chunk.plain),
+        rate(by_byte.plain),
+        "MB/s".to_string(),
+        format!("{:.2}", by_chunk.ratio()),
+        format!("{:.2}", by_byte.ratio()),
+    ]
+}
