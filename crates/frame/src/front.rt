@@ -3,6 +3,7 @@ use crate::bytes;
 use crate::candidate;
 use crate::flags;
 ghost use mathlib.Core.Path.{_≡_};
+ghost use Prim.Native.Nat.{_<_};
 ghost use lib.ListN.{getD, take};
 ghost use Rattle.lists.specs.Choice.{countBefore};
 ghost use Rattle.frame.specs.Flags.{isStart, isFlag};
@@ -11,8 +12,10 @@ ghost use Rattle.frame.specs.Checksum.{checksum};
 ghost use Rattle.frame.specs.Leading.{isStopAt};
 ghost use Rattle.frame.specs.Private.{PlainTo};
 
-// How many bytes are looked at together.
+// How many bytes are looked at together, and how many of those that are left.
 const BLOCK: usize = 32;
+
+const SMALL_BLOCK: usize = 8;
 
 // How many bytes stand before the first F0 to F3, and their exclusive or.
 pub(crate) struct PlainRun {
@@ -51,14 +54,16 @@ pub(crate) fn first_flag(s: &[u8], at: usize) -> usize
     at + lists::count_before(&s[at..], flags::EXTENDED_START, flags::STOP)
 }
 
-// The bytes before the first F0 to F3. The last ones, fewer than a block, are looked at singly.
+// The bytes before the first F0 to F3: whole blocks first, then small ones, then single bytes.
 pub(crate) fn plain_run(s: &[u8]) -> PlainRun
     ensures { λ r. ⌜ r .at ≡ countBefore isStuffed (now (s .entry)) ⌝ }
     ensures { λ r. ⌜ r .sum ≡ checksum (take (r .at) (now (s .entry))) ⌝ }
 {
-    let blocks = plain_blocks(s);
-    let mut i = blocks.at;
-    let mut sum = blocks.sum;
+    let none = PlainRun { at: 0, sum: 0 };
+    let blocks = plain_blocks(s, none, BLOCK);
+    let small = plain_blocks(s, blocks, SMALL_BLOCK);
+    let mut i = small.at;
+    let mut sum = small.sum;
     while i < s.len() {
         if flags::is_stuffed(s[i]) {
             return PlainRun { at: i, sum };
@@ -69,19 +74,21 @@ pub(crate) fn plain_run(s: &[u8]) -> PlainRun
     PlainRun { at: i, sum }
 }
 
-// Whole blocks without F0 to F3. A block is looked at without a branch for each byte.
-fn plain_blocks(s: &[u8]) -> PlainRun
+// Passes over blocks of a size without F0 to F3, from a run on. A block is looked at without a branch for each byte.
+fn plain_blocks(s: &[u8], from: PlainRun, size: usize) -> PlainRun
+    requires { ⌜ 0 < size ⌝ }
+    requires { ⌜ PlainTo (now s) (from .at) (from .sum) ⌝ }
     ensures { λ r. ⌜ PlainTo (now (s .entry)) (r .at) (r .sum) ⌝ }
 {
-    let mut i: usize = 0;
-    let mut sum: u8 = 0;
-    while BLOCK <= s.len() - i {
-        let looked = bytes::look(&s[i..i + BLOCK], flags::EXTENDED_START, flags::ESCAPE);
+    let mut i = from.at;
+    let mut sum = from.sum;
+    while size <= s.len() - i {
+        let looked = bytes::look(&s[i..i + size], flags::EXTENDED_START, flags::ESCAPE);
         if !looked.clear {
             return PlainRun { at: i, sum };
         }
         sum = sum ^ looked.sum;
-        i += BLOCK;
+        i += size;
     }
     PlainRun { at: i, sum }
 }

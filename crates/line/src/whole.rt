@@ -45,7 +45,7 @@ fn judge_leading(bytes: &mut [u8; 118], input: &[u8]) -> Judged
         return none();
     }
     let n = contents_len(read);
-    lists::copy(&input[n + 1..taken - 1], bytes, n);
+    lists::copy_short(&input[n + 1..taken - 1], bytes, n);
     Judged {
         told: crate::told_of(read),
         taken,

@@ -3,19 +3,19 @@ use lib.ListN.{length}
 use Prim.Native.Nat.{_-_}
 use borrow.Author.Tests.{not-false}
 use Rattle.frame.specs.Private.{PlainTo}
-use Rattle.frame.proofs.LeadingLaws.{plain-none, plain-block}
+use Rattle.frame.proofs.LeadingLaws.{plain-block}
 use borrow.Author.Needs.{needs}
 use Rattle.frame.proofs.front.plain_blocks.Statement.{statement}
 use Rattle.frame.proofs.front.plain_blocks.Tie as tie
 
 abbrev Inv-loop : tie.InvT-loop
-Inv-loop s i₀ sum₀ i sum = PlainTo s i sum
+Inv-loop s size i₀ sum₀ i sum = PlainTo s i sum
 
 abbrev μ-loop : tie.MeasureT-loop
-μ-loop s i₀ sum₀ i sum = length s - i
+μ-loop s size i₀ sum₀ i sum = length s - i
 
 loop-holds : tie.Need-loop-holds Inv-loop μ-loop
-loop-holds c = plain-none _
+loop-holds c = c .before .pre .1
 
 sub-loop : tie.Need-sub-loop Inv-loop μ-loop
 sub-loop c = c .loop .inv .inside
@@ -48,7 +48,7 @@ loop-again : tie.Need-loop-again Inv-loop μ-loop
 loop-again c =
     let k = c .before .before .before in
     let l = k .before .before .before in
-    plain-block _ (l .loop .i) 32 _ _ _ (l .loop .inv) (omega (arith, l .loop .inv .inside)) (k .look .ensures .0)
+    plain-block _ (l .loop .i) (l .before .before .args .size) _ _ _ (l .loop .inv) (omega (arith, l .loop .inv .inside)) (k .look .ensures .0)
     (k .look .ensures .1) (not-false _ (c .before .if1 .left))
 
 returns-2 : tie.Need-returns-2 Inv-loop μ-loop

@@ -43,23 +43,23 @@ inside c =
     (r .read-leading .ensures .0) (found (c .before)) (readMeans (r .read-leading .result .read))
     (r .read-leading .ensures .1 .0) (c .contents-len .result) (c .contents-len .ensures)
 
-add-copy : tie.Need-add-copy
-add-copy c = record { fits = omega (arith, inside c, c .before .before .before .before .before .good) }
+add-copy-short : tie.Need-add-copy-short
+add-copy-short c = record { fits = omega (arith, inside c, c .before .before .before .before .before .good) }
 
-sub-copy : tie.Need-sub-copy
-sub-copy c = omega (arith, inside c)
+sub-copy-short : tie.Need-sub-copy-short
+sub-copy-short c = omega (arith, inside c)
 
-sub-copy-2 : tie.Need-sub-copy-2
-sub-copy-2 c = omega (arith, inside c)
+sub-copy-short-2 : tie.Need-sub-copy-short-2
+sub-copy-short-2 c = omega (arith, inside c)
 
-part-copy-start : tie.Need-part-copy-start
-part-copy-start c = omega (arith, inside c)
+part-copy-short-start : tie.Need-part-copy-short-start
+part-copy-short-start c = omega (arith, inside c)
 
-part-copy-end : tie.Need-part-copy-end
-part-copy-end c = omega (arith, inside c)
+part-copy-short-end : tie.Need-part-copy-short-end
+part-copy-short-end c = omega (arith, inside c)
 
-copy-requires : tie.Need-copy-requires
-copy-requires c κs = search needs
+copy-short-requires : tie.Need-copy-short-requires
+copy-short-requires c κs = search needs
 
 told-of-requires : tie.Need-told-of-requires
 told-of-requires c κs = search needs
@@ -84,7 +84,7 @@ returns-2 c =
               (r .read-leading .ensures .1 .0) (n .contents-len .result) (n .contents-len .ensures));
           left-is = wire-left s bytes a taken (r .read-leading .ensures .0) h means (r .read-leading .ensures .1 .0)
               (n .contents-len .result) (n .contents-len .ensures) (r .read-leading .last .1 .0) _
-              (r .read-leading .ensures .1 .1) (c .before .copy .ensures);
+              (r .read-leading .ensures .1 .1) (c .before .copy-short .ensures);
         }),
       ),
     )
@@ -97,11 +97,11 @@ judge-leading-spec =
     none-requires
     returns
     contents-len-requires
-    add-copy
-    sub-copy
-    sub-copy-2
-    part-copy-start
-    part-copy-end
-    copy-requires
+    add-copy-short
+    sub-copy-short
+    sub-copy-short-2
+    part-copy-short-start
+    part-copy-short-end
+    copy-short-requires
     told-of-requires
     returns-2)
