@@ -1,7 +1,7 @@
 -- Laws of the candidate that a slice begins with: where it ends, its sum, and its verdict.
-use Prim.Native.Nat.{ℕ, suc, _+_, _-_, _≤_, _<_}
+use Prim.Native.Nat.{ℕ, _+_, _-_, _≤_, _<_}
 use mathlib.Core.Path.{_≡_, refl, sym, ap, ap₂, _∙_}
-use mathlib.Core.Bool.{Bool, true, false, true≢false, false≢true}
+use mathlib.Core.Bool.{Bool, true, false, false≢true}
 use mathlib.Core.List.{List, [], _∷_, _++_, append-assoc}
 use native.Mathlib.Nat.{zero-add}
 use native.Mathlib.Numerals.{add-one}
@@ -9,7 +9,7 @@ use native.Mathlib.Omega.{arith}
 use lib.Bits.{bitXor}
 use lib.Dec.{eqb, leb}
 use lib.ListN.{length, getD, take, drop, length-drop, length-append, take-append-drop, List·getD-eq-default}
-use lib.Seq.{take-suc, take-add, take-all, take-at, drop-cons, drop-drop, length-take-le, getD-drop}
+use lib.Seq.{take-suc, take-add, take-at, drop-cons, length-take-le}
 use borrow.Author.Tests.{eqb-true, leb-true, leb-false}
 use Rattle.lists.specs.Choice.{pick, noneOf, countBefore}
 use Rattle.lists.proofs.Cases.{by-bool}
@@ -19,7 +19,7 @@ use Rattle.answer.specs.Answer.{refused}
 use Rattle.frame.specs.Flags.{startFlag, stopFlag, isStart, isFlag, kindOf, candidateOf}
 use Rattle.frame.specs.Stuffing.{isStuffed}
 use Rattle.frame.specs.Checksum.{sumFrom, checksum}
-use Rattle.frame.specs.Verdict.{Verdict, verdict, isTerminated}
+use Rattle.frame.specs.Verdict.{verdict, isTerminated}
 use Rattle.frame.specs.Leading.{isStopAt, openCount, leadingCount}
 use Rattle.frame.specs.Private.{judgeWhole, Unescaped, PlainTo, openVerdict}
 use Rattle.frame.specs.declared.Kind.{Kind}

@@ -1,7 +1,7 @@
 -- Bytes that are no start flags, fed to a reader that is outside of a candidate and whose length is 0, leave it as it
 -- is.
 use mathlib.Core.Path.{_≡_, refl, sym, ap, _∙_}
-use mathlib.Core.Bool.{true, false, true≢false}
+use mathlib.Core.Bool.{false, true≢false}
 use mathlib.Core.List.{List, [], _∷_}
 use native.Mathlib.Omega.{arith}
 use lib.ListN.{drop}

@@ -46,7 +46,7 @@ fn print_stepped(index: usize, step: Stepped) -> LineReader {
     match told {
         Told::Nothing => {}
         _ => {
-            print_told(index, told, &contents);
+            print_told_at(index, told, &contents);
             // The zeros part the 118 bytes into one part more than there are zeros.
             print::say(
                 print::NONZERO,
@@ -69,14 +69,14 @@ fn feed_all(held: &mut [u8; 118], state: State, bytes: &[u8]) -> State {
         let step = line::feed_in(held, s, &bytes[i..]);
         i = past(i, step.taken, bytes.len());
         let told = step.told;
-        print_told(i - 1, told, held);
+        print_told_at(i - 1, told, held);
         s = step.state;
     }
     finish(held, s, i)
 }
 
 // The index after so many bytes more: at least one, and at most those that there are.
-fn past(i: usize, taken: usize, end: usize) -> usize
+pub(crate) fn past(i: usize, taken: usize, end: usize) -> usize
     requires { ⌜ i < end ⌝ }
     ensures { λ r. ⌜ i < r ⌝ }
     ensures { λ r. ⌜ r ≤ end ⌝ }
@@ -93,32 +93,38 @@ fn past(i: usize, taken: usize, end: usize) -> usize
 fn finish(held: &[u8; 118], state: State, index: usize) -> State {
     let last = line::finish_in(state);
     let told = last.told;
-    print_told(index, told, held);
+    print_told_at(index, told, held);
     last.state
 }
 
 // ---- what is told
 
-fn print_told(index: usize, told: Told, held: &[u8; 118]) {
+fn print_told_at(index: usize, told: Told, held: &[u8; 118]) {
     match told {
         Told::Nothing => {}
-        Told::Refused(why) => {
+        _ => {
             print::say(print::AT, index, 0, 0);
-            print::refusal(print::KIND_REFUSED, why);
+            print_told(told, held);
         }
-        Told::Standard { len } => print_frame(index, print::STANDARD, 0, 0, held, len),
-        Told::Extended { to, from, len } => print_frame(
-            index,
-            print::EXTENDED,
-            to,
-            from,
-            held,
-            len,
-        ),
     }
 }
 
-fn print_frame(index: usize, kind: usize, to: u8, from: u8, held: &[u8; 118], len: usize) {
-    print::say(print::AT, index, 0, 0);
-    wire::print_frame(kind, to, from, entries::part(held, 0, len));
+// A frame's contents are the first bytes of the array.
+pub(crate) fn print_told(told: Told, held: &[u8; 118]) {
+    match told {
+        Told::Nothing => {}
+        Told::Refused(why) => print::refusal(print::KIND_REFUSED, why),
+        Told::Standard { len } => wire::print_frame(
+            print::STANDARD,
+            0,
+            0,
+            entries::part(held, 0, len),
+        ),
+        Told::Extended { to, from, len } => wire::print_frame(
+            print::EXTENDED,
+            to,
+            from,
+            entries::part(held, 0, len),
+        ),
+    }
 }

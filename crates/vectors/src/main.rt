@@ -1,6 +1,7 @@
 // Runs the worked examples on standard input, at most 65,536 bytes, and prints a line for each. The head of `stdin`
 // describes both. What it prints is tested and not proved: it is compared with what a plain Rust program prints. The
 // answers are those of the crates below.
+mod chunks;
 mod commands;
 mod leases;
 mod lines;
@@ -49,6 +50,7 @@ fn run(operation: usize, arguments: &[u8]) {
         operations::TIME => workouts::write(true, arguments),
         operations::LEASE => leases::run_calls(arguments),
         operations::LINE => lines::run_calls(arguments),
+        operations::CHUNKS => chunks::run_calls(arguments),
         operations::NAMES => replies::print_names(),
         _ => run_on_bytes(operation, arguments),
     }

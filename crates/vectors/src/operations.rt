@@ -29,25 +29,27 @@ pub(crate) const LEASE: usize = 12;
 
 pub(crate) const LINE: usize = 13;
 
-pub(crate) const NAMES: usize = 14;
+pub(crate) const CHUNKS: usize = 14;
 
-pub(crate) const STANDARD_LENGTH: usize = 15;
+pub(crate) const NAMES: usize = 15;
 
-pub(crate) const EXTENDED_LENGTH: usize = 16;
+pub(crate) const STANDARD_LENGTH: usize = 16;
 
-pub(crate) const HOLD: usize = 17;
+pub(crate) const EXTENDED_LENGTH: usize = 17;
 
-pub(crate) const RELEASE: usize = 18;
+pub(crate) const HOLD: usize = 18;
 
-pub(crate) const STOP: usize = 19;
+pub(crate) const RELEASE: usize = 19;
 
-pub(crate) const OWN_BYTES: usize = 20;
+pub(crate) const STOP: usize = 20;
 
-pub(crate) const COUNT: usize = 21;
+pub(crate) const OWN_BYTES: usize = 21;
+
+pub(crate) const COUNT: usize = 22;
 
 pub(crate) fn named(name: &[u8]) -> usize {
     let names =
-        b"frame contents standard extended number command inside step item status distance time lease line names \
-        standard-length extended-length hold release stop bytes";
+        b"frame contents standard extended number command inside step item status distance time lease line chunks \
+        names standard-length extended-length hold release stop bytes";
     words::index_among(names, COUNT, name)
 }

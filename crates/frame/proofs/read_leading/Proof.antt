@@ -1,17 +1,16 @@
 use mathlib.Core.Path.{_≡_, sym, ap, ap₂, _∙_}
 use mathlib.Core.Bool.{true}
 use mathlib.Core.List.{List}
-use Prim.Native.Nat.{ℕ, _-_, _<_}
+use Prim.Native.Nat.{ℕ, _-_}
 use native.Mathlib.Omega.{arith}
 use lib.ListN.{length, take, drop, getD, length-drop}
 use lib.Seq.{take-all}
 use borrow.Author.Tests.{not-true, not-false}
-use Rattle.frame.specs.Flags.{isStart, kindOf}
+use Rattle.frame.specs.Flags.{isStart}
 use Rattle.frame.specs.Verdict.{Verdict, verdict}
 use Rattle.frame.specs.Answers.{readAnswer, readOut}
 use Rattle.frame.specs.Leading.{openCount}
 use Rattle.frame.specs.Private.{openVerdict}
-use Rattle.frame.specs.declared.Kind.{Kind}
 use Rattle.frame.proofs.VerdictLaws.{answer-refused}
 use Rattle.frame.proofs.LeadingLaws.{start-some, leading-none, leading-some, open-verdict}
 use borrow.Author.Needs.{needs}

@@ -3,13 +3,12 @@ use mathlib.Core.Bool.{true}
 use mathlib.Core.List.{List}
 use Prim.Native.Nat.{ℕ, _≤_}
 use native.Mathlib.Omega.{arith}
-use lib.ListN.{length, take}
+use lib.ListN.{length}
 use lib.Seq.{length-take-le}
 use borrow.Author.Tests.{not-true, not-false}
 use Rattle.frame.specs.Verdict.{Verdict}
 use Rattle.frame.specs.Answers.{readAnswer, readOut}
 use Rattle.frame.specs.Leading.{isStopAt}
-use Rattle.frame.specs.Private.{Unescaped}
 use Rattle.frame.proofs.VerdictLaws.{plain-whole, answer-refused}
 use Rattle.frame.proofs.LeadingLaws.{open-plain, open-inside, open-none, open-some}
 use borrow.Author.Needs.{needs}

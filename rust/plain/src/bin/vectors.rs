@@ -51,6 +51,7 @@ fn run(line: &str) -> Option<String> {
         "time" => workout_answer(arguments, |seconds, split| Goal::Time { seconds, split })?,
         "lease" => lease_answer(arguments)?,
         "line" => line_answer(arguments)?,
+        "chunks" => chunks_answer(arguments)?,
         "command" => command_answer(&bytes(arguments)?)?,
         "inside" => inside_answer(&bytes(arguments)?)?,
         "item" => item_answer(&bytes(arguments)?)?,
@@ -444,12 +445,45 @@ fn feed_all(line: &mut Line, bytes: &[u8]) -> String {
 }
 
 fn told_at(at: usize, answer: Answer, contents: &[u8]) -> String {
-    let told = match answer {
-        Answer::Nothing => return String::new(),
+    match answer {
+        Answer::Nothing => String::new(),
+        _ => format!(" at={at}{}", told(answer, contents)),
+    }
+}
+
+fn told(answer: Answer, contents: &[u8]) -> String {
+    match answer {
+        Answer::Nothing => String::new(),
         Answer::Frame(read) => told_frame(read, contents),
         Answer::Refused(code) => refusal_of(code),
+    }
+}
+
+/// The answers of a reader that gets chunks, which is finished after each group of
+/// them.
+fn chunks_answer(arguments: &str) -> Option<String> {
+    let mut line = Line::new();
+    let group = |group: &str| {
+        let chunk = |chunk| Some(chunk_answers(&mut line, &bytes(chunk)?));
+        let calls: String = group.split(',').map(chunk).collect::<Option<_>>()?;
+        let last = line.finish();
+        Some(format!("{calls} finish:{}", told(last, line.contents())))
     };
-    format!(" at={at}{told}")
+    arguments.split('/').map(group).collect()
+}
+
+/// The answers to a chunk, and to what a call did not take of it.
+fn chunk_answers(line: &mut Line, chunk: &[u8]) -> String {
+    let mut answers = String::new();
+    let mut rest = chunk;
+    loop {
+        let (taken, answer) = line.feed_chunk(rest);
+        answers += &format!(" taken={taken}{}", told(answer, line.contents()));
+        rest = &rest[taken..];
+        if rest.is_empty() {
+            return answers;
+        }
+    }
 }
 
 fn number(bytes: &[u8]) -> u64 {

@@ -1,9 +1,8 @@
 use mathlib.Core.Path.{_≡_, sym, ap, _∙_}
-use Prim.Native.Nat.{ℕ, _+_, _≤_, _<_}
+use Prim.Native.Nat.{_+_, _≤_, _<_}
 use native.Mathlib.Omega.{arith}
-use lib.ListN.{length, take}
-use Rattle.frame.specs.Verdict.{verdict}
-use Rattle.frame.specs.Answers.{readMeans, readOut}
+use lib.ListN.{length}
+use Rattle.frame.specs.Answers.{readMeans}
 use Rattle.line.specs.Outcome.{capacity, tells}
 use Rattle.line.proofs.WholeLaws.{wire-judged, wire-inside, wire-left, none-left}
 use borrow.Author.Needs.{needs}
