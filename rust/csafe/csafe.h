@@ -142,11 +142,12 @@ uint64_t csafe_read(const uint8_t *wire, size_t wire_len, uint8_t *out, size_t o
  *
  * A candidate for a frame begins at a start flag. At its stop flag it is answered as csafe_read answers a slice, its
  * contents being the first bytes of the reader, or refused. Where nothing is told, the kind is CSAFE_NOTHING and all
- * bytes were taken. The next call has to start right after the last byte taken. However a stream is cut into calls, its
+ * bytes were taken, or the first CSAFE_CHUNK_LIMIT of them. The next call has to start right after the last byte taken. However a stream is cut into calls, its
  * answers are those of its bytes fed one by one.
  *
  * An input longer than CSAFE_CHUNK_LIMIT is cut to its first CSAFE_CHUNK_LIMIT bytes, so where nothing is told of
  * those, that many were taken. Of an empty input none are taken and nothing is told.
+ *
  * Refused where a start flag comes before the stop flag: CSAFE_TRUNCATED, and the flag begins the next candidate.
  * Refused at the stop flag, in this order: CSAFE_TOO_LONG, CSAFE_BAD_ESCAPE, CSAFE_TOO_SHORT, CSAFE_BAD_CHECKSUM.
  */

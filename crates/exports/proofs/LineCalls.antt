@@ -6,8 +6,8 @@ use native.Mathlib.Omega.{arith}
 use Prim.Native.Nat.{ℕ}
 use contract.Lifetimes.{Lfts}
 use denote.Ref.{RefT}
-use Rattle.lists.specs.Machine.{RanBy, AnsweredBy}
-use Rattle.lists.proofs.Machines.{ran-by-run}
+use Rattle.lists.specs.Machine.{RanBy, Through, AnsweredBy}
+use Rattle.lists.proofs.Machines.{ran-by-run, through-ran}
 use Rattle.framing.specs.Reference.{Call, finish}
 use Rattle.framing.specs.Demand3.{feed, Demand3}
 use Rattle.framing.proofs.Restart.{demand3-of}
@@ -53,7 +53,7 @@ fed-outcome n bytes bytes′ input state state′ taken k =
     let r = readerIn bytes state in
     ap₂ outcomeOf (fed-told n r (cutChunk input) (k .answered)) (k .bytes-left) ∙ feed-whole r (cutChunk input)
 
--- `csafe_feed` takes its chunk to the end, 65,536 bytes at the most, or to the byte that is answered.
+-- With no answer `csafe_feed` takes its whole chunk, 65,536 bytes at the most, and with one at least a byte.
 pub fed-to-answer : (κs : Lfts 4) (bytes bytes′ : RefT (List ℕ)) (state state′ : RefT ℕ) (input : RefT (List ℕ))
     (taken taken′ : RefT ℕ) (n : ℕ)
     → feed-reads.Learnt κs (bytes, (state, (input, (taken, tt)))) n (bytes′, (state′, (input, (taken′, tt))))
@@ -62,13 +62,14 @@ fed-to-answer κs bytes bytes′ state state′ input taken taken′ n k =
     takes-to-answer (readerIn (bytes .now) (state .now)) (input .now) (taken′ .now) _ (k .count)
     (fed-outcome n (bytes .now) (bytes′ .now) (input .now) (state .now) (state′ .now) (taken′ .now) k)
 
-called-takes : (l l′ : LentLine) (given : List Call) (taken : ℕ) (outcomes : List Outcome)
+-- The bytes taken, and a finish, are answered, and leave the reader, as they do singly.
+pub exported-takes : (l l′ : LentLine) (given : List Call) (taken : ℕ) (outcomes : List Outcome)
     → ExportedLine l given taken outcomes l′ → TakesFirst (readerOf l) given taken outcomes (readerOf l′)
-called-takes l l′ given m outcomes (fed κs bytes bytes′ state state′ input taken taken′ n k) =
+exported-takes l l′ given m outcomes (fed κs bytes bytes′ state state′ input taken taken′ n k) =
     takes-first (readerIn (bytes .now) (state .now)) (input .now) (taken′ .now) _ (k .count)
     (fed-outcome n (bytes .now) (bytes′ .now) (input .now) (state .now) (state′ .now) (taken′ .now) k) (readerOf l′)
     (fed-next n (bytes′ .now) (state′ .now) (taken′ .now) (fedTo (bytes .now) (state .now) (input .now)) k)
-called-takes l l′ given m outcomes (ended κs {bytes = bytes} state state′ n k) =
+exported-takes l l′ given m outcomes (ended κs {bytes = bytes} state state′ n k) =
     let r = readerIn bytes (state .now) in (
       omega arith,
       ap (λ (o : Outcome). o ∷ [])
@@ -78,13 +79,19 @@ called-takes l l′ given m outcomes (ended κs {bytes = bytes} state state′ n
 
 -- ---- calls in a row
 
--- However a stream is cut into chunks, from any array and any number of a state: each byte and each finish has the
--- outcome that it has singly, and the array and the number left are the reader of the single calls.
+-- Any calls in a row, from any array and any number of a state: each byte taken and each finish has the outcome that it
+-- has singly, and the array and the number left are the reader of the single calls.
 pub exported-singly : {l last : LentLine} {calls : List Call} {outcomes : List Outcome}
     → RanBy ExportedLine l calls outcomes last → AsSingly (readerOf l) calls outcomes (readerOf last)
 exported-singly t =
-    let k = ran-by-run ExportedLine outcomeAt nextAfter readerOf called-takes t in
+    let k = ran-by-run ExportedLine outcomeAt nextAfter readerOf exported-takes t in
     record { outcomes-are = k .0; reader-is = k .1 }
+
+-- However a stream, with its finishes, is cut into chunks, each starting right after the last byte taken.
+pub exported-stream : {l last : LentLine} {stream : List Call} {outcomes : List Outcome}
+    → Through ExportedLine l stream outcomes last → AsSingly (readerOf l) stream outcomes (readerOf last)
+exported-stream t =
+    exported-singly (through-ran ExportedLine (λ l l′ given taken os k. exported-takes l l′ given taken os k .0) t)
 
 -- Demand 3 of `csafe_feed` and `csafe_finish`, whole, from every array and number that are a reader outside of a
 -- candidate.

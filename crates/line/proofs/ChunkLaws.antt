@@ -13,7 +13,7 @@ use Rattle.framing.specs.Reference.{byte}
 use Rattle.framing.specs.Demand3.{feed}
 use Rattle.line.specs.Outcome.{Outcome, nothing, judged}
 use Rattle.line.specs.Reader.{ReaderTurn, stepOf, outcomeAt, nextAfter}
-use Rattle.line.specs.Feed.{isAnswer, ChunkTurn, chunkTurn, laterBy, feedOf, cutChunk, chunkOf}
+use Rattle.line.specs.Feed.{isAnswer, ChunkTurn, chunkTurn, laterBy, feedOf, chunkLimit, cutChunk, chunkOf}
 use Rattle.line.specs.Chunks.{byByte, TakenToAnswer, TakesFirst, AsSingly}
 use Rattle.line.specs.declared.LineReader.{LineReader}
 
@@ -81,13 +81,13 @@ chunk-taken r (b ∷ s) =
 module _ (r : LineReader) (s : List ℕ) where
   -- No more bytes are taken than the chunk has.
   pub cut-within : chunkOf r s .taken ≤ length s
-  cut-within = omega (arith, chunk-taken r (cutChunk s) .within, take-bounds 65536 s .1)
+  cut-within = omega (arith, chunk-taken r (cutChunk s) .within, take-bounds chunkLimit s .1)
 
   -- The bytes taken are the chunk's first.
   pub first-of-cut : take (chunkOf r s .taken) (cutChunk s) ≡ take (chunkOf r s .taken) s
   first-of-cut =
-      take-take (chunkOf r s .taken) 65536 s
-      (omega (arith, chunk-taken r (cutChunk s) .within, take-bounds 65536 s .0))
+      take-take (chunkOf r s .taken) chunkLimit s
+      (omega (arith, chunk-taken r (cutChunk s) .within, take-bounds chunkLimit s .0))
 
   cut-singly : Singly r s (chunkOf r s)
   cut-singly =

@@ -18,7 +18,7 @@ byByte zero (judged v) = judged v ∷ []
 byByte (suc zero) o = o ∷ []
 byByte (suc (suc n)) o = nothing ∷ byByte (suc n) o
 
--- A chunk is taken to its end, or to a byte that is answered.
+-- A chunk is taken to its end where nothing is answered, and at least a byte of it where something is.
 pub record TakenToAnswer (given : List ℕ) (taken : ℕ) (o : Outcome) : Type 0 where
   pub within : taken ≤ length given
   pub all : o ≡ nothing → taken ≡ length given

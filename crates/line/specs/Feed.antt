@@ -43,9 +43,13 @@ feedOf r (b ∷ bs) =
 
 -- ---- a chunk
 
--- A chunk of more than 65,536 bytes is cut to its first 65,536.
+-- The most bytes of a chunk that a call takes.
+abbrev pub chunkLimit : ℕ
+chunkLimit = 65536
+
+-- A chunk of more bytes is cut to its first ones.
 abbrev pub cutChunk : List ℕ → List ℕ
-cutChunk s = take 65536 s
+cutChunk s = take chunkLimit s
 
 -- What a call on a chunk gives.
 abbrev pub chunkOf : LineReader → List ℕ → ChunkTurn

@@ -87,7 +87,7 @@ fn hold(bytes: &mut [u8; 118], len: usize, mode: Mode, run: &[u8]) -> State
     }
 }
 
-// How many bytes are held with those of a run.
+// How many bytes are held with those of a run, which is not empty.
 fn held_with(len: usize, run: &[u8]) -> usize
     requires { ⌜ len + length (now run) ≤ capacity ⌝ }
     requires { ⌜ 0 < length (now run) ⌝ }

@@ -1,11 +1,12 @@
 -- Laws of a machine run on a list of calls.
-use mathlib.Core.Path.{_≡_, refl, sym, ap, ap₂, _∙_}
+use mathlib.Core.Path.{_≡_, refl, sym, ap, ap₂, _∙_, subst}
 use mathlib.Core.Bool.{Bool, true, false}
 use mathlib.Core.List.{List, [], _∷_, _++_, map, append-assoc}
 use Prim.Native.Nat.{ℕ, _≤_}
 use lib.ListN.{length, take, drop, take-append-drop}
 use lib.Seq.{drop-append-le}
 use Rattle.lists.specs.Machine.{run, leftAfter, only, answersOnly, Ran, ended, call, RanBy, ended-by, call-by}
+use Rattle.lists.specs.Machine.{Through, ended-through, call-through}
 use Rattle.lists.specs.Choice.{Every}
 use Rattle.lists.proofs.Cases.{by-bool}
 
@@ -93,14 +94,6 @@ module _ {S T C A : Type 0} (called : S → C → A → S → Type 0) (answer : 
         r .1 ∙ ap (λ (v : T). leftAfter next v calls) (e .1),
       )
 
--- The first elements of a list, and what is left of it with others after it.
-cut-append : {C : Type 0} (n : ℕ) (given later : List C) → n ≤ length given
-    → take n given ++ drop n (given ++ later) ≡ given ++ later
-cut-append n given later h =
-    ap (λ l. take n given ++ l) (drop-append-le n given later h)
-    ∙ sym (append-assoc (take n given) (drop n given) later)
-    ∙ ap (λ l. l ++ later) (take-append-drop n given)
-
 -- The same where one call is given several, and takes the first of them.
 module _ {S T C A : Type 0} (made : S → List C → ℕ → List A → S → Type 0) (answer : T → C → A) (next : T → C → T)
     (seen : S → T)
@@ -110,17 +103,33 @@ module _ {S T C A : Type 0} (made : S → List C → ℕ → List A → S → Ty
   pub ran-by-run : {s u : S} {calls : List C} {answers : List A} → RanBy made s calls answers u
       → (answers ≡ run answer next (seen s) calls) × (seen u ≡ leftAfter next (seen s) calls)
   ran-by-run ended-by = (refl, refl)
-  ran-by-run (call-by s t given later taken first k rest) =
+  ran-by-run (call-by s t given taken first {calls = calls} k rest) =
       let e = each s t given taken first k in
       let r = ran-by-run rest in
-      let calls = take taken given in
-      let left = drop taken (given ++ later) in
-      let whole = cut-append taken given later (e .0) in (
-        ap₂ (λ (xs ys : List A). xs ++ ys) (e .1) (r .0 ∙ ap (λ (v : T). run answer next v left) (e .2))
-            ∙ sym (run-append answer next (seen s) calls left) ∙ ap (run answer next (seen s)) whole,
-        r .1 ∙ ap (λ (v : T). leftAfter next v left) (e .2) ∙ sym (left-append next (seen s) calls left)
-            ∙ ap (leftAfter next (seen s)) whole,
+      let taking = take taken given in (
+        ap₂ (λ (xs ys : List A). xs ++ ys) (e .1) (r .0 ∙ ap (λ (v : T). run answer next v calls) (e .2))
+            ∙ sym (run-append answer next (seen s) taking calls),
+        r .1 ∙ ap (λ (v : T). leftAfter next v calls) (e .2) ∙ sym (left-append next (seen s) taking calls),
       )
+
+-- The first elements of a list, and what is left of it with others after it.
+cut-append : {C : Type 0} (n : ℕ) (given later : List C) → n ≤ length given
+    → take n given ++ drop n (given ++ later) ≡ given ++ later
+cut-append n given later h =
+    ap (λ l. take n given ++ l) (drop-append-le n given later h)
+    ∙ sym (append-assoc (take n given) (drop n given) later)
+    ∙ ap (λ l. l ++ later) (take-append-drop n given)
+
+-- Calls that get through a list take all of it.
+module _ {S C A : Type 0} (made : S → List C → ℕ → List A → S → Type 0)
+    (each : (s t : S) (given : List C) (taken : ℕ) (first : List A) → made s given taken first t
+    → taken ≤ length given) where
+  pub through-ran : {s u : S} {calls : List C} {answers : List A} → Through made s calls answers u
+      → RanBy made s calls answers u
+  through-ran ended-through = ended-by
+  through-ran (call-through s t given later taken first {u = u} {answers = answers} k rest) =
+      subst (λ l. RanBy made s l (first ++ answers) u) (cut-append taken given later (each s t given taken first k))
+      (call-by s t given taken first k (through-ran rest))
 
 -- What each call shows of itself, every call of a row has.
 module _ {S C A : Type 0} (called : S → C → A → S → Type 0) (P : C → Type 0)

@@ -2,7 +2,7 @@
 use mathlib.Core.Bool.{Bool}
 use mathlib.Core.List.{List, [], _∷_, _++_}
 use Prim.Native.Nat.{ℕ}
-use lib.ListN.{drop}
+use lib.ListN.{take, drop}
 use Rattle.lists.specs.Choice.{pick}
 
 -- The answer to a call, and the state afterwards.
@@ -49,13 +49,21 @@ module _ {S C A : Type 0} (called : S → C → A → S → Type 0) where
 -- `made s given taken answers t`: one call on the state s was given the calls `given`, took the first `taken` of them,
 -- which were answered so, and left the state t.
 module _ {S C A : Type 0} (made : S → List C → ℕ → List A → S → Type 0) where
-  -- Such calls in a row that get through a list of calls, with the answers to these and the state that the last one
-  -- left. Each is given any first part of what the one before it did not take.
+  -- Such calls in a row from a state on, with all calls that they took, the answers to these, and the state that the
+  -- last one left. What a call did not take may be given to the next one, or not.
   pub data RanBy : S → List C → List A → S → Type 0 where
     ended-by : {s : S} → RanBy s [] [] s
-    call-by : (s t : S) (given later : List C) (taken : ℕ) (first : List A) {u : S} {answers : List A}
-        → made s given taken first t → RanBy t (drop taken (given ++ later)) answers u
-        → RanBy s (given ++ later) (first ++ answers) u
+    call-by : (s t : S) (given : List C) (taken : ℕ) (first : List A) {u : S} {calls : List C} {answers : List A}
+        → made s given taken first t → RanBy t calls answers u
+        → RanBy s (take taken given ++ calls) (first ++ answers) u
+
+  -- Such calls in a row that get through a list of calls: each is given any first part of what the one before it did
+  -- not take.
+  pub data Through : S → List C → List A → S → Type 0 where
+    ended-through : {s : S} → Through s [] [] s
+    call-through : (s t : S) (given later : List C) (taken : ℕ) (first : List A) {u : S} {answers : List A}
+        → made s given taken first t → Through t (drop taken (given ++ later)) answers u
+        → Through s (given ++ later) (first ++ answers) u
 
 module _ {S C A : Type 0} where
   -- Calls in a row from a new state on, with their answers, by what calls in a row are.

@@ -10,7 +10,7 @@ use lib.Dec.{ltb}
 use borrow.Author.Tests.{le-ltb}
 use Rattle.lists.specs.Choice.{pick}
 use Rattle.line.specs.Outcome.{Outcome, nothing, judged, toldMeans, outcomeOf}
-use Rattle.line.specs.Feed.{isAnswer, ChunkTurn, chunkTurn, laterBy, feedOf, cutChunk, chunkOf, ChunkStepIs}
+use Rattle.line.specs.Feed.{isAnswer, ChunkTurn, chunkTurn, laterBy, feedOf, chunkLimit, cutChunk, chunkOf, ChunkStepIs}
 use Rattle.line.specs.Reader.{lentReader, stepOf}
 use Rattle.frame.specs.Flags.{roleOf}
 use Rattle.line.specs.declared.ChunkStep.{ChunkStep}
@@ -184,8 +184,8 @@ feed-leads s (b ∷ bytes) later h =
 
 chunk-leads : (s : Listing) (chunk : List ℕ) → CountsFit s → LeadsTo s chunk (chunkOf (s .reader) chunk)
 chunk-leads s chunk h =
-    subst (λ (l : List ℕ). LeadsTo s l (chunkOf (s .reader) chunk)) (take-append-drop 65536 chunk)
-    (feed-leads s (cutChunk chunk) (drop 65536 chunk) h)
+    subst (λ (l : List ℕ). LeadsTo s l (chunkOf (s .reader) chunk)) (take-append-drop chunkLimit chunk)
+    (feed-leads s (cutChunk chunk) (drop chunkLimit chunk) h)
 
 feed-some : (r : LineReader) (bytes : List ℕ) → 0 < length bytes → 0 < feedOf r bytes .taken
 unfolding feedOf

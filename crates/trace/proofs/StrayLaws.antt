@@ -18,7 +18,7 @@ use Rattle.framing.specs.Reference.{Role, starts, stops, plain}
 use Rattle.framing.specs.Bounded.{terminatedIn}
 use Rattle.frame.proofs.FlagLaws.{isStarts, role-tests}
 use Rattle.line.specs.Outcome.{summaryOf}
-use Rattle.line.specs.Feed.{isAnswer, ChunkTurn, chunkTurn, laterBy, feedOf, cutChunk, chunkOf, ChunkStepIs}
+use Rattle.line.specs.Feed.{isAnswer, ChunkTurn, chunkTurn, laterBy, feedOf, chunkLimit, cutChunk, chunkOf, ChunkStepIs}
 use Rattle.line.specs.Rowing.{rowing, rowingBounds}
 use Rattle.line.specs.Reader.{modeSeen, reader, roleStep, stepOf}
 use Rattle.line.proofs.FeedLaws.{plus-zero}
@@ -155,7 +155,7 @@ module _ (r : LineReader) (rest : List ℕ) (k n : ℕ) (ek : k ≡ strayCount (
       let part : take (length chunk - n) (drop n chunk) ≡ drop n chunk =
       take-all (length chunk - n) (drop n chunk) (omega (arith, length-drop n chunk)) in
       let whole : cutChunk (drop n chunk) ≡ drop n chunk =
-      take-all 65536 (drop n chunk) (omega (arith, length-drop n chunk, ap length e, take-bounds 65536 rest .0)) in
+      take-all chunkLimit (drop n chunk) (omega (arith, length-drop n chunk, ap length e, take-bounds chunkLimit rest .0)) in
       let q : laterBy n (chunkOf r (take (length chunk - n) (drop n chunk))) ≡ chunkOf r rest =
       ap (λ (l : List ℕ). laterBy n (chunkOf r l)) part
       ∙ ap (λ (l : List ℕ). laterBy n (feedOf r l)) (whole ∙ ap (drop n) e)

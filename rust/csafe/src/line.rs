@@ -120,8 +120,8 @@ pub fn finish(state: &mut u64) -> Result<(), Error> {
 /// judges a slice. A start flag before that ends it as [`Error::Truncated`] and begins the next one. Bytes outside of
 /// any candidate give no answer.
 ///
-/// [`feed`](LineReader::feed) gives one answer a call and copies nothing. [`answers`](LineReader::answers) is an
-/// iterator over all answers of a chunk.
+/// [`feed`](LineReader::feed) gives one answer a call, and the contents of a frame stand in the reader until the next
+/// one. [`answers`](LineReader::answers) is an iterator over all answers of a chunk, whose frames have copies.
 ///
 /// ```
 /// use csafe::{Error, LineReader};
@@ -187,8 +187,7 @@ impl LineReader {
     /// The answers of a chunk of any length, in order. It is fed by as many calls of [`feed`](LineReader::feed) as it
     /// needs, each when the next answer is asked for.
     ///
-    /// Each frame has a copy of its contents, so it can be kept while the reader goes on. [`feed`](LineReader::feed)
-    /// itself makes no copy.
+    /// Each frame has a copy of its contents, so it can be kept while the reader goes on.
     ///
     /// Where the iterator is dropped before it has answered `None`, the bytes after its last answer are not fed.
     /// [`Answers::rest`] has them.
