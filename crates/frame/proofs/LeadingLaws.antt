@@ -9,11 +9,11 @@ use native.Mathlib.Omega.{arith}
 use lib.Bits.{bitXor}
 use lib.Dec.{eqb, leb}
 use lib.ListN.{length, getD, take, drop, length-drop, length-append, take-append-drop, List·getD-eq-default}
-use lib.Seq.{take-suc, take-add, take-at, drop-cons, length-take-le}
+use lib.Seq.{take-suc, take-add, take-at, drop-cons, length-take-le, getD-append-seam}
 use borrow.Author.Tests.{eqb-true, leb-true, leb-false}
 use Rattle.lists.specs.Choice.{pick, noneOf, countBefore}
 use Rattle.lists.proofs.Cases.{by-bool}
-use Rattle.lists.proofs.Before.{before-fits, before-clear, clear-front, before-block, before-more}
+use Rattle.lists.proofs.Before.{before-fits, before-clear, before-here, clear-front, before-block, before-more}
 use Rattle.lists.proofs.Tests.{within-true}
 use Rattle.answer.specs.Answer.{refused}
 use Rattle.frame.specs.Flags.{startFlag, stopFlag, isStart, isFlag, kindOf, candidateOf}
@@ -23,6 +23,7 @@ use Rattle.frame.specs.Verdict.{verdict, isTerminated}
 use Rattle.frame.specs.Leading.{isStopAt, openCount, leadingCount}
 use Rattle.frame.specs.Private.{judgeWhole, Unescaped, PlainTo, openVerdict}
 use Rattle.frame.specs.declared.Kind.{Kind}
+use Rattle.frame.specs.declared.Kind.the-variants.{Standard, Extended}
 use Rattle.frame.proofs.FlagLaws.{none-narrower, start-kind}
 use Rattle.frame.proofs.ChecksumLaws.{sumFrom-last, sum-onto}
 use Rattle.frame.proofs.VerdictLaws.{candidate-verdict}
@@ -48,24 +49,11 @@ past-default : (s : List ℕ) (at : ℕ) → length s ≤ at → getD s at 0 ≡
 past-default s at h = List·getD-eq-default s 0 h
 
 pub stop-past : (s : List ℕ) (at : ℕ) → length s ≤ at → false ≡ isStopAt s at
-stop-past s at h = sym (ap (λ (b : ℕ). pick (eqb b stopFlag) (leb at 118) false) (past-default s at h))
-
-pub stop-other : (s : List ℕ) (at : ℕ) → (getD s at 0 ≡ stopFlag → ⊥) → false ≡ isStopAt s at
-stop-other s at h =
-    by-bool (eqb (getD s at 0) stopFlag)
-    (λ y. absurd (h (eqb-true (getD s at 0) stopFlag y)))
-    (λ n. simp n)
-
-pub stop-here : (s : List ℕ) (at : ℕ) → getD s at 0 ≡ stopFlag → leb at 118 ≡ isStopAt s at
-stop-here s at e = sym (ap (λ (b : ℕ). pick (eqb b stopFlag) (leb at 118) false) e)
+stop-past s at h = sym (ap (λ (b : ℕ). eqb b stopFlag) (past-default s at h))
 
 -- what a stop flag at an index tells
-stop-means : (s : List ℕ) (at : ℕ) → isStopAt s at ≡ true → (getD s at 0 ≡ stopFlag) × (at ≤ 118) × (at < length s)
-stop-means s at e =
-    by-bool (eqb (getD s at 0) stopFlag)
-    (λ y. let b : getD s at 0 ≡ stopFlag = eqb-true (getD s at 0) stopFlag y in
-    let l : leb at 118 ≡ true = simp y at e in (b, leb-true at 118 l, inside b))
-    (λ n. let q : false ≡ true = simp n at e in absurd (false≢true q))
+stop-means : (s : List ℕ) (at : ℕ) → isStopAt s at ≡ true → (getD s at 0 ≡ stopFlag) × (at < length s)
+stop-means s at e = let b = eqb-true (getD s at 0) stopFlag e in (b, inside b)
   where
     inside : getD s at 0 ≡ stopFlag → at < length s
     inside b =
@@ -128,18 +116,17 @@ flag-after s at e =
 
 -- what stands before the first flag, where that is the first F0 to F3 too
 pub open-plain : (rest : List ℕ) (at end sum : ℕ) → at ≡ countBefore isStuffed rest → sum ≡ checksum (take at rest)
-    → end ≡ countBefore isFlag rest → isStopAt rest end ≡ true → end ≡ at → Unescaped (take end rest) sum
-open-plain rest at end sum e q f t same =
-    let k = stop-means rest end t in
-    let l = length-take-le end rest (omega (arith, k .2)) in
+    → isStopAt rest end ≡ true → end ≡ at → end ≤ 118 → Unescaped (take end rest) sum
+open-plain rest at end sum e q t same short =
+    let l = length-take-le end rest (omega (arith, stop-means rest end t .1)) in
     record {
-      limit = omega (arith, k .1, l);
+      limit = omega (arith, l);
       clear = ap (λ (n : ℕ). noneOf isStuffed (take n rest)) (same ∙ e) ∙ before-clear isStuffed rest;
       summed = q ∙ ap (λ (n : ℕ). checksum (take n rest)) (sym same);
     }
 
-pub open-inside : (rest : List ℕ) (end : ℕ) → isStopAt rest end ≡ true → (end ≤ length rest) × (end ≤ 118)
-open-inside rest end t = let k = stop-means rest end t in (omega (arith, k .2), k .1)
+pub open-inside : (rest : List ℕ) (end : ℕ) → isStopAt rest end ≡ true → end < length rest
+open-inside rest end t = stop-means rest end t .1
 
 -- as the code counts: none, or one that ends at an index
 pub open-none : (kind : Kind) (rest : List ℕ) (end : ℕ) → end ≡ countBefore isFlag rest → isStopAt rest end ≡ false
@@ -162,15 +149,12 @@ module _ (s : List ℕ) (starts : isStart (getD s 0 0) ≡ true)
   abbrev pub leadingBody : List ℕ
   leadingBody = take (countBefore isFlag (drop 1 s)) (drop 1 s)
 
-  means : (getD (drop 1 s) (countBefore isFlag (drop 1 s)) 0 ≡ stopFlag) × (countBefore isFlag (drop 1 s) ≤ 118)
+  means : (getD (drop 1 s) (countBefore isFlag (drop 1 s)) 0 ≡ stopFlag)
       × (countBefore isFlag (drop 1 s) < length (drop 1 s))
   means = stop-means (drop 1 s) (countBefore isFlag (drop 1 s)) stops
 
   pub leading-length : length leadingBody ≡ countBefore isFlag (drop 1 s)
-  leading-length = length-take-le (countBefore isFlag (drop 1 s)) (drop 1 s) (omega (arith, means .2))
-
-  pub leading-short : length leadingBody ≤ 118
-  leading-short = omega (arith, leading-length, means .1)
+  leading-length = length-take-le (countBefore isFlag (drop 1 s)) (drop 1 s) (omega (arith, means .1))
 
   pub leading-clear : noneOf isFlag leadingBody ≡ true
   leading-clear = before-clear isFlag (drop 1 s)
@@ -180,7 +164,7 @@ module _ (s : List ℕ) (starts : isStart (getD s 0 0) ≡ true)
       let k = within-true 0xF0 0xF1 (getD s 0 0) starts in sym (start-kind (getD s 0 0) (k .0) (k .1))
 
   some : 0 < length s
-  some = omega (arith, means .2, length-drop 1 s)
+  some = omega (arith, means .1, length-drop 1 s)
 
   abbrev pub leadingRest : List ℕ
   leadingRest = drop (countBefore isFlag (drop 1 s) + 1) (drop 1 s)
@@ -192,7 +176,7 @@ module _ (s : List ℕ) (starts : isStart (getD s 0 0) ≡ true)
       ∙ ap₂ (λ (b : ℕ) (l : List ℕ). b ∷ l) starts-with
       (sym (take-append-drop n (drop 1 s))
       ∙ ap (λ (l : List ℕ). leadingBody ++ l)
-      (drop-cons (drop 1 s) n 0 (means .2)
+      (drop-cons (drop 1 s) n 0 (means .1)
       ∙ ap₂ (λ (b k : ℕ). b ∷ drop k (drop 1 s)) (means .0) (sym (add-one n))))
 
   pub leading-count : leadingCount s ≡ length leadingBody + 2
@@ -230,3 +214,34 @@ leading-none s n = (simp n, verdict-none)
 pub leading-some : (s : List ℕ) → isStart (getD s 0 0) ≡ true → openCount (drop 1 s) ≡ leadingCount s
 unfolding leadingCount
 leading-some s y = simp y
+
+-- ---- a candidate of any length, whatever follows it
+
+-- the stop flag is the first flag
+stop-first : (body rest : List ℕ) → noneOf isFlag body ≡ true
+    → countBefore isFlag (body ++ stopFlag ∷ rest) ≡ length body
+stop-first body rest clear =
+    let s = body ++ stopFlag ∷ rest in
+    let h : length body < length s = omega (arith, length-append body (stopFlag ∷ rest)) in
+    let here = getD-append-seam body stopFlag rest 0 in
+    let first : noneOf isFlag (take (length body) s) ≡ true =
+    ap (noneOf isFlag) (take-at body (stopFlag ∷ rest) (length body) refl) ∙ clear in
+    sym (before-here isFlag s (length body) h (ap isFlag here) (clear-front isFlag (length body) s (omega arith) first))
+
+open-exactly : (body rest : List ℕ) → noneOf isFlag body ≡ true → openCount (body ++ stopFlag ∷ rest) ≡ length body + 2
+open-exactly body rest clear =
+    let s = body ++ stopFlag ∷ rest in
+    let stops : isStopAt s (length body) ≡ true =
+    ap (λ (b : ℕ). eqb b stopFlag) (getD-append-seam body stopFlag rest 0) in
+    ap (λ (n : ℕ). pick (isStopAt s n) (n + 2) 0) (stop-first body rest clear) ∙ simp stops
+
+start-is : (kind : Kind) → isStart (startFlag kind) ≡ true
+start-is Standard = refl
+start-is Extended = refl
+
+pub leading-exactly : (kind : Kind) (body rest : List ℕ) → noneOf isFlag body ≡ true
+    → leadingCount (candidateOf kind body ++ rest) ≡ length body + 2
+leading-exactly kind body rest clear =
+    sym (leading-some (candidateOf kind body ++ rest) (start-is kind))
+    ∙ ap openCount (append-assoc body (stopFlag ∷ []) rest)
+    ∙ open-exactly body rest clear

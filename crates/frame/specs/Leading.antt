@@ -1,18 +1,18 @@
 -- The candidate that a slice begins with.
 use Prim.Native.Nat.{ℕ, _+_}
-use mathlib.Core.Bool.{Bool, false}
+use mathlib.Core.Bool.{Bool}
 use mathlib.Core.List.{List}
-use lib.Dec.{eqb, leb}
+use lib.Dec.{eqb}
 use lib.ListN.{getD, drop}
 use Rattle.lists.specs.Choice.{pick, countBefore}
 use Rattle.frame.specs.Flags.{stopFlag, isStart, isFlag}
 
--- Whether the stop flag stands at an index, with at most 118 bytes before it.
+-- Whether the stop flag stands at an index.
 abbrev pub isStopAt : List ℕ → ℕ → Bool
-isStopAt s n = pick (eqb (getD s n 0) stopFlag) (leb n 118) false
+isStopAt s n = eqb (getD s n 0) stopFlag
 
 -- How many bytes a candidate has, its flags included, whose start flag stands right before a slice: the next flag is the
--- stop flag, and at most 118 bytes stand before it. 0 where it does not end so.
+-- stop flag. 0 where it does not end so.
 abbrev pub openCount : List ℕ → ℕ
 openCount rest = pick (isStopAt rest (countBefore isFlag rest)) (countBefore isFlag rest + 2) 0
 

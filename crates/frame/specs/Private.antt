@@ -194,8 +194,8 @@ pub record PlainTo (s : List ℕ) (at sum : ℕ) : Type 0 where
   pub none-before : countBefore isStuffed s ≡ at + countBefore isStuffed (drop at s)
   pub summed : sum ≡ checksum (take at s)
 
--- The verdict on the candidate of a kind whose start flag stands right before a slice. One that does not end in it, or is
--- too long, is none.
+-- The verdict on the candidate of a kind whose start flag stands right before a slice. One that does not end in it is
+-- none.
 abbrev pub openVerdict : Kind → List ℕ → Verdict
 openVerdict kind rest =
     pick (isStopAt rest (countBefore isFlag rest)) (judgeWhole kind (take (countBefore isFlag rest) rest)) (refused 6)

@@ -1,6 +1,5 @@
 // The candidate that a slice begins with: where it ends, found in the pass that sums its bytes.
 use crate::bytes;
-use crate::candidate;
 use crate::flags;
 ghost use mathlib.Core.Path.{_≡_};
 ghost use Prim.Native.Nat.{_<_};
@@ -12,7 +11,7 @@ ghost use Rattle.frame.specs.Checksum.{checksum};
 ghost use Rattle.frame.specs.Leading.{isStopAt};
 ghost use Rattle.frame.specs.Private.{PlainTo};
 
-// How many bytes are looked at together, and how many of those that are left.
+// The size of a block of bytes that are looked at together, and of the smaller ones after them.
 const BLOCK: usize = 32;
 
 const SMALL_BLOCK: usize = 8;
@@ -33,17 +32,14 @@ pub(crate) fn starts(s: &[u8]) -> bool
     lists::mark(s[0], flags::EXTENDED_START, flags::STANDARD_START) == 1
 }
 
-// Whether the stop flag stands at an index, with at most 118 bytes before it.
+// Whether the stop flag stands at an index.
 pub(crate) fn is_stop_at(s: &[u8], at: usize) -> bool
     ensures { λ r. ⌜ r ≡ isStopAt (now (s .entry)) at ⌝ }
 {
     if s.len() <= at {
         return false;
     }
-    if s[at] != flags::STOP {
-        return false;
-    }
-    at <= candidate::BODY_LIMIT
+    s[at] == flags::STOP
 }
 
 // The index of the first flag, where the first F0 to F3 stands at an index.

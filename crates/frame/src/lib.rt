@@ -57,7 +57,7 @@ pub enum Read {
 }
 
 // The answer to reading the candidate that a slice begins with, and how many bytes it has with its flags. A slice that
-// begins with none has 0, and is refused as an empty slice is.
+// begins with no closed candidate has 0 bytes taken and is refused with 6.
 pub struct Leading {
     pub read: Read,
     pub taken: usize,
@@ -141,8 +141,9 @@ pub fn read_frame(wire: &[u8], out: &mut [u8]) -> Read
     read_stuffed(kind, body, out)
 }
 
-// Reads the candidate that a slice begins with: a start flag, and the stop flag as the next flag, with at most 118 bytes
-// between them. What follows is not looked at. Refusals 6, 3, 4, 5 and 1.
+// Reads the candidate that a slice begins with: a start flag, and the stop flag as the next flag, with any number of
+// bytes between them. What follows does not matter. A slice that begins with no closed candidate has 0 bytes taken and
+// is refused with 6. Refusals 6, 2, 3, 4, 5 and 1.
 pub fn read_leading(s: &[u8], out: &mut [u8]) -> Leading
     ensures { λ r. ⌜ r .taken ≡ leadingCount (now (s .entry)) ⌝ }
     ensures { λ r. ⌜ readMeans (r .read) ≡ readAnswer (verdict (take (r .taken) (now (s .entry))))
@@ -190,19 +191,16 @@ fn read_open(kind: Kind, rest: &[u8], out: &mut [u8]) -> Leading
     if !front::is_stop_at(rest, end) {
         return no_leading();
     }
+    let taken = end + 2;
     let body = &rest[..end];
     if end == at {
-        let read = read_plain(kind, body, run.sum, out);
-        return Leading {
-            read,
-            taken: end + 2,
-        };
+        if end <= candidate::BODY_LIMIT {
+            let read = read_plain(kind, body, run.sum, out);
+            return Leading { read, taken };
+        }
     }
     let read = read_stuffed(kind, body, out);
-    Leading {
-        read,
-        taken: end + 2,
-    }
+    Leading { read, taken }
 }
 
 fn wire_length(header: Header, contents: &[u8]) -> WireLength

@@ -4,11 +4,11 @@ use mathlib.Core.Path.{_≡_, refl, sym, ap, ap₂, _∙_, subst}
 use mathlib.Core.Bool.{true}
 use mathlib.Core.List.{List, _∷_, _++_, append-assoc}
 use native.Mathlib.Omega.{arith}
-use lib.Dec.{ltb}
+use lib.Dec.{leb, ltb}
 use lib.ListN.{length, getD, take, drop, length-drop, length-append}
 use lib.Seq.{drop-drop, drop-append-le, take-at, take-all, take-take, length-take-le}
 use Prim.Native.Nat.{ℕ, _+_, _-_, _≤_, _<_}
-use borrow.Author.Tests.{le-leb, ltb-true, ltb-false}
+use borrow.Author.Tests.{le-leb, lt-leb, leb-true, ltb-true, ltb-false}
 use Rattle.lists.specs.Choice.{noneOf, countBefore}
 use Rattle.lists.specs.Splice.{splice, copied}
 use Rattle.lists.proofs.Cases.{by-bool}
@@ -26,12 +26,12 @@ use Rattle.frame.specs.declared.Kind.{Kind}
 use Rattle.frame.specs.declared.Kind.the-variants.{Standard, Extended}
 use Rattle.frame.proofs.VerdictLaws.{whole-body}
 use Rattle.frame.proofs.ContentsLaws.{accepted-shrinks}
-use Rattle.frame.proofs.LeadingLaws.{leadingKind, leadingBody, leadingRest, leads, leading-short, leading-clear}
+use Rattle.frame.proofs.LeadingLaws.{leadingKind, leadingBody, leadingRest, leads, leading-clear}
 use Rattle.frame.proofs.LeadingLaws.{leading-count, leading-wire, leading-some, verdict-none}
 use Rattle.line.specs.Outcome.{judged, capacity, toldMeans, summaryOf}
 use Rattle.line.specs.Reader.{lentReader, reader, modeIn}
 use Rattle.line.specs.Feed.{ChunkTurn, chunkTurn, laterBy, feedOf, ChunkStepIs}
-use Rattle.line.specs.Private.{isHeld, leadingIn, contentsCount, leftByWhole, JudgedWhole}
+use Rattle.line.specs.Private.{isHeld, wholeCount, leadingIn, contentsCount, leftByWhole, JudgedWhole}
 use Rattle.line.specs.declared.LineReader.{LineReader}
 use Rattle.line.specs.declared.State.{State}
 use Rattle.line.specs.declared.Told.{Told}
@@ -95,6 +95,10 @@ left-filled (result f) out body last n e i h k =
     ∙ ap (λ (l : List ℕ). c ++ l) (sym (drop-append-le n body past i))
     ∙ ap (λ (m : ℕ). c ++ drop m (body ++ past)) en
 
+-- how many bytes stand between the flags
+body-count : (w : List ℕ) → 2 ≤ length w → length (bodyOf w) ≡ length w - 2
+body-count w h = length-take-le (length w - 2) (drop 1 w) (omega (arith, length-drop 1 w))
+
 -- the call that reads a slice w, by what it answers and how many contents bytes that tells of
 module _ (w bytes : List ℕ) (some : 2 ≤ length w) (short : length w ≤ 120) (array : length bytes ≡ capacity)
     (a : Answer FrameOutline) (answers : a ≡ readAnswer (verdict w) (length bytes)) (n : ℕ)
@@ -102,14 +106,11 @@ module _ (w bytes : List ℕ) (some : 2 ≤ length w) (short : length w ≤ 120)
   pub slice-judged : a ≡ judgeAnswer (verdict w)
   slice-judged = answers ∙ read-judges w (length bytes) (omega arith)
 
-  body-count : length (bodyOf w) ≡ length w - 2
-  body-count = length-take-le (length w - 2) (drop 1 w) (omega (arith, length-drop 1 w))
-
   body-counts : n ≤ length (bodyOf w)
   body-counts = omega (arith, counts, ap contentsCount slice-judged, count-inside w)
 
   pub slice-inside : n + 2 ≤ length w
-  slice-inside = omega (arith, body-counts, body-count)
+  slice-inside = omega (arith, body-counts, body-count w some)
 
   -- the bytes between the flags after as many as the contents have, as the code takes them
   body-rest : take (length w - 1 - (n + 1)) (drop (n + 1) w) ≡ drop n (bodyOf w)
@@ -126,7 +127,7 @@ module _ (w bytes : List ℕ) (some : 2 ≤ length w) (short : length w ≤ 120)
       → last ≡ copied read n (take (length w - 1 - (n + 1)) (drop (n + 1) w)) → last ≡ leftByWhole bytes w
   slice-left read last e k =
       left-filled (verdict w) bytes (bodyOf w) last n (counts ∙ ap contentsCount slice-judged) body-counts
-      (omega (arith, body-count))
+      (omega (arith, body-count w some))
       (k ∙ ap₂ (λ (x y : List ℕ). copied x n y) e body-rest)
 
 -- ---- its bytes, fed singly
@@ -188,12 +189,32 @@ leading-found s h =
     (λ z. let q : 0 < 0 = simp (y, z) at h in absurd (omega arith)))
     (λ n. let q : 0 < 0 = simp n at h in absurd (omega arith))
 
+-- one that is judged as it stands is not longer, and is counted as it is
+whole-found : (s : List ℕ) → 0 < wholeCount s → (leadingCount s ≤ 120) × (wholeCount s ≡ leadingCount s)
+whole-found s h =
+    by-bool (leb (leadingCount s) 120)
+    (λ y. (leb-true (leadingCount s) 120 y, simp y))
+    (λ n. let q : 0 < 0 = simp n at h in absurd (omega arith))
+
+-- its bytes between the flags fit in the array
+leading-short : (s : List ℕ) (starts : isStart (getD s 0 0) ≡ true)
+    (stops : isStopAt (drop 1 s) (countBefore isFlag (drop 1 s)) ≡ true)
+    → leadingCount s ≤ 120 → length (leadingBody s starts stops) ≤ capacity
+leading-short s starts stops h = omega (arith, leading-count s starts stops)
+
+-- as the code counts: one of at most 120 bytes, or one that has more
+pub whole-short : (s : List ℕ) (taken : ℕ) → taken ≡ leadingCount s → taken ≤ 120 → taken ≡ wholeCount s
+whole-short s taken e h = e ∙ simp (le-leb (leadingCount s) 120 (omega arith))
+
+pub whole-long : (s : List ℕ) (taken : ℕ) → taken ≡ leadingCount s → 120 < taken → 0 ≡ wholeCount s
+whole-long s taken e h = simp (lt-leb (leadingCount s) 120 (omega arith))
+
 -- The candidate is judged at its stop flag, and the array is left as the code leaves it.
 whole-fed : (bytes : List ℕ) → length bytes ≡ capacity → (len : ℕ) (s : List ℕ) → 0 < leadingCount s
-    → feedOf (reader bytes len Outside) s
+    → leadingCount s ≤ 120 → feedOf (reader bytes len Outside) s
     ≡ chunkTurn (judged (verdict (take (leadingCount s) s)))
     (reader (leftByWhole bytes (take (leadingCount s) s)) 0 Outside) (leadingCount s)
-whole-fed bytes array len s h =
+whole-fed bytes array len s h most =
     let f = leading-found s h in
     let body = leadingBody s (f .0) (f .1) in
     let kind = leadingKind s (f .0) (f .1) in
@@ -201,7 +222,7 @@ whole-fed bytes array len s h =
     let count = leading-count s (f .0) (f .1) in
     let wire : take (leadingCount s) s ≡ candidateOf kind body =
     ap (λ (n : ℕ). take n s) (sym (leading-some s (f .0))) ∙ leading-wire s (f .0) (f .1) in
-    let room = leading-short s (f .0) (f .1) in
+    let room = leading-short s (f .0) (f .1) most in
     let clear = leading-clear s (f .0) (f .1) in
     let same : body ≡ bodyOf (take (leadingCount s) s) = sym (ap bodyOf wire ∙ whole-body kind body) in
     ap (feedOf (reader bytes len Outside)) (leads s (f .0) (f .1))
@@ -211,20 +232,24 @@ whole-fed bytes array len s h =
     (reader (leftIn (verdict (take (leadingCount s) s)) (splice bytes 0 l)) 0 Outside) (leadingCount s)) same
 
 -- no more bytes than there are
-leading-inside : (m : Mode) (s : List ℕ) → leadingIn m s ≤ length s
-leading-inside Outside s =
+leading-fits : (s : List ℕ) → leadingCount s ≤ length s
+leading-fits s =
     by-bool (ltb 0 (leadingCount s))
     (λ y. let f = leading-found s (ltb-true 0 (leadingCount s) y) in
     omega (arith, leading-count s (f .0) (f .1), ap length (leads s (f .0) (f .1)), length-append (leadingBody s (f .0) (f .1)) (stopFlag ∷ leadingRest s (f .0) (f .1))))
     (λ n. omega (arith, ltb-false 0 (leadingCount s) n))
+
+leading-inside : (m : Mode) (s : List ℕ) → leadingIn m s ≤ length s
+leading-inside Outside s =
+    by-bool (leb (leadingCount s) 120) (λ y. simp y (leading-fits s)) (λ n. simp n (omega arith))
 leading-inside InStandard s = omega arith
 leading-inside InExtended s = omega arith
 leading-inside Overlong s = omega arith
 
 -- the call that reads it, by what it answers and how many contents bytes that tells of
 module _ (s bytes : List ℕ) (array : length bytes ≡ capacity) (taken : ℕ) (count : taken ≡ leadingCount s)
-    (found : 0 < taken) (a : Answer FrameOutline) (answers : a ≡ readAnswer (verdict (take taken s)) (length bytes)) (n : ℕ)
-    (counts : n ≡ contentsCount a) where
+    (found : 0 < taken) (short : taken ≤ 120) (a : Answer FrameOutline)
+    (answers : a ≡ readAnswer (verdict (take taken s)) (length bytes)) (n : ℕ) (counts : n ≡ contentsCount a) where
   abbrev wire : List ℕ
   wire = take taken s
 
@@ -232,9 +257,8 @@ module _ (s bytes : List ℕ) (array : length bytes ≡ capacity) (taken : ℕ) 
   wire-length =
       let f = leading-found s (subst (λ (k : ℕ). 0 < k) count found) in
       let c = leading-count s (f .0) (f .1) in
-      let m = leading-short s (f .0) (f .1) in
-      let l : length wire ≡ taken = length-take-le taken s (omega (arith, count, leading-inside Outside s)) in
-      (l, omega (arith, l, count, c), omega (arith, l, count, c, m))
+      let l : length wire ≡ taken = length-take-le taken s (omega (arith, count, leading-fits s)) in
+      (l, omega (arith, l, count, c), omega (arith, l))
 
   pub wire-judged : a ≡ judgeAnswer (verdict wire)
   wire-judged = slice-judged wire bytes (wire-length .1) (wire-length .2) array a answers n counts
@@ -242,7 +266,7 @@ module _ (s bytes : List ℕ) (array : length bytes ≡ capacity) (taken : ℕ) 
   pub wire-inside : (n + 2 ≤ taken) × (taken ≤ length s)
   wire-inside =
       let k = slice-inside wire bytes (wire-length .1) (wire-length .2) array a answers n counts in
-      (omega (arith, k, wire-length .0), omega (arith, count, leading-inside Outside s))
+      (omega (arith, k, wire-length .0), omega (arith, count, leading-fits s))
 
   -- the bytes behind the contents, as the code takes them
   behind : take (taken - 1 - (n + 1)) (drop (n + 1) s) ≡ take (length wire - 1 - (n + 1)) (drop (n + 1) wire)
@@ -266,6 +290,19 @@ pub none-left : (s bytes last : List ℕ) (taken : ℕ) → taken ≡ 0 → last
 unfolding readOut draftOut
 none-left s bytes last taken z e =
     e ∙ ap (λ (n : ℕ). readOut (verdict (take n s)) bytes) z ∙ ap (λ (v : Verdict). readOut v bytes) verdict-none
+
+-- a candidate of more than 120 bytes is no frame, so nothing is left of it either
+pub long-left : (s bytes last : List ℕ) (taken : ℕ) → taken ≡ leadingCount s → 120 < taken
+    → last ≡ readOut (verdict (take taken s)) bytes → last ≡ bytes
+unfolding readOut draftOut
+long-left s bytes last taken count h e = e ∙ of-verdict (verdict (take taken s)) refl
+  where
+    of-verdict : (v : Verdict) → verdict (take taken s) ≡ v → readOut v bytes ≡ bytes
+    of-verdict (refused n) q = refl
+    of-verdict (result f) q =
+        let w = take taken s in
+        let l : length w ≡ taken = length-take-le taken s (omega (arith, count, leading-fits s)) in
+        absurd (omega (arith, l, body-count w (omega (arith, l)), accepted-shrinks w f q .1))
 
 -- the part from an index on, as the code takes it
 rest-part : (s : List ℕ) (at : ℕ) → take (length s - at) (drop at s) ≡ drop at s
@@ -301,13 +338,15 @@ module _ (mode : Mode) (s : List ℕ) (at taken : ℕ) (count : taken ≡ leadin
   whole-answers f bytes state m h so-far left told j r is =
       let rest = take (length s - at) (drop at s) in
       let out = some-outside h in
-      let n : taken ≡ leadingCount rest = count ∙ ap (λ (x : Mode). leadingIn x rest) out in
+      let k : taken ≡ wholeCount rest = count ∙ ap (λ (x : Mode). leadingIn x rest) out in
+      let found = whole-found rest (subst (λ (i : ℕ). 0 < i) k h) in
+      let n : taken ≡ leadingCount rest = k ∙ found .1 in
       let wire = take taken rest in
       let q : f ≡ chunkTurn (judged (verdict wire)) (reader (leftByWhole bytes wire) 0 Outside) (at + taken) =
       so-far
       ∙ ap₂ (λ (x : Mode) (l : List ℕ). laterBy at (feedOf (reader bytes (state .len) x) l)) (m ∙ out)
       (sym (rest-part s at))
-      ∙ ap (laterBy at) (whole-fed bytes (j .array) (state .len) rest (subst (λ (k : ℕ). 0 < k) n h))
+      ∙ ap (laterBy at) (whole-fed bytes (j .array) (state .len) rest (subst (λ (i : ℕ). 0 < i) n h) (found .0))
       ∙ ap (λ (k : ℕ). laterBy at (chunkTurn (judged (verdict (take k rest)))
       (reader (leftByWhole bytes (take k rest)) 0 Outside) k)) (sym n) in
       record {

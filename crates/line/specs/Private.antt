@@ -3,7 +3,7 @@
 use mathlib.Core.Path.{_≡_}
 use mathlib.Core.Bool.{Bool, true, false}
 use mathlib.Core.List.{List, []}
-use lib.Dec.{ltb}
+use lib.Dec.{leb, ltb}
 use lib.ListN.{length, take, drop, set}
 use Rattle.lists.specs.Choice.{pick}
 use Rattle.lists.specs.Splice.{splice}
@@ -14,11 +14,12 @@ use Rattle.frame.specs.Leading.{leadingCount}
 use Rattle.frame.specs.Verdict.{verdict, bodyOf}
 use Rattle.frame.specs.Answers.{FrameOutline, standardOutline, extendedOutline, judgeAnswer, leftIn}
 use Rattle.line.specs.Outcome.{capacity, Summary, silent, tells, toldMeans, summaryOf, outcomeOf, padded}
-use Prim.Native.Nat.{ℕ, _+_, _≤_}
+use Prim.Native.Nat.{ℕ, _+_, _≤_, _<_}
 use Rattle.line.specs.Feed.{laterBy, feedOf}
 use Rattle.line.specs.Reader.{ReaderTurn, reader, roleStep}
 use Rattle.line.specs.declared.LineReader.{LineReader}
 use Rattle.line.specs.declared.Told.{Told}
+use Rattle.line.specs.declared.whole.Judged.{Judged}
 use Rattle.line.specs.declared.Mode.{Mode}
 use Rattle.line.specs.declared.Mode.the-variants.{Outside, InStandard, InExtended, Overlong}
 
@@ -58,9 +59,14 @@ pub record Reaches (s : List ℕ) (from : ℕ) (r : LineReader) (at : ℕ) (next
 
 -- ---- candidates that stand whole in a chunk
 
--- How many bytes the candidate has that bytes begin with, where none is open before them.
+-- How many bytes the candidate has that bytes begin with, where it has at most 120 bytes with its flags. 0 where it has
+-- more, or where there is none.
+abbrev pub wholeCount : List ℕ → ℕ
+wholeCount s = pick (leb (leadingCount s) 120) (leadingCount s) 0
+
+-- The same where a candidate may be open before the bytes. Then none begins with them.
 abbrev pub leadingIn : Mode → List ℕ → ℕ
-leadingIn Outside s = leadingCount s
+leadingIn Outside s = wholeCount s
 leadingIn InStandard s = 0
 leadingIn InExtended s = 0
 leadingIn Overlong s = 0
@@ -80,3 +86,10 @@ pub record JudgedWhole (bytes wire left : List ℕ) (told : Told) : Type 0 where
   pub array : length bytes ≡ capacity
   pub told-is : toldMeans told ≡ tells (judgeAnswer (verdict wire))
   pub left-is : left ≡ leftByWhole bytes wire
+
+-- What was made of the candidate that an input begins with, by how many bytes it has, and what it leaves in an array.
+-- Where there is none the array stays as it was.
+pub record Judges (bytes input left : List ℕ) (count : ℕ) (r : Judged) : Type 0 where
+  pub counted : r .taken ≡ count
+  pub unmoved : r .taken ≡ 0 → left ≡ bytes
+  pub whole : 0 < r .taken → JudgedWhole bytes (take (r .taken) input) left (r .told)

@@ -11,7 +11,7 @@ ghost use Rattle.line.specs.Reader.{lentReader};
 ghost use Rattle.line.specs.Feed.{says, feedOf, ChunkStepIs};
 
 // Feeds any number of bytes. Runs of bytes that are no flags are taken whole. A candidate that begins and ends in the
-// input is judged as it stands, and the other flags go through `step_in`.
+// input and may be a frame is judged as it stands, and the other flags go through `step_in`.
 pub(crate) fn feed_all(bytes: &mut [u8; 118], state: State, input: &[u8]) -> ChunkStep
     ensures { λ r. ⌜ ChunkStepIs (now (bytes .exit)) r
         (feedOf (lentReader (now (bytes .entry)) state) (now (input .entry))) ⌝ }

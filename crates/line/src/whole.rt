@@ -4,11 +4,11 @@ use crate::Mode;
 use crate::Told;
 use frame::Read;
 ghost use mathlib.Core.Path.{_≡_};
-ghost use Prim.Native.Nat.{_<_};
-ghost use lib.ListN.{take};
-ghost use Rattle.frame.specs.Leading.{leadingCount};
 ghost use Rattle.frame.specs.Answers.{readMeans};
-ghost use Rattle.line.specs.Private.{leadingIn, contentsCount, JudgedWhole};
+ghost use Rattle.line.specs.Private.{wholeCount, leadingIn, contentsCount, Judges};
+
+// The most bytes of a candidate that is judged as it stands: what the array holds, and its two flags.
+const WHOLE_LIMIT: usize = 120;
 
 // What is told of a candidate, and how many bytes it has with its flags; 0 where there is none.
 pub(crate) struct Judged {
@@ -19,10 +19,8 @@ pub(crate) struct Judged {
 // Judges the candidate that the input begins with, where none is open before it. Behind its contents the array gets the
 // bytes that stand between its flags, because that is what it holds where they came singly.
 pub(crate) fn judge(bytes: &mut [u8; 118], mode: Mode, input: &[u8]) -> Judged
-    ensures { λ r. ⌜ r .taken ≡ leadingIn mode (now (input .entry)) ⌝ }
-    ensures { λ r. ⌜ (r .taken ≡ 0 → now (bytes .exit) ≡ now (bytes .entry)) ⌝ }
-    ensures { λ r. ⌜ (0 < r .taken → JudgedWhole (now (bytes .entry)) (take (r .taken) (now (input .entry)))
-        (now (bytes .exit)) (r .told)) ⌝ }
+    ensures { λ r. ⌜ Judges (now (bytes .entry)) (now (input .entry)) (now (bytes .exit))
+        (leadingIn mode (now (input .entry))) r ⌝ }
 {
     match mode {
         Mode::Outside => judge_leading(bytes, input),
@@ -32,16 +30,19 @@ pub(crate) fn judge(bytes: &mut [u8; 118], mode: Mode, input: &[u8]) -> Judged
     }
 }
 
+// A candidate that is too long for the array counts as none, and its bytes are fed like all others. It is no frame, so
+// reading it has changed nothing.
 fn judge_leading(bytes: &mut [u8; 118], input: &[u8]) -> Judged
-    ensures { λ r. ⌜ r .taken ≡ leadingCount (now (input .entry)) ⌝ }
-    ensures { λ r. ⌜ (r .taken ≡ 0 → now (bytes .exit) ≡ now (bytes .entry)) ⌝ }
-    ensures { λ r. ⌜ (0 < r .taken → JudgedWhole (now (bytes .entry)) (take (r .taken) (now (input .entry)))
-        (now (bytes .exit)) (r .told)) ⌝ }
+    ensures { λ r. ⌜ Judges (now (bytes .entry)) (now (input .entry)) (now (bytes .exit))
+        (wholeCount (now (input .entry))) r ⌝ }
 {
     let leading = frame::read_leading(input, bytes);
     let read = leading.read;
     let taken = leading.taken;
     if taken == 0 {
+        return none();
+    }
+    if WHOLE_LIMIT < taken {
         return none();
     }
     let n = contents_len(read);

@@ -1,7 +1,7 @@
 use mathlib.Core.Path.{_≡_, sym, ap, _∙_}
 use mathlib.Core.Bool.{true}
 use mathlib.Core.List.{List}
-use Prim.Native.Nat.{ℕ, _≤_}
+use Prim.Native.Nat.{ℕ, _<_}
 use native.Mathlib.Omega.{arith}
 use lib.ListN.{length}
 use lib.Seq.{length-take-le}
@@ -22,8 +22,7 @@ Rest t = t .before .before .before .before .before .before .args .rest .now
 stops : (t : tie.Else1) → isStopAt (Rest t) (t .before .before .first-flag .result) ≡ true
 stops t = sym (t .before .is-stop-at .ensures) ∙ not-false _ (t .if1 .left)
 
-ends : (t : tie.Else1)
-    → (t .before .before .first-flag .result ≤ length (Rest t)) × (t .before .before .first-flag .result ≤ 118)
+ends : (t : tie.Else1) → t .before .before .first-flag .result < length (Rest t)
 ends t = open-inside (Rest t) (t .before .before .first-flag .result) (stops t)
 
 plain-run-requires : tie.Need-plain-run-requires
@@ -47,20 +46,18 @@ returns c =
     let a = answer-refused _ 6 (p .args .out .now) (k .1) in
     (c .no-leading .ensures .1 ∙ sym (k .0), (c .no-leading .ensures .0 ∙ a .0, a .1))
 
+add-taken : tie.Need-add-taken
+add-taken c = record { fits = omega (arith, ends c, c .before .before .before .before .before .before .good) }
+
 slice-aggregate-body : tie.Need-slice-aggregate-body
-slice-aggregate-body c = sym (length-take-le _ _ (ends (c .before) .0))
+slice-aggregate-body c = sym (length-take-le _ _ (omega (arith, ends (c .before))))
 
 read-plain-requires : tie.Need-read-plain-requires
 read-plain-requires c κs =
-    let t = c .before .before .before in
-    let f = t .before .before in
-    let r = f .before in
-    open-plain (Rest t) _ _ _ (r .plain-run .ensures .0) (r .plain-run .ensures .1) (f .first-flag .ensures) (stops t)
-    (c .before .if2 .taken)
-
-add-t15 : tie.Need-add-t15
-add-t15 c =
-    record { fits = omega (arith, ends (c .before .before .before .before .before .before) .1) }
+    let t = c .before .before .before .before in
+    let r = t .before .before .before in
+    open-plain (Rest t) _ _ _ (r .plain-run .ensures .0) (r .plain-run .ensures .1) (stops t)
+    (c .before .before .if2 .taken) (c .before .if3 .taken)
 
 same-length : tie.Need-same-length
 same-length c = search needs
@@ -69,13 +66,13 @@ returns-2 : tie.Need-returns-2
 returns-2 c =
     let r = c .before .before in
     let a = r .before in
-    let t = a .before .before .before in
+    let t = a .before .before .before .before in
     let f = t .before .before in
     let p = f .before .before .before .before in
     let out = p .args .out .now in
     let k = open-some (p .args .kind) (Rest t) _ (f .first-flag .ensures) (stops t) in
     let same = plain-whole _ _ (open-plain (Rest t) _ _ _ (f .before .plain-run .ensures .0) (f .before .plain-run .ensures .1)
-    (f .first-flag .ensures) (stops t) (a .before .if2 .taken)) (p .args .kind) ∙ k .1 in (
+    (stops t) (a .before .before .if2 .taken) (a .before .if3 .taken)) (p .args .kind) ∙ k .1 in (
       k .0,
       (
         r .read-plain .ensures .0 ∙ ap (λ (v : Verdict). readAnswer v (length out)) same,
@@ -85,10 +82,6 @@ returns-2 c =
 
 read-stuffed-requires : tie.Need-read-stuffed-requires
 read-stuffed-requires c κs = search needs
-
-add-t18 : tie.Need-add-t18
-add-t18 c =
-    record { fits = omega (arith, ends (c .before .before .before .before .before .before) .1) }
 
 same-length-2 : tie.Need-same-length-2
 same-length-2 c = search needs
@@ -117,12 +110,11 @@ read-open-spec =
     is-stop-at-requires
     no-leading-requires
     returns
+    add-taken
     slice-aggregate-body
     read-plain-requires
-    add-t15
     same-length
     returns-2
     read-stuffed-requires
-    add-t18
     same-length-2
     returns-3)

@@ -54,7 +54,7 @@ add-stepped c =
           omega (
             arith,
             whole-inside (p .consume .result .state .mode) (start .args .input .now) (p .consume .result .at) _
-                (j .judge .ensures .0) (omega (arith, j .before .before .before .if1 .left)),
+                (j .judge .ensures .counted) (omega (arith, j .before .before .before .if1 .left)),
             start .good,
           );
     }
@@ -69,8 +69,8 @@ returns-2 c =
     let l = p .before .before .before in
     let found = c .before .if2 .taken in
     whole-answers (p .consume .result .state .mode) (l .before .before .args .input .now) (p .consume .result .at) _
-    (j .judge .ensures .0) _ (p .consume .last .0) (p .consume .result .state) refl found
-    (l .loop .inv .1 ∙ p .consume .ensures .same) _ (j .judge .result .told) (j .judge .ensures .1 .1 found) _
+    (j .judge .ensures .counted) _ (p .consume .last .0) (p .consume .result .state) refl found
+    (l .loop .inv .1 ∙ p .consume .ensures .same) _ (j .judge .result .told) (j .judge .ensures .whole found) _
     (c .stepped2 .ensures)
 
 shared-slice-read-step-in : tie.Need-shared-slice-read-step-in Inv-loop μ-loop
@@ -94,7 +94,7 @@ returns-3 c =
     let j = q .before .before .before .before in
     let p = j .before .before .before .before .before in
     let l = p .before .before .before in
-    let none = j .judge .ensures .1 .0 (omega (arith, q .before .before .before .if2 .left)) in
+    let none = j .judge .ensures .unmoved (omega (arith, q .before .before .before .if2 .left)) in
     answers _ _ (l .before .before .args .input .now) (p .consume .result .at) (j .before .before .before .if1 .left)
     (unmoved _ _ _ _ _ _ none (l .loop .inv .1 ∙ p .consume .ensures .same)) _ (q .step-in .result)
     (q .step-in .ensures) (sym (c .before .before .is-answer .ensures) ∙ c .before .if3 .taken) _ (c .stepped3 .ensures)
@@ -110,7 +110,7 @@ loop-again c =
     let j = q .before .before .before .before in
     let p = j .before .before .before .before .before in
     let l = p .before .before .before in
-    let none = j .judge .ensures .1 .0 (omega (arith, q .before .before .before .if2 .left)) in (
+    let none = j .judge .ensures .unmoved (omega (arith, q .before .before .before .if2 .left)) in (
       search needs,
       goes-on _ _ (l .before .before .args .input .now) (p .consume .result .at) (j .before .before .before .if1 .left)
           (unmoved _ _ _ _ _ _ none (l .loop .inv .1 ∙ p .consume .ensures .same)) _ (q .step-in .result)

@@ -35,25 +35,41 @@ returns c =
     let k = c .judge-leading .ensures in
     let s = c .before .before .before .before .before .args .input .now in
     let g = c .before .before .enum-told .given .1 in
-    (k .0 ∙ sym (ap (λ (m : Mode). leadingIn m s) g), (k .1 .0, k .1 .1))
+    record {
+      counted = k .counted ∙ sym (ap (λ (m : Mode). leadingIn m s) g);
+      unmoved = k .unmoved;
+      whole = k .whole;
+    }
 
 returns-2 : tie.Need-returns-2
 returns-2 c =
     let s = c .before .before .before .before .args .input .now in
     let g = c .before .enum-told2 .given .1 in
-    (c .none .ensures ∙ sym (ap (λ (m : Mode). leadingIn m s) g), ((λ z. refl), (λ h. absurd (omega arith))))
+    record {
+      counted = c .none .ensures ∙ sym (ap (λ (m : Mode). leadingIn m s) g);
+      unmoved = λ z. refl;
+      whole = λ h. absurd (omega (arith, h, c .none .ensures));
+    }
 
 returns-3 : tie.Need-returns-3
 returns-3 c =
     let s = c .before .before .before .before .args .input .now in
     let g = c .before .enum-told3 .given .1 in
-    (c .none2 .ensures ∙ sym (ap (λ (m : Mode). leadingIn m s) g), ((λ z. refl), (λ h. absurd (omega arith))))
+    record {
+      counted = c .none2 .ensures ∙ sym (ap (λ (m : Mode). leadingIn m s) g);
+      unmoved = λ z. refl;
+      whole = λ h. absurd (omega (arith, h, c .none2 .ensures));
+    }
 
 returns-4 : tie.Need-returns-4
 returns-4 c =
     let s = c .before .before .before .before .args .input .now in
     let g = c .before .enum-told4 .given .1 in
-    (c .none3 .ensures ∙ sym (ap (λ (m : Mode). leadingIn m s) g), ((λ z. refl), (λ h. absurd (omega arith))))
+    record {
+      counted = c .none3 .ensures ∙ sym (ap (λ (m : Mode). leadingIn m s) g);
+      unmoved = λ z. refl;
+      whole = λ h. absurd (omega (arith, h, c .none3 .ensures));
+    }
 
 pub judge-spec : {M : Type 1} → statement M
 judge-spec =
