@@ -5,9 +5,10 @@ use mathlib.Core.List.{List, [], _∷_, _++_}
 use native.Mathlib.Nat.{add-zero}
 use native.Mathlib.Omega.{arith}
 use lib.ListN.{length, take, drop, set, length-drop, length-set, take-append-drop}
-use lib.Seq.{drop-drop, length-take-le, take-all}
+use lib.Seq.{drop-drop, length-take-le}
 use Prim.Native.Nat.{ℕ, suc, _+_, _-_, _≤_, _<_}
 use borrow.Author.Tests.{lt-ltb, le-ltb}
+use Rattle.lists.proofs.Lists.{rest-part}
 use Rattle.lists.specs.Choice.{noneOf, countBefore}
 use Rattle.lists.specs.Splice.{splice, copied}
 use Rattle.lists.proofs.Cases.{by-bool}
@@ -34,7 +35,7 @@ pub search-ends : (s : List ℕ) (from n : ℕ) → n ≡ countBefore isFlag (ta
     → from + n ≡ from + countBefore isFlag (drop from s)
 search-ends s from n e =
     ap (λ (k : ℕ). from + k)
-    (e ∙ ap (countBefore isFlag) (take-all (length s - from) (drop from s) (omega (arith, length-drop from s))))
+    (e ∙ ap (countBefore isFlag) (rest-part s from))
 
 -- The bytes of a run, with any bytes after them, as they are fed.
 pub feed-run : (run rest : List ℕ) (r : LineReader) → noneOf isFlag run ≡ true

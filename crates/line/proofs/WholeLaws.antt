@@ -6,13 +6,13 @@ use mathlib.Core.List.{List, _∷_, _++_, append-assoc}
 use native.Mathlib.Omega.{arith}
 use lib.Dec.{leb, ltb}
 use lib.ListN.{length, getD, take, drop, length-drop, length-append}
-use lib.Seq.{drop-drop, drop-append-le, take-at, take-all, take-take, length-take-le}
+use lib.Seq.{drop-drop, drop-append-le, take-at, take-take, length-take-le}
 use Prim.Native.Nat.{ℕ, _+_, _-_, _≤_, _<_}
 use borrow.Author.Tests.{le-leb, lt-leb, leb-true, ltb-true, ltb-false}
 use Rattle.lists.specs.Choice.{noneOf, countBefore}
 use Rattle.lists.specs.Splice.{splice, copied}
 use Rattle.lists.proofs.Cases.{by-bool}
-use Rattle.lists.proofs.Lists.{drop-take}
+use Rattle.lists.proofs.Lists.{drop-take, rest-part}
 use Rattle.lists.proofs.Splices.{splice-next, length-splice, copied-fits}
 use Rattle.framing.specs.Bounded.{inside}
 use Rattle.answer.specs.Answer.{Answer, result, refused}
@@ -31,11 +31,12 @@ use Rattle.frame.proofs.LeadingLaws.{leading-count, leading-wire, leading-some,
 use Rattle.line.specs.Outcome.{judged, capacity, toldMeans, summaryOf}
 use Rattle.line.specs.Reader.{lentReader, reader, modeIn}
 use Rattle.line.specs.Feed.{ChunkTurn, chunkTurn, laterBy, feedOf, ChunkStepIs}
-use Rattle.line.specs.Private.{isHeld, wholeCount, leadingIn, contentsCount, leftByWhole, JudgedWhole}
+use Rattle.line.specs.Private.{isHeld, wholeCount, leadingIn, contentsCount, leftByWhole, JudgedWhole, Judges}
 use Rattle.line.specs.declared.LineReader.{LineReader}
 use Rattle.line.specs.declared.State.{State}
 use Rattle.line.specs.declared.Told.{Told}
 use Rattle.line.specs.declared.ChunkStep.{ChunkStep}
+use Rattle.line.specs.declared.whole.Judged.{Judged}
 use Rattle.line.specs.declared.Mode.{Mode}
 use Rattle.line.specs.declared.Mode.the-variants.{Outside, InStandard, InExtended, Overlong}
 use Rattle.line.proofs.RunLaws.{feed-run, held-run}
@@ -304,9 +305,14 @@ long-left s bytes last taken count h e = e ∙ of-verdict (verdict (take taken s
         let l : length w ≡ taken = length-take-le taken s (omega (arith, count, leading-fits s)) in
         absurd (omega (arith, l, body-count w (omega (arith, l)), accepted-shrinks w f q .1))
 
--- the part from an index on, as the code takes it
-rest-part : (s : List ℕ) (at : ℕ) → take (length s - at) (drop at s) ≡ drop at s
-rest-part s at = take-all (length s - at) (drop at s) (omega (arith, length-drop at s))
+-- in a mode in which none can begin
+pub judges-none : (bytes s : List ℕ) (m m′ : Mode) (r : Judged) → m ≡ m′ → leadingIn m′ s ≡ 0 → r .taken ≡ 0
+    → Judges bytes s bytes (leadingIn m s) r
+judges-none bytes s m m′ r g z e = record {
+  counted = e ∙ sym (ap (λ (x : Mode). leadingIn x s) g ∙ z);
+  unmoved = λ k. refl;
+  whole = λ h. absurd (omega (arith, h, e));
+}
 
 module _ (mode : Mode) (s : List ℕ) (at taken : ℕ) (count : taken ≡ leadingIn mode (take (length s - at) (drop at s))) where
   pub whole-inside : at ≤ length s → at + taken ≤ length s

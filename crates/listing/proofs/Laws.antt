@@ -9,6 +9,7 @@ use lib.ListN.{length, take, drop, length-append, length-drop}
 use lib.Seq.{take-add, take-length, take-at, length-take-le}
 use lib.Dec.{leb}
 use borrow.Author.Tests.{le-leb, leb-true, leb-false}
+use Rattle.lists.proofs.Lists.{rest-part}
 use Rattle.lists.specs.Choice.{pick}
 use Rattle.lists.proofs.Cases.{by-bool}
 use Rattle.answer.specs.Answer.{Answer, result, refused}
@@ -18,7 +19,7 @@ use Rattle.trace.specs.Machine.{add64, newListing, listingAfter, texts, lastTex
 use Rattle.trace.specs.Cutting.{longest}
 use Rattle.trace.specs.declared.Listing.{Listing}
 use Rattle.trace.specs.declared.Listed.{Listed}
-use Rattle.trace.proofs.ChunkLaws.{after-append, texts-append, rest-part}
+use Rattle.trace.proofs.ChunkLaws.{after-append, texts-append}
 use Rattle.trace.proofs.Cuttings.{new-text}
 use Rattle.listing.specs.Runs.{Pumps, TextCounted, Stops, Runs}
 use Rattle.listing.specs.Private.{Fetches, ran, Closes}

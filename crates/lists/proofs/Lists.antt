@@ -89,6 +89,10 @@ take-lesser s len n e =
     let h : length s < len = leb-false _ _ y in
     (take-all n s (omega arith) ∙ sym (take-all len s (omega arith)), omega arith))
 
+-- The part from an index on, as code takes it.
+pub rest-part : (s : List ℕ) (at : ℕ) → take (length s - at) (drop at s) ≡ drop at s
+rest-part s at = take-all (length s - at) (drop at s) (omega (arith, length-drop at s))
+
 -- The first elements are at most so many, and at most those of the list.
 pub take-bounds : (n : ℕ) (s : List ℕ) → (length (take n s) ≤ n) × (length (take n s) ≤ length s)
 take-bounds zero s = (omega arith, omega arith)

@@ -5,8 +5,8 @@ use mathlib.Core.List.{List, [], _∷_, _++_, append-assoc}
 use Prim.Native.Nat.{ℕ, suc, _+_, _-_, _≤_, _<_}
 use native.Mathlib.Nat.{add-assoc}
 use native.Mathlib.Omega.{arith}
-use lib.ListN.{length, take, drop, getD, length-drop}
-use lib.Seq.{take-add, take-all, drop-drop, drop-cons, drop-length}
+use lib.ListN.{length, take, drop, getD}
+use lib.Seq.{take-add, drop-drop, drop-cons, drop-length}
 use lib.Dec.{ltb}
 use borrow.Author.Tests.{lt-ltb}
 use Rattle.lists.specs.Choice.{pick}
@@ -32,10 +32,6 @@ pub going-start : (s : Listing) (chunk out : List ℕ) → Going s chunk out s o
 going-start s chunk out =
     let z : length out - 0 ≡ length out = omega arith in
     record { state = refl; wrote = wrote-nothing out 0; taken = rw z (omega arith) }
-
--- the part of a chunk from an index on, as the code takes it
-pub rest-part : (chunk : List ℕ) (i : ℕ) → take (length chunk - i) (drop i chunk) ≡ drop i chunk
-rest-part chunk i = take-all (length chunk - i) (drop i chunk) (omega (arith, length-drop i chunk))
 
 taken-stop : (t : Bool) (n i : ℕ) → t ≡ true → i + pick t 0 (1 + n) ≡ i
 taken-stop t n i e = rw e (omega arith)

@@ -13,7 +13,7 @@ use borrow.Author.Tests.{eqb-true}
 use Rattle.lists.specs.Choice.{pick, countBefore}
 use Rattle.lists.proofs.Before.{before-fits}
 use Rattle.lists.proofs.Cases.{by-bool}
-use Rattle.lists.proofs.Lists.{take-bounds}
+use Rattle.lists.proofs.Lists.{take-bounds, rest-part}
 use Rattle.framing.specs.Reference.{Role, starts, stops, plain}
 use Rattle.framing.specs.Bounded.{terminatedIn}
 use Rattle.frame.proofs.FlagLaws.{isStarts, role-tests}
@@ -153,7 +153,7 @@ module _ (r : LineReader) (rest : List ℕ) (k n : ℕ) (ek : k ≡ strayCount (
       → ChunkStepIs bytes (record { told = f .told; state = f .state; taken = n + f .taken }) (chunkOf r rest)
   passed-fed bytes f chunk e g =
       let part : take (length chunk - n) (drop n chunk) ≡ drop n chunk =
-      take-all (length chunk - n) (drop n chunk) (omega (arith, length-drop n chunk)) in
+      rest-part chunk n in
       let whole : cutChunk (drop n chunk) ≡ drop n chunk =
       take-all chunkLimit (drop n chunk) (omega (arith, length-drop n chunk, ap length e, take-bounds chunkLimit rest .0)) in
       let q : laterBy n (chunkOf r (take (length chunk - n) (drop n chunk))) ≡ chunkOf r rest =

@@ -3,9 +3,9 @@ use mathlib.Core.Bool.{true}
 use mathlib.Core.List.{List}
 use Prim.Native.Nat.{ℕ, _-_}
 use native.Mathlib.Omega.{arith}
-use lib.ListN.{length, take, drop, getD, length-drop}
-use lib.Seq.{take-all}
+use lib.ListN.{length, take, drop, getD}
 use borrow.Author.Tests.{not-true, not-false}
+use Rattle.lists.proofs.Lists.{rest-part}
 use Rattle.frame.specs.Flags.{isStart}
 use Rattle.frame.specs.Verdict.{Verdict, verdict}
 use Rattle.frame.specs.Answers.{readAnswer, readOut}
@@ -69,7 +69,7 @@ returns-2 c =
     let s = S t in
     let out = t .before .before .before .before .args .out .now in
     let rest : take (length s - 1) (drop 1 s) ≡ drop 1 s =
-    take-all (length s - 1) (drop 1 s) (omega (arith, length-drop 1 s)) in
+    rest-part s 1 in
     let taken : r .read-open .result .taken ≡ openCount (drop 1 s) = r .read-open .ensures .0 ∙ ap openCount rest in
     let same : openVerdict (k .kind-of .result) (take (length s - 1) (drop 1 s))
     ≡ verdict (take (r .read-open .result .taken) s) =

@@ -4,8 +4,9 @@ use mathlib.Core.List.{List}
 use Prim.Native.Nat.{ℕ, _+_, _-_, _≤_}
 use native.Mathlib.Omega.{arith}
 use lib.ListN.{length, drop, length-drop}
+use Rattle.lists.proofs.Lists.{rest-part}
 use Rattle.trace.specs.Private.{Going, Advances, listing}
-use Rattle.trace.proofs.ChunkLaws.{going-start, going-more, going-stop, going-end, rest-part}
+use Rattle.trace.proofs.ChunkLaws.{going-start, going-more, going-stop, going-end}
 use Rattle.trace.proofs.list.Statement.{statement}
 use Rattle.trace.proofs.list.Tie as tie
 

@@ -1,8 +1,7 @@
 use mathlib.Core.Path.{_≡_, sym, ap, _∙_}
-use Prim.Native.Nat.{ℕ, _+_, _-_}
+use Prim.Native.Nat.{ℕ, _+_}
 use native.Mathlib.Omega.{arith}
-use lib.ListN.{length, drop, length-drop}
-use lib.Seq.{take-all}
+use Rattle.lists.proofs.Lists.{rest-part}
 use Rattle.lists.specs.Choice.{countBefore}
 use Rattle.lists.proofs.Before.{before-fits}
 use Rattle.frame.specs.Flags.{isFlag}
@@ -33,7 +32,7 @@ ends c =
     let at = p .args .at in
     ap (λ (n : ℕ). at + n)
     (c .count-before .ensures
-    ∙ ap (countBefore isFlag) (take-all (length s - at) (drop at s) (omega (arith, length-drop at s))))
+    ∙ ap (countBefore isFlag) (rest-part s at))
     ∙ sym (flag-after s at (p .pre) .1)
 
 add-result : tie.Need-add-result

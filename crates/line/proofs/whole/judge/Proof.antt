@@ -1,7 +1,8 @@
 use mathlib.Core.Path.{refl, sym, ap, _∙_}
-use native.Mathlib.Omega.{arith}
 use Rattle.line.specs.Private.{leadingIn}
 use Rattle.line.specs.declared.Mode.{Mode}
+use Rattle.line.specs.declared.Mode.the-variants.{InStandard, InExtended, Overlong}
+use Rattle.line.proofs.WholeLaws.{judges-none}
 use borrow.Author.Needs.{needs}
 use Rattle.line.proofs.whole.judge.Statement.{statement}
 use Rattle.line.proofs.whole.judge.Tie as tie
@@ -43,33 +44,18 @@ returns c =
 
 returns-2 : tie.Need-returns-2
 returns-2 c =
-    let s = c .before .before .before .before .args .input .now in
-    let g = c .before .enum-told2 .given .1 in
-    record {
-      counted = c .none .ensures ∙ sym (ap (λ (m : Mode). leadingIn m s) g);
-      unmoved = λ z. refl;
-      whole = λ h. absurd (omega (arith, h, c .none .ensures));
-    }
+    let a = c .before .before .before .before .args in
+    judges-none (a .bytes .now) (a .input .now) (a .mode) InStandard _ (c .before .enum-told2 .given .1) refl (c .none .ensures)
 
 returns-3 : tie.Need-returns-3
 returns-3 c =
-    let s = c .before .before .before .before .args .input .now in
-    let g = c .before .enum-told3 .given .1 in
-    record {
-      counted = c .none2 .ensures ∙ sym (ap (λ (m : Mode). leadingIn m s) g);
-      unmoved = λ z. refl;
-      whole = λ h. absurd (omega (arith, h, c .none2 .ensures));
-    }
+    let a = c .before .before .before .before .args in
+    judges-none (a .bytes .now) (a .input .now) (a .mode) InExtended _ (c .before .enum-told3 .given .1) refl (c .none2 .ensures)
 
 returns-4 : tie.Need-returns-4
 returns-4 c =
-    let s = c .before .before .before .before .args .input .now in
-    let g = c .before .enum-told4 .given .1 in
-    record {
-      counted = c .none3 .ensures ∙ sym (ap (λ (m : Mode). leadingIn m s) g);
-      unmoved = λ z. refl;
-      whole = λ h. absurd (omega (arith, h, c .none3 .ensures));
-    }
+    let a = c .before .before .before .before .args in
+    judges-none (a .bytes .now) (a .input .now) (a .mode) Overlong _ (c .before .enum-told4 .given .1) refl (c .none3 .ensures)
 
 pub judge-spec : {M : Type 1} → statement M
 judge-spec =
