@@ -1,5 +1,5 @@
 /*
- * CSAFE frames, also from a live line, programmed workouts and machine leases.
+ * CSAFE frames, also from a live line and in stored traces, programmed workouts and machine leases.
  *
  * Link target/staticlib/libexports.a, which `rt staticlib exports` makes.
  *
@@ -61,10 +61,14 @@ enum {
     CSAFE_NOT_HOLDER = 11,    /* the token is 0 or not the holder's, or the address is free */
     CSAFE_OUT_OF_LIMITS = 12, /* a number of the workout is outside its limits */
     CSAFE_ZERO_TOKEN = 14,    /* the token is 0 */
+    CSAFE_UNNAMED = 17,       /* a standard frame names no sender, so a live line takes none */
     CSAFE_BAD_TABLE = 18      /* the lease table is not 2,048 bytes long */
 };
 
-/* The kinds of a frame that was read, and what stands for a kind where a line reader told nothing. */
+/*
+ * The kinds of a frame that was read, and what stands for a kind where a line reader told nothing. Only the functions
+ * for traces read standard frames.
+ */
 enum {
     CSAFE_STANDARD = 0,
     CSAFE_EXTENDED = 1,
@@ -100,8 +104,9 @@ static inline uint8_t csafe_from(uint64_t answer) { return (uint8_t)((answer >> 
 static inline uint32_t csafe_length(uint64_t answer) { return (uint32_t)(answer >> 32); }
 
 /*
- * Writes a standard frame first in the output and answers its length on the wire.
- * Refused, in this order: CSAFE_TOO_LONG, CSAFE_NO_ROOM.
+ * Writes nothing. A standard frame names no sender, so none goes out on a live line, and a program that asks for one is
+ * told so. What it has to send goes through csafe_write_extended.
+ * Refused: CSAFE_UNNAMED, always.
  */
 uint64_t csafe_write_standard(const uint8_t *contents, size_t contents_len, uint8_t *out, size_t out_len);
 
@@ -114,8 +119,8 @@ uint64_t csafe_write_extended(uint8_t to, uint8_t from, const uint8_t *contents,
                               size_t out_len);
 
 /*
- * Answers how many bytes a standard frame takes on the wire, which is the room that csafe_write_standard needs.
- * Refused: CSAFE_TOO_LONG.
+ * Tells no length, because csafe_write_standard writes no frame. A program that asks for it is told why.
+ * Refused: CSAFE_UNNAMED, always.
  */
 uint64_t csafe_standard_length(const uint8_t *contents, size_t contents_len);
 
@@ -127,39 +132,75 @@ uint64_t csafe_standard_length(const uint8_t *contents, size_t contents_len);
 uint64_t csafe_extended_length(uint8_t to, uint8_t from, const uint8_t *contents, size_t contents_len);
 
 /*
- * Reads a slice that has to be one frame, from its start flag to its stop flag. Puts its contents first in the output
- * and answers its kind, its addresses and the length of its contents.
+ * Reads a slice that has to be one frame of a live line, from its start flag to its stop flag. Puts its contents first
+ * in the output and answers its kind, its addresses and the length of its contents. A standard frame is refused, one
+ * that is damaged for its damage.
  * Refused, in this order: CSAFE_TRUNCATED, CSAFE_TOO_LONG, CSAFE_BAD_ESCAPE, CSAFE_TOO_SHORT, CSAFE_BAD_CHECKSUM,
- * CSAFE_NO_ROOM.
+ * CSAFE_UNNAMED, CSAFE_NO_ROOM.
  */
 uint64_t csafe_read(const uint8_t *wire, size_t wire_len, uint8_t *out, size_t out_len);
 
 /*
- * Feeds bytes of a line to a reader up to the first that is answered, and sets `taken` to how many were taken.
+ * Feeds bytes of a live line to a reader up to the first that is answered, and sets `taken` to how many were taken.
  *
  * A reader is CSAFE_LINE_LEN bytes and a number that goes with them, its state. A new one has state 0. Any bytes and
  * any number are a reader.
  *
  * A candidate for a frame begins at a start flag. At its stop flag it is answered as csafe_read answers a slice, its
  * contents being the first bytes of the reader, or refused. Where nothing is told, the kind is CSAFE_NOTHING and all
- * bytes were taken, or the first CSAFE_CHUNK_LIMIT of them. The next call has to start right after the last byte taken. However a stream is cut into calls, its
- * answers are those of its bytes fed one by one.
+ * bytes were taken, or the first CSAFE_CHUNK_LIMIT of them. The next call has to start right after the last byte taken.
+ * However a stream is cut into calls, its answers are those of its bytes fed one by one.
  *
  * An input longer than CSAFE_CHUNK_LIMIT is cut to its first CSAFE_CHUNK_LIMIT bytes, so where nothing is told of
  * those, that many were taken. Of an empty input none are taken and nothing is told.
  *
  * Refused where a start flag comes before the stop flag: CSAFE_TRUNCATED, and the flag begins the next candidate.
- * Refused at the stop flag, in this order: CSAFE_TOO_LONG, CSAFE_BAD_ESCAPE, CSAFE_TOO_SHORT, CSAFE_BAD_CHECKSUM.
+ * Refused at the stop flag, in this order: CSAFE_TOO_LONG, CSAFE_BAD_ESCAPE, CSAFE_TOO_SHORT, CSAFE_BAD_CHECKSUM,
+ * CSAFE_UNNAMED.
  */
 uint64_t csafe_feed(uint8_t bytes[CSAFE_LINE_LEN], uint64_t *state, const uint8_t *input, size_t input_len,
                     uint64_t *taken);
 
 /*
- * Ends the input of a reader, which is as new afterwards. Its bytes stay as they are. The kind is
- * CSAFE_NOTHING where no candidate was open.
+ * Ends the input of a reader, of a live line or of a trace, which is as new afterwards. Its bytes stay as they are. The
+ * kind is CSAFE_NOTHING where no candidate was open.
  * Refused: CSAFE_TRUNCATED where a candidate for a frame was open.
  */
 uint64_t csafe_finish(uint64_t *state);
+
+/*
+ * The functions for stored traces, in which standard frames are read as they stand. They are for traces that are kept
+ * on disk and for tests. Bytes that go to a machine or come from one never go through them.
+ */
+
+/*
+ * Writes a standard frame of a trace first in the output and answers its length on the wire.
+ * Refused, in this order: CSAFE_TOO_LONG, CSAFE_NO_ROOM.
+ */
+uint64_t csafe_trace_write_standard(const uint8_t *contents, size_t contents_len, uint8_t *out, size_t out_len);
+
+/*
+ * Answers how many bytes a standard frame of a trace takes on the wire, which is the room that
+ * csafe_trace_write_standard needs.
+ * Refused: CSAFE_TOO_LONG.
+ */
+uint64_t csafe_trace_standard_length(const uint8_t *contents, size_t contents_len);
+
+/*
+ * As csafe_read, of a trace: a frame of either kind is read.
+ * Refused, in this order: CSAFE_TRUNCATED, CSAFE_TOO_LONG, CSAFE_BAD_ESCAPE, CSAFE_TOO_SHORT, CSAFE_BAD_CHECKSUM,
+ * CSAFE_NO_ROOM.
+ */
+uint64_t csafe_trace_read(const uint8_t *wire, size_t wire_len, uint8_t *out, size_t out_len);
+
+/*
+ * As csafe_feed, of a trace: at its stop flag a candidate is answered as csafe_trace_read answers a slice. The reader
+ * does not hold whether it is fed a trace, so all bytes of a trace are fed here.
+ * Refused where a start flag comes before the stop flag: CSAFE_TRUNCATED, and the flag begins the next candidate.
+ * Refused at the stop flag, in this order: CSAFE_TOO_LONG, CSAFE_BAD_ESCAPE, CSAFE_TOO_SHORT, CSAFE_BAD_CHECKSUM.
+ */
+uint64_t csafe_trace_feed(uint8_t bytes[CSAFE_LINE_LEN], uint64_t *state, const uint8_t *input, size_t input_len,
+                          uint64_t *taken);
 
 /*
  * Writes the contents of a workout over a distance first in the output and answers their length, CSAFE_WORKOUT_LEN.
@@ -178,6 +219,22 @@ uint64_t csafe_write_distance_workout(uint32_t metres, uint32_t split_metres, ui
  */
 uint64_t csafe_write_time_workout(uint32_t seconds, uint32_t split_hundredths, uint16_t watts, uint8_t *out,
                                   size_t out_len);
+
+/*
+ * Writes the extended frame from the host, 00, to this address whose contents are those that
+ * csafe_write_distance_workout writes. It stands first in the output, and its length on the wire is answered.
+ * Refused, in this order: CSAFE_BAD_ADDRESS, CSAFE_OUT_OF_LIMITS, CSAFE_NO_ROOM.
+ */
+uint64_t csafe_write_distance_workout_frame(uint32_t address, uint32_t metres, uint32_t split_metres, uint16_t watts,
+                                            uint8_t *out, size_t out_len);
+
+/*
+ * Writes the extended frame from the host, 00, to this address whose contents are those that
+ * csafe_write_time_workout writes. It stands first in the output, and its length on the wire is answered.
+ * Refused, in this order: CSAFE_BAD_ADDRESS, CSAFE_OUT_OF_LIMITS, CSAFE_NO_ROOM.
+ */
+uint64_t csafe_write_time_workout_frame(uint32_t address, uint32_t seconds, uint32_t split_hundredths, uint16_t watts,
+                                        uint8_t *out, size_t out_len);
 
 /*
  * Takes a free address on a lease table. Only its own eight bytes change.

@@ -1,25 +1,27 @@
 -- What the exported functions of the line reader answer and leave, from what the library's functions do.
-use Prim.Native.Nat.{ℕ, _/_, _^_, _<_}
-use mathlib.Core.Path.{_≡_, sym, ap, _∙_, subst}
+use Prim.Native.Nat.{ℕ, _/_, _%_, _^_, _<_}
+use mathlib.Core.Path.{_≡_, sym, ap, ap₂, _∙_, subst}
 use mathlib.Core.List.{List, []}
 use native.Mathlib.Omega.{arith}
-use Rattle.line.specs.Outcome.{Summary, toldMeans, ContentsFit}
-use Rattle.line.specs.Reader.{lentReader, finishOf, LentStepIs}
+use Rattle.frame.specs.declared.Origin.{Origin}
+use Rattle.line.specs.Outcome.{Summary, toldMeans, summaryOf, ContentsFit}
+use Rattle.line.specs.Reader.{lentReader, originOf, modeSeen, finishOf, LentStepIs}
 use Rattle.line.specs.Feed.{ChunkTurn, cutChunk, chunkOf, ChunkStepIs}
 use Rattle.line.specs.declared.LineReader.{LineReader}
 use Rattle.line.specs.declared.State.{State}
 use Rattle.line.specs.declared.LentStep.{LentStep}
 use Rattle.line.specs.declared.ChunkStep.{ChunkStep}
+use Rattle.line.proofs.ReaderLaws.{truncated-alike}
 use Rattle.line.proofs.FeedBounds.{feed-within, finish-within, feed-len}
 use Rattle.exports.specs.Packed.{Tells}
-use Rattle.exports.specs.LineState.{packedState, stateIn, readerIn}
+use Rattle.exports.specs.LineState.{modeOf, packedState, stateIn, readerIn}
 use Rattle.exports.specs.LineAnswers.{lineFields, fedTo, finished, FedAs, FinishedAs}
 use Rattle.exports.proofs.LineStateLaws.{state-tells}
 
-module _ (bytes input left : List ℕ) (before : State) (s : ChunkStep)
+module _ (o : Origin) (bytes input left : List ℕ) (before : State) (s : ChunkStep)
     (is : ChunkStepIs left s (chunkOf (lentReader bytes before) input)) where
   -- the length that is left has room in the state's number
-  pub fed-len-fits : (n : ℕ) → n < 2 ^ 64 → before ≡ stateIn n → s .state .len < 2 ^ 62
+  pub fed-len-fits : (n : ℕ) → n < 2 ^ 64 → before ≡ stateIn o n → s .state .len < 2 ^ 62
   fed-len-fits n h e =
       let l : before .len ≡ n / 4 = ap (λ (x : State). x .len) e in
       subst (λ (u : LineReader). u .state .len < 2 ^ 62) (sym (is .next-is))
@@ -29,9 +31,9 @@ module _ (bytes input left : List ℕ) (before : State) (s : ChunkStep)
   pub fed-within : ContentsFit 118 (toldMeans (s .told))
   fed-within = subst (ContentsFit 118) (sym (is .told-is)) (feed-within (lentReader bytes before) (cutChunk input))
 
-  pub fed-as : (answer n₀ n : ℕ) → before ≡ stateIn n₀ → n ≡ packedState (s .state)
+  pub fed-as : (answer n₀ n : ℕ) → before ≡ stateIn o n₀ → n ≡ packedState (s .state)
       → Tells answer (lineFields (toldMeans (s .told)))
-      → FedAs answer left n (s .taken) (fedTo bytes n₀ input)
+      → FedAs answer left n (s .taken) (fedTo o bytes n₀ input)
   fed-as answer n₀ n e es t =
       subst (λ (x : State). FedAs answer left n (s .taken) (chunkOf (lentReader bytes x) input)) e (record {
         answered = subst (λ (h : Summary). Tells answer (lineFields h)) (is .told-is) t;
@@ -48,25 +50,28 @@ module _ (before : State) (s : LentStep)
   pub finish-fits : ContentsFit 118 (toldMeans (s .told))
   finish-fits = subst (ContentsFit 118) (sym (is [] .told-is)) (finish-within (lentReader [] before))
 
-  pub finished-as : (answer n₀ n : ℕ) → before ≡ stateIn n₀ → n ≡ packedState (s .state)
+  -- a finish is answered alike at both origins, so the one that the code takes does not matter
+  pub finished-as : (p : Origin) (answer n₀ n : ℕ) → before ≡ stateIn p n₀ → n ≡ packedState (s .state)
       → Tells answer (lineFields (toldMeans (s .told)))
-      → (bytes : List ℕ) → FinishedAs answer n (finished bytes n₀)
-  finished-as answer n₀ n e es t bytes =
+      → (o : Origin) (bytes : List ℕ) → FinishedAs answer n (finished o bytes n₀)
+  finished-as p answer n₀ n e es t o bytes =
       let k = is bytes in
-      subst (λ (x : State). FinishedAs answer n (finishOf (lentReader bytes x))) e (record {
-        answered = subst (λ (h : Summary). Tells answer (lineFields h)) (k .told-is) t;
+      let same = ap summaryOf (ap (λ (x : State). finishOf (lentReader bytes x) .answer) e
+      ∙ truncated-alike p o (modeSeen (modeOf (n₀ % 4)))) in
+      record {
+        answered = subst (λ (h : Summary). Tells answer (lineFields h)) (k .told-is ∙ same) t;
         state-left = es ∙ ap (λ (u : LineReader). packedState (u .state)) (k .next-is);
-      })
+      }
 
 -- The reader that the next call finds in the array and the number is the one that the bytes left, so a portal's calls
 -- are the line reader's.
-pub fed-next : (answer : ℕ) (bytes : List ℕ) (n taken : ℕ) (f : ChunkTurn) → FedAs answer bytes n taken f
-    → readerIn bytes n ≡ f .next
-fed-next answer bytes n taken f k =
-    ap (readerIn bytes) (k .state-left) ∙ state-tells bytes (f .next .state)
+pub fed-next : (o : Origin) (answer : ℕ) (bytes : List ℕ) (n taken : ℕ) (f : ChunkTurn) → originOf (f .next) ≡ o
+    → FedAs answer bytes n taken f → readerIn o bytes n ≡ f .next
+fed-next o answer bytes n taken f e k =
+    ap₂ (λ (p : Origin) (m : ℕ). readerIn p bytes m) (sym e) (k .state-left) ∙ state-tells bytes (f .next .state)
     ∙ ap (λ (b : List ℕ). lentReader b (f .next .state)) (k .bytes-left)
 
-pub finished-next : (answer : ℕ) (bytes : List ℕ) (n₀ n : ℕ) → FinishedAs answer n (finished bytes n₀)
-    → readerIn bytes n ≡ finished bytes n₀ .next
-finished-next answer bytes n₀ n k =
-    ap (readerIn bytes) (k .state-left) ∙ state-tells bytes (finished bytes n₀ .next .state)
+pub finished-next : (o : Origin) (answer : ℕ) (bytes : List ℕ) (n₀ n : ℕ) → FinishedAs answer n (finished o bytes n₀)
+    → readerIn o bytes n ≡ finished o bytes n₀ .next
+finished-next o answer bytes n₀ n k =
+    ap (readerIn o bytes) (k .state-left) ∙ state-tells bytes (finished o bytes n₀ .next .state)

@@ -10,6 +10,7 @@ use borrow.Author.Tests.{eqb-true, eqb-false}
 use Rattle.lists.specs.Choice.{pick}
 use Rattle.frame.specs.Answers.{standardOutline, extendedOutline, FrameOutline}
 use Rattle.answer.specs.Answer.{Answer, result, refused}
+use Rattle.frame.specs.declared.Origin.{Origin}
 use Rattle.line.specs.Outcome.{silent, tells}
 use Rattle.line.specs.Reader.{lentReader}
 use Rattle.line.specs.declared.State.{State}
@@ -31,13 +32,13 @@ mode-of-digit InStandard = refl
 mode-of-digit InExtended = refl
 mode-of-digit Overlong = refl
 
--- A reader that was packed is what its number is taken apart to.
-pub state-tells : (bytes : List ℕ) (s : State) → readerIn bytes (packedState s) ≡ lentReader bytes s
+-- A reader that was packed is what its number is taken apart to, at its origin.
+pub state-tells : (bytes : List ℕ) (s : State) → readerIn (s .origin) bytes (packedState s) ≡ lentReader bytes s
 state-tells bytes s =
     let l : packedState s / 4 ≡ s .len = omega (arith, digit-small (s .mode)) in
     let d : packedState s % 4 ≡ digitOf (s .mode) = omega (arith, digit-small (s .mode)) in
     let e : modeOf (packedState s % 4) ≡ s .mode = ap modeOf d ∙ mode-of-digit (s .mode) in
-    λ i. record { bytes = bytes; state = record { len = l i; mode = e i } }
+    λ i. record { bytes = bytes; state = record { len = l i; mode = e i; origin = s .origin } }
 
 digit-of-mode : (n : ℕ) → n < 4 → digitOf (modeOf n) ≡ n
 digit-of-mode n h = by-tests (eqb n 0) (eqb n 1) (eqb n 2) refl refl refl
@@ -49,9 +50,9 @@ digit-of-mode n h = by-tests (eqb n 0) (eqb n 1) (eqb n 2) refl refl refl
     by-tests false false true a b c = sym (eqb-true n 2 c)
     by-tests false false false a b c = omega (arith, h, eqb-false n 0 a, eqb-false n 1 b, eqb-false n 2 c)
 
--- A number is that of the reader that it is taken apart to.
-pub state-packs : (n : ℕ) → packedState (stateIn n) ≡ n
-state-packs n =
+-- A number is that of the reader of either origin that it is taken apart to.
+pub state-packs : (o : Origin) (n : ℕ) → packedState (stateIn o n) ≡ n
+state-packs o n =
     let h : n % 4 < 4 = omega arith in
     ap (λ (d : ℕ). d + 4 * (n / 4)) (digit-of-mode (n % 4) h) ∙ omega arith
 

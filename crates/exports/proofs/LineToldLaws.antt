@@ -12,11 +12,13 @@ use Rattle.framing.specs.Reference.{Role, starts, stops, plain}
 use Rattle.framing.specs.Bounded.{BoundedMode, outside, inside, overlong, truncatedIn, terminatedIn}
 use Rattle.frame.specs.Flags.{roleOf, candidateOf}
 use Rattle.frame.specs.Verdict.{verdict}
+use Rattle.frame.specs.Origin.{admit}
 use Rattle.frame.specs.Answers.{standardOutline, extendedOutline, outlineOf, judgeAnswer}
+use Rattle.frame.specs.declared.Origin.{Origin}
 use Rattle.frame.specs.declared.Kind.{Kind}
 use Rattle.line.specs.Outcome.{Summary, silent, tells, summaryOf}
 use Rattle.line.specs.Rowing.{rowing, rowingBounds}
-use Rattle.line.specs.Reader.{ReaderTurn, modeSeen, roleStep, stepOf, finishOf}
+use Rattle.line.specs.Reader.{ReaderTurn, originOf, modeSeen, roleStep, stepOf, finishOf}
 use Rattle.line.specs.Feed.{isAnswer, ChunkTurn, chunkTurn, laterBy, feedOf}
 use Rattle.line.specs.declared.LineReader.{LineReader}
 use Rattle.exports.specs.Packed.{Fields, Tells}
@@ -39,28 +41,29 @@ line-told n (tells (refused m)) h t =
 
 -- ---- the refusals of a line reader are numbered
 
-truncated-numbered : (m : BoundedMode Kind) → NumberedLine (summaryOf (truncatedIn rowing rowingBounds m))
-unfolding judgeAnswer
-truncated-numbered outside = tt
-truncated-numbered (inside kind) = λ e. omega arith
-truncated-numbered overlong = λ e. omega arith
+module _ (o : Origin) where
+  truncated-numbered : (m : BoundedMode Kind) → NumberedLine (summaryOf (truncatedIn (rowing o) (rowingBounds o) m))
+  unfolding judgeAnswer
+  truncated-numbered outside = tt
+  truncated-numbered (inside kind) = λ e. omega arith
+  truncated-numbered overlong = λ e. omega arith
 
-terminated-numbered : (m : BoundedMode Kind) (held : List ℕ) (len : ℕ)
-    → NumberedLine (summaryOf (terminatedIn rowing rowingBounds m held len))
-unfolding judgeAnswer
-terminated-numbered outside held len = tt
-terminated-numbered (inside kind) held len =
-    through-numbered outlineOf (verdict (candidateOf kind (take len held)))
-    (verdict-numbered (candidateOf kind (take len held)))
-terminated-numbered overlong held len = λ e. omega arith
+  terminated-numbered : (m : BoundedMode Kind) (held : List ℕ) (len : ℕ)
+      → NumberedLine (summaryOf (terminatedIn (rowing o) (rowingBounds o) m held len))
+  unfolding judgeAnswer
+  terminated-numbered outside held len = tt
+  terminated-numbered (inside kind) held len =
+      through-numbered outlineOf (admit o (verdict (candidateOf kind (take len held))))
+      (verdict-numbered o (candidateOf kind (take len held)))
+  terminated-numbered overlong held len = λ e. omega arith
 
 byte-numbered : (r : LineReader) (b : ℕ) (ρ : Role) → NumberedLine (summaryOf (roleStep ρ r b .answer))
-byte-numbered r b starts = truncated-numbered (modeSeen (r .state .mode))
-byte-numbered r b stops = terminated-numbered (modeSeen (r .state .mode)) (r .bytes) (r .state .len)
+byte-numbered r b starts = truncated-numbered (originOf r) (modeSeen (r .state .mode))
+byte-numbered r b stops = terminated-numbered (originOf r) (modeSeen (r .state .mode)) (r .bytes) (r .state .len)
 byte-numbered r b plain = tt
 
 pub finish-numbered : (r : LineReader) → NumberedLine (summaryOf (finishOf r .answer))
-finish-numbered r = truncated-numbered (modeSeen (r .state .mode))
+finish-numbered r = truncated-numbered (originOf r) (modeSeen (r .state .mode))
 
 pub feed-numbered : (r : LineReader) (s : List ℕ) → NumberedLine (summaryOf (feedOf r s .answer))
 unfolding feedOf

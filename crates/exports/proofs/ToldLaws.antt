@@ -11,14 +11,17 @@ use Rattle.lists.proofs.Cases.{by-bool}
 use Rattle.answer.specs.Answer.{Answer, result, refused, through}
 use Rattle.answer.specs.Draft.{Draft, draftAnswer}
 use Rattle.frame.specs.Address.{inRange}
-use Rattle.frame.specs.Frame.{Frame, contentsOf, wireOf}
+use Rattle.frame.specs.Frame.{Frame, standard, extended, contentsOf, wireOf}
 use Rattle.frame.specs.Verdict.{Verdict, verdict}
-use Rattle.frame.specs.Answers.{frameDraft, FrameOutline, standardOutline, extendedOutline, readAnswer}
-use Rattle.frame.specs.Conditions.{Judged, truncated, long, badEscape, short, badSum, sound}
+use Rattle.frame.specs.Origin.{admit}
+use Rattle.frame.specs.Answers.{frameDraft, sentDraft, FrameOutline, standardOutline, extendedOutline, readAnswer}
+use Rattle.frame.specs.Conditions.{Judged, truncated, long, badEscape, short, badSum, unnamed, sound}
+use Rattle.frame.specs.declared.Origin.{Origin}
+use Rattle.frame.specs.declared.Origin.the-variants.{Live, Trace}
 use Rattle.frame.proofs.Table.{verdict-by-table}
 use Rattle.workout.specs.Limits.{Limits}
 use Rattle.workout.specs.Workout.{Programmed, withinLimits}
-use Rattle.workout.specs.Answers.{workoutDraft}
+use Rattle.workout.specs.Answers.{workoutDraft, workoutFrameDraft}
 use Rattle.lease.specs.Lease.{LeaseCall, hold, release, stop, owns, stopFrame, answerOf, addressOf, tableOf}
 use Rattle.lease.specs.Lease.{lentAnswer}
 use Rattle.lease.specs.Answers.{writtenLength}
@@ -54,13 +57,26 @@ draft-numbered (refused n) room h = h
 draft-numbered (result w) room h =
     by-bool (leb (length w) room) (λ y. simp y tt) (λ y. simp y (λ e. omega arith))
 
-pub frame-numbered : (f : Frame) → Numbered (frameDraft f)
+frame-numbered : (f : Frame) → Numbered (frameDraft f)
 unfolding frameDraft
 frame-numbered f = by-bool (leb (length (wireOf f)) 120) (λ y. simp y tt) (λ y. simp y (λ e. omega arith))
+
+pub sent-numbered : (o : Origin) (f : Frame) → Numbered (sentDraft o f)
+sent-numbered Live (standard c) = λ e. omega arith
+sent-numbered Live (extended to from c) = frame-numbered (extended to from c)
+sent-numbered Trace f = frame-numbered f
 
 pub workout-numbered : (limits : Limits) (w : Programmed) → Numbered (workoutDraft limits w)
 unfolding workoutDraft
 workout-numbered limits w = by-bool (withinLimits limits w) (λ y. simp y tt) (λ y. simp y (λ e. omega arith))
+
+pub workout-frame-numbered : (limits : Limits) (to : ℕ) (w : Programmed) → Numbered (workoutFrameDraft limits to w)
+unfolding workoutFrameDraft
+workout-frame-numbered limits to w =
+    by-bool (inRange to)
+    (λ y. simp y (through-numbered (λ (c : List ℕ). wireOf (extended to 0x00 c)) (workoutDraft limits w)
+    (workout-numbered limits w)))
+    (λ y. simp y (λ e. omega arith))
 
 lease-numbered : (held : ℕ) (c : LeaseCall) → Numbered (answerOf held c)
 unfolding answerOf
@@ -86,20 +102,22 @@ lent-numbered s c =
     by-bool (eqb (length s) 2048) (λ y. simp y (lease-numbered (getD (tableOf s) (addressOf c) 0) c))
     (λ y. simp y (λ e. omega arith))
 
-judged-numbered : (w : List ℕ) (v : Verdict) → Judged w v → Numbered v
-judged-numbered w v (truncated n) = λ e. omega arith
-judged-numbered w v (long t n) = λ e. omega arith
-judged-numbered w v (badEscape t l n) = λ e. omega arith
-judged-numbered w v (short t u l g x n) = λ e. omega arith
-judged-numbered w v (badSum t u l g x k n) = λ e. omega arith
-judged-numbered w v (sound f s) = tt
+judged-numbered : (o : Origin) (w : List ℕ) (v : Verdict) → Judged o w v → Numbered v
+judged-numbered o w v (truncated n) = λ e. omega arith
+judged-numbered o w v (long t n) = λ e. omega arith
+judged-numbered o w v (badEscape t l n) = λ e. omega arith
+judged-numbered o w v (short t u l g x n) = λ e. omega arith
+judged-numbered o w v (badSum t u l g x k n) = λ e. omega arith
+judged-numbered o w v (unnamed t u l g x k s n) = λ e. omega arith
+judged-numbered o w v (sound f s) = tt
 
-pub verdict-numbered : (w : List ℕ) → Numbered (verdict w)
-verdict-numbered w = judged-numbered w (verdict w) (verdict-by-table w (verdict w) .0 refl)
+pub verdict-numbered : (o : Origin) (w : List ℕ) → Numbered (admit o (verdict w))
+verdict-numbered o w =
+    judged-numbered o w (admit o (verdict w)) (verdict-by-table o w (admit o (verdict w)) .0 refl)
 
-pub read-numbered : (w : List ℕ) (room : ℕ) → Numbered (readAnswer (verdict w) room)
+pub read-numbered : (o : Origin) (w : List ℕ) (room : ℕ) → Numbered (readAnswer (admit o (verdict w)) room)
 unfolding readAnswer
-read-numbered w room = of-verdict (verdict w) (verdict-numbered w)
+read-numbered o w room = of-verdict (admit o (verdict w)) (verdict-numbered o w)
   where
     of-verdict : (v : Verdict) → Numbered v → Numbered (readAnswer v room)
     of-verdict (refused n) h = h
@@ -108,26 +126,35 @@ read-numbered w room = of-verdict (verdict w) (verdict-numbered w)
 
 -- ---- what the exported functions' answers tell
 
-pub frame-told : (n : ℕ) (f : Frame) (room : ℕ) → Tells n (writeFields (draftAnswer (frameDraft f) room))
-    → toldWritten n ≡ draftAnswer (frameDraft f) room
-frame-told n f room =
-    written-told n (draftAnswer (frameDraft f) room) (draft-numbered (frameDraft f) room (frame-numbered f))
+-- what is written of a draft
+draft-told : (n : ℕ) (d : Draft) (room : ℕ) → Numbered d → Tells n (writeFields (draftAnswer d room))
+    → toldWritten n ≡ draftAnswer d room
+draft-told n d room h = written-told n (draftAnswer d room) (draft-numbered d room h)
 
-pub length-told : (n : ℕ) (f : Frame) → Tells n (writeFields (through length (frameDraft f)))
-    → toldWritten n ≡ through length (frameDraft f)
-length-told n f =
-    written-told n (through length (frameDraft f)) (through-numbered length (frameDraft f) (frame-numbered f))
+module _ (o : Origin) where
+  pub frame-told : (n : ℕ) (f : Frame) (room : ℕ) → Tells n (writeFields (draftAnswer (sentDraft o f) room))
+      → toldWritten n ≡ draftAnswer (sentDraft o f) room
+  frame-told n f room = draft-told n (sentDraft o f) room (sent-numbered o f)
 
-pub slice-told : (n : ℕ) (w : List ℕ) (room : ℕ) → Tells n (readFields (readAnswer (verdict w) room))
-    → toldRead n ≡ readAnswer (verdict w) room
-slice-told n w room = read-told n (readAnswer (verdict w) room) (read-numbered w room)
+  pub length-told : (n : ℕ) (f : Frame) → Tells n (writeFields (through length (sentDraft o f)))
+      → toldWritten n ≡ through length (sentDraft o f)
+  length-told n f =
+      written-told n (through length (sentDraft o f)) (through-numbered length (sentDraft o f) (sent-numbered o f))
+
+  pub slice-told : (n : ℕ) (w : List ℕ) (room : ℕ) → Tells n (readFields (readAnswer (admit o (verdict w)) room))
+      → toldRead n ≡ readAnswer (admit o (verdict w)) room
+  slice-told n w room = read-told n (readAnswer (admit o (verdict w)) room) (read-numbered o w room)
 
 pub workout-told : (n : ℕ) (limits : Limits) (w : Programmed) (room : ℕ)
     → Tells n (writeFields (draftAnswer (workoutDraft limits w) room))
     → toldWritten n ≡ draftAnswer (workoutDraft limits w) room
-workout-told n limits w room =
-    written-told n (draftAnswer (workoutDraft limits w) room)
-    (draft-numbered (workoutDraft limits w) room (workout-numbered limits w))
+workout-told n limits w room = draft-told n (workoutDraft limits w) room (workout-numbered limits w)
+
+pub workout-frame-told : (n : ℕ) (limits : Limits) (to : ℕ) (w : Programmed) (room : ℕ)
+    → Tells n (writeFields (draftAnswer (workoutFrameDraft limits to w) room))
+    → toldWritten n ≡ draftAnswer (workoutFrameDraft limits to w) room
+workout-frame-told n limits to w room =
+    draft-told n (workoutFrameDraft limits to w) room (workout-frame-numbered limits to w)
 
 -- hold and release write nothing
 lease-told : (n : ℕ) (a : Answer (List ℕ)) → Numbered a → through (λ (w : List ℕ). []) a ≡ a → Tells n (leaseFields a)

@@ -1,6 +1,7 @@
 -- A line reader as the portal keeps it between calls.
 use mathlib.Core.List.{List}
 use Prim.Native.Nat.{ℕ}
+use Rattle.frame.specs.declared.Origin.{Origin}
 use Rattle.line.specs.Outcome.{zeros}
 use Rattle.line.specs.declared.LineReader.{LineReader}
 use Rattle.exports.specs.LineState.{readerIn}
@@ -17,6 +18,6 @@ lentLine bytes state = record { bytes = bytes; state = state }
 abbrev pub newLine : LentLine
 newLine = lentLine zeros 0
 
--- The reader that it is.
-abbrev pub readerOf : LentLine → LineReader
-readerOf l = readerIn (l .bytes) (l .state)
+-- The reader of an origin that it is.
+abbrev pub readerOf : Origin → LentLine → LineReader
+readerOf o l = readerIn o (l .bytes) (l .state)

@@ -2,6 +2,7 @@
 use Prim.Native.Nat.{ℕ}
 use mathlib.Core.List.{List}
 use mathlib.Core.Path.{_≡_}
+use Rattle.frame.specs.declared.Origin.{Origin}
 use Rattle.line.specs.Outcome.{Summary, silent, tells, summaryOf}
 use Rattle.line.specs.Feed.{ChunkTurn, chunkOf}
 use Rattle.line.specs.Reader.{ReaderTurn, finishOf}
@@ -15,12 +16,12 @@ abbrev pub lineFields : Summary → Fields
 lineFields silent = resultFields 2 0 0 0
 lineFields (tells a) = readFields a
 
--- A chunk fed to the reader that an array and a number are.
-abbrev pub fedTo : List ℕ → ℕ → List ℕ → ChunkTurn
-fedTo bytes state input = chunkOf (readerIn bytes state) input
+-- A chunk of an origin fed to the reader that an array and a number are.
+abbrev pub fedTo : Origin → List ℕ → ℕ → List ℕ → ChunkTurn
+fedTo o bytes state input = chunkOf (readerIn o bytes state) input
 
-abbrev pub finished : List ℕ → ℕ → ReaderTurn
-finished bytes state = finishOf (readerIn bytes state)
+abbrev pub finished : Origin → List ℕ → ℕ → ReaderTurn
+finished o bytes state = finishOf (readerIn o bytes state)
 
 -- A number that is answered, with what stands in the array, the state and the count afterwards.
 pub record FedAs (answer : ℕ) (bytes : List ℕ) (state taken : ℕ) (f : ChunkTurn) : Type 0 where

@@ -1,8 +1,9 @@
--- The number that holds the state of a line reader.
+-- The number that holds the state of a line reader, but for its origin, which each exported function has by its name.
 use Prim.Native.Nat.{ℕ, _+_, _*_, _/_, _%_}
 use mathlib.Core.List.{List}
 use lib.Dec.{eqb}
 use Rattle.lists.specs.Choice.{pick}
+use Rattle.frame.specs.declared.Origin.{Origin}
 use Rattle.line.specs.Reader.{lentReader}
 use Rattle.line.specs.declared.LineReader.{LineReader}
 use Rattle.line.specs.declared.State.{State}
@@ -22,10 +23,10 @@ modeOf n = pick (eqb n 0) Outside (pick (eqb n 1) InStandard (pick (eqb n 2) InE
 abbrev pub packedState : State → ℕ
 packedState s = digitOf (s .mode) + 4 * s .len
 
--- The state that a number is. Every number is one.
-abbrev pub stateIn : ℕ → State
-stateIn n = record { len = n / 4; mode = modeOf (n % 4) }
+-- The state of an origin that a number is. Every number is one.
+abbrev pub stateIn : Origin → ℕ → State
+stateIn o n = record { len = n / 4; mode = modeOf (n % 4); origin = o }
 
--- The reader that an array and a number are.
-abbrev pub readerIn : List ℕ → ℕ → LineReader
-readerIn bytes n = lentReader bytes (stateIn n)
+-- The reader of an origin that an array and a number are.
+abbrev pub readerIn : Origin → List ℕ → ℕ → LineReader
+readerIn o bytes n = lentReader bytes (stateIn o n)

@@ -1,8 +1,10 @@
 // The portal's functions: frames, the line reader, workouts and leases, called with numbers and byte slices.
-// Document 01, "What the box does".
+// Document 01, "What the box does"; document 02, No. 9. The frame calls are live but for those whose name says that they
+// are of traces.
 mod line_state;
 mod packed;
 
+use frame::Origin;
 use workout::Goal;
 use workout::Hundredths;
 use workout::Metres;
@@ -16,10 +18,12 @@ ghost use Rattle.answer.specs.Answer.{through};
 ghost use Rattle.answer.specs.Draft.{draftAnswer, draftOut};
 ghost use Rattle.frame.specs.Frame.{standard, extended};
 ghost use Rattle.frame.specs.Verdict.{verdict};
-ghost use Rattle.frame.specs.Answers.{frameDraft, readAnswer, readOut};
+ghost use Rattle.frame.specs.Origin.{admit};
+ghost use Rattle.frame.specs.Answers.{frameDraft, sentDraft, readAnswer, readOut};
+ghost use Rattle.frame.specs.declared.Origin.the-variants.{Live, Trace};
 ghost use Rattle.workout.specs.Limits.{pm3Limits};
-ghost use Rattle.workout.specs.Workout.{distance, time};
-ghost use Rattle.workout.specs.Answers.{workoutDraft};
+ghost use Rattle.workout.specs.Workout.{Programmed, programmed};
+ghost use Rattle.workout.specs.Answers.{workoutDraft, workoutFrameDraft};
 ghost use Rattle.lease.specs.Lease.{hold, release, stop, lentAnswer, lentAfter};
 ghost use Rattle.lease.specs.Answers.{writtenLength, outAfter};
 ghost use Rattle.lease.specs.Contracts.{Real};
@@ -27,15 +31,15 @@ ghost use Rattle.exports.specs.Packed.{Tells};
 ghost use Rattle.exports.specs.Answers.{writeFields, readFields, leaseFields};
 ghost use Rattle.exports.specs.LineAnswers.{fedTo, finished, FedAs, FinishedAs};
 
-// Writes a standard frame. Refusals 2 and 1.
+// Refuses a standard frame with 17, so that a caller that still writes one is told why.
 #[no_mangle]
 pub extern "C" fn csafe_write_standard(contents: &[u8], out: &mut [u8]) -> u64
     ensures { λ r. ⌜ Tells r
-        (writeFields (draftAnswer (frameDraft (standard (now (contents .entry)))) (length (now (out .entry))))) ⌝ }
-    ensures { λ r. ⌜ now (out .exit) ≡ draftOut (frameDraft (standard (now (contents .entry)))) (now (out .entry)) ⌝ }
+        (writeFields (draftAnswer (sentDraft Live (standard (now (contents .entry)))) (length (now (out .entry))))) ⌝ }
+    ensures { λ r. ⌜ now (out .exit) ≡ draftOut (sentDraft Live (standard (now (contents .entry))))
+        (now (out .entry)) ⌝ }
 {
-    let written = frame::write_standard(contents, out);
-    packed::of_written(written)
+    write_standard(Origin::Live, contents, out)
 }
 
 // Writes an extended frame. Refusals 2 and 1.
@@ -51,13 +55,12 @@ pub extern "C" fn csafe_write_extended(to: u8, from: u8, contents: &[u8], out: &
     packed::of_written(written)
 }
 
-// How many bytes a standard frame takes on the wire, which is the room that writing it needs. Refusal 2.
+// Refuses a standard frame with 17, as `csafe_write_standard` does.
 #[no_mangle]
 pub extern "C" fn csafe_standard_length(contents: &[u8]) -> u64
-    ensures { λ r. ⌜ Tells r (writeFields (through length (frameDraft (standard (now (contents .entry)))))) ⌝ }
+    ensures { λ r. ⌜ Tells r (writeFields (through length (sentDraft Live (standard (now (contents .entry)))))) ⌝ }
 {
-    let length = frame::standard_length(contents);
-    packed::of_length(length)
+    standard_length(Origin::Live, contents)
 }
 
 // How many bytes an extended frame takes on the wire, which is the room that writing it needs. Refusal 2.
@@ -69,19 +72,19 @@ pub extern "C" fn csafe_extended_length(to: u8, from: u8, contents: &[u8]) -> u6
     packed::of_length(length)
 }
 
-// Reads one frame. Refusals 6, 2, 3, 4, 5 and 1.
+// Reads one frame. Refusals 6, 2, 3, 4, 5, 17 and 1.
 #[no_mangle]
 pub extern "C" fn csafe_read(wire: &[u8], out: &mut [u8]) -> u64
-    ensures { λ r. ⌜ Tells r (readFields (readAnswer (verdict (now (wire .entry))) (length (now (out .entry))))) ⌝ }
-    ensures { λ r. ⌜ now (out .exit) ≡ readOut (verdict (now (wire .entry))) (now (out .entry)) ⌝ }
+    ensures { λ r. ⌜ Tells r
+        (readFields (readAnswer (admit Live (verdict (now (wire .entry)))) (length (now (out .entry))))) ⌝ }
+    ensures { λ r. ⌜ now (out .exit) ≡ readOut (admit Live (verdict (now (wire .entry)))) (now (out .entry)) ⌝ }
 {
-    let read = frame::read_frame(wire, out);
-    packed::of_read(read)
+    read(Origin::Live, wire, out)
 }
 
 // Feeds a chunk to a line reader up to the first byte that is answered, and counts the bytes taken. With no answer all
 // are taken. A chunk of more than 65,536 bytes is cut to its first 65,536. The reader is its array and the number that
-// holds its state, 0 for a new one.
+// holds its state, 0 for a new one. A standard frame is told as refusal 17.
 #[no_mangle]
 pub extern "C" fn csafe_feed(
     bytes: &mut [u8; 118],
@@ -90,29 +93,67 @@ pub extern "C" fn csafe_feed(
     taken: &mut u64,
 ) -> u64
     ensures { λ r. ⌜ FedAs r (now (bytes .exit)) (now (state .exit)) (now (taken .exit))
-        (fedTo (now (bytes .entry)) (now (state .entry)) (now (input .entry))) ⌝ }
+        (fedTo Live (now (bytes .entry)) (now (state .entry)) (now (input .entry))) ⌝ }
 {
-    let before = line_state::state_in(*state);
-    let fed = line::feed_in(bytes, before, input);
-    let after = fed.state;
-    *state = line_state::pack_state(after);
-    *taken = fed.taken as u64;
-    let told = fed.told;
-    packed::of_told(told)
+    feed(Origin::Live, bytes, state, input, taken)
 }
 
-// Ends the input of the line reader whose state the number holds; its array stays as it is. Refusal 6 where a candidate
-// is open.
+// Ends the input of the line reader whose state the number holds, of either origin; its array stays as it is. Refusal 6
+// where a candidate is open.
 #[no_mangle]
 pub extern "C" fn csafe_finish(state: &mut u64) -> u64
-    ensures { λ r. ⌜ ((bytes : List ℕ) → FinishedAs r (now (state .exit)) (finished bytes (now (state .entry)))) ⌝ }
+    ensures { λ r. ⌜ ((o : Origin) (bytes : List ℕ)
+        → FinishedAs r (now (state .exit)) (finished o bytes (now (state .entry)))) ⌝ }
 {
-    let before = line_state::state_in(*state);
+    let before = line_state::state_in(Origin::Live, *state);
     let ended = line::finish_in(before);
     let after = ended.state;
     *state = line_state::pack_state(after);
     let told = ended.told;
     packed::of_told(told)
+}
+
+// Writes a standard frame that stands in a trace. Refusals 2 and 1.
+#[no_mangle]
+pub extern "C" fn csafe_trace_write_standard(contents: &[u8], out: &mut [u8]) -> u64
+    ensures { λ r. ⌜ Tells r
+        (writeFields (draftAnswer (sentDraft Trace (standard (now (contents .entry)))) (length (now (out .entry))))) ⌝ }
+    ensures { λ r. ⌜ now (out .exit) ≡ draftOut (sentDraft Trace (standard (now (contents .entry))))
+        (now (out .entry)) ⌝ }
+{
+    write_standard(Origin::Trace, contents, out)
+}
+
+// How many bytes a standard frame takes that stands in a trace. Refusal 2.
+#[no_mangle]
+pub extern "C" fn csafe_trace_standard_length(contents: &[u8]) -> u64
+    ensures { λ r. ⌜ Tells r (writeFields (through length (sentDraft Trace (standard (now (contents .entry)))))) ⌝ }
+{
+    standard_length(Origin::Trace, contents)
+}
+
+// Reads one frame of a trace. Refusals 6, 2, 3, 4, 5 and 1.
+#[no_mangle]
+pub extern "C" fn csafe_trace_read(wire: &[u8], out: &mut [u8]) -> u64
+    ensures { λ r. ⌜ Tells r
+        (readFields (readAnswer (admit Trace (verdict (now (wire .entry)))) (length (now (out .entry))))) ⌝ }
+    ensures { λ r. ⌜ now (out .exit) ≡ readOut (admit Trace (verdict (now (wire .entry)))) (now (out .entry)) ⌝ }
+{
+    read(Origin::Trace, wire, out)
+}
+
+// Feeds a chunk of a trace to a line reader, as `csafe_feed` does one of the live line. `csafe_finish` ends its input.
+#[no_mangle]
+pub extern "C" fn csafe_trace_feed(
+    bytes: &mut [u8; 118],
+    state: &mut u64,
+    input: &[u8],
+    taken: &mut u64,
+) -> u64
+    ensures { λ r. ⌜ FedAs r (now (bytes .exit)) (now (state .exit)) (now (taken .exit))
+        (fedTo Trace (now (bytes .entry)) (now (state .entry)) (now (input .entry))) ⌝ }
+{
+    feed(Origin::Trace, bytes, state, input, taken)
 }
 
 // Writes the contents of a workout over a distance. Refusals 12 and 1.
@@ -124,9 +165,9 @@ pub extern "C" fn csafe_write_distance_workout(
     out: &mut [u8],
 ) -> u64
     ensures { λ r. ⌜ Tells r
-        (writeFields (draftAnswer (workoutDraft pm3Limits (distance metres split watts))
+        (writeFields (draftAnswer (workoutDraft pm3Limits (Programmed.distance metres split watts))
         (length (now (out .entry))))) ⌝ }
-    ensures { λ r. ⌜ now (out .exit) ≡ draftOut (workoutDraft pm3Limits (distance metres split watts))
+    ensures { λ r. ⌜ now (out .exit) ≡ draftOut (workoutDraft pm3Limits (Programmed.distance metres split watts))
         (now (out .entry)) ⌝ }
     ensures { λ r. ⌜ watts < 2 ^ 16 ⌝ }
 {
@@ -134,8 +175,7 @@ pub extern "C" fn csafe_write_distance_workout(
         goal: Metres(metres),
         split: Metres(split),
     };
-    let written = workout::write_workout(Workout { goal, watts }, out);
-    packed::of_written(written)
+    write_workout(Workout { goal, watts }, out)
 }
 
 // Writes the contents of a workout over a time. Refusals 12 and 1.
@@ -147,8 +187,8 @@ pub extern "C" fn csafe_write_time_workout(
     out: &mut [u8],
 ) -> u64
     ensures { λ r. ⌜ Tells r
-        (writeFields (draftAnswer (workoutDraft pm3Limits (time seconds split watts)) (length (now (out .entry))))) ⌝ }
-    ensures { λ r. ⌜ now (out .exit) ≡ draftOut (workoutDraft pm3Limits (time seconds split watts))
+        (writeFields (draftAnswer (workoutDraft pm3Limits (Programmed.time seconds split watts)) (length (now (out .entry))))) ⌝ }
+    ensures { λ r. ⌜ now (out .exit) ≡ draftOut (workoutDraft pm3Limits (Programmed.time seconds split watts))
         (now (out .entry)) ⌝ }
     ensures { λ r. ⌜ watts < 2 ^ 16 ⌝ }
 {
@@ -156,8 +196,53 @@ pub extern "C" fn csafe_write_time_workout(
         goal: Seconds(seconds),
         split: Hundredths(split),
     };
-    let written = workout::write_workout(Workout { goal, watts }, out);
-    packed::of_written(written)
+    write_workout(Workout { goal, watts }, out)
+}
+
+// Writes the extended frame from 00 to an address that has a workout over a distance. Refusals 9, 12 and 1.
+#[no_mangle]
+pub extern "C" fn csafe_write_distance_workout_frame(
+    address: u32,
+    metres: u32,
+    split: u32,
+    watts: u16,
+    out: &mut [u8],
+) -> u64
+    ensures { λ r. ⌜ Tells r
+        (writeFields (draftAnswer (workoutFrameDraft pm3Limits address (Programmed.distance metres split watts))
+        (length (now (out .entry))))) ⌝ }
+    ensures { λ r. ⌜ now (out .exit)
+        ≡ draftOut (workoutFrameDraft pm3Limits address (Programmed.distance metres split watts)) (now (out .entry)) ⌝ }
+    ensures { λ r. ⌜ watts < 2 ^ 16 ⌝ }
+{
+    let goal = Goal::Distance {
+        goal: Metres(metres),
+        split: Metres(split),
+    };
+    write_workout_frame(address, Workout { goal, watts }, out)
+}
+
+// Writes the extended frame from 00 to an address that has a workout over a time. Refusals 9, 12 and 1.
+#[no_mangle]
+pub extern "C" fn csafe_write_time_workout_frame(
+    address: u32,
+    seconds: u32,
+    split: u32,
+    watts: u16,
+    out: &mut [u8],
+) -> u64
+    ensures { λ r. ⌜ Tells r
+        (writeFields (draftAnswer (workoutFrameDraft pm3Limits address (Programmed.time seconds split watts))
+        (length (now (out .entry))))) ⌝ }
+    ensures { λ r. ⌜ now (out .exit)
+        ≡ draftOut (workoutFrameDraft pm3Limits address (Programmed.time seconds split watts)) (now (out .entry)) ⌝ }
+    ensures { λ r. ⌜ watts < 2 ^ 16 ⌝ }
+{
+    let goal = Goal::Time {
+        goal: Seconds(seconds),
+        split: Hundredths(split),
+    };
+    write_workout_frame(address, Workout { goal, watts }, out)
 }
 
 // Takes a free address. Refusals 18, 9, 14 and 10.
@@ -193,5 +278,75 @@ pub extern "C" fn csafe_stop(table: &[u8], address: u32, token: u64, out: &mut [
     ensures { λ r. ⌜ Real (now (table .entry)) token ⌝ }
 {
     let written = lease::stop_lent(table, address, token, out);
+    packed::of_written(written)
+}
+
+// ---- frames, at an origin
+
+fn write_standard(origin: Origin, contents: &[u8], out: &mut [u8]) -> u64
+    ensures { λ r. ⌜ Tells r (writeFields
+        (draftAnswer (sentDraft origin (standard (now (contents .entry)))) (length (now (out .entry))))) ⌝ }
+    ensures { λ r. ⌜ now (out .exit) ≡ draftOut (sentDraft origin (standard (now (contents .entry))))
+        (now (out .entry)) ⌝ }
+{
+    let written = frame::write_standard(origin, contents, out);
+    packed::of_written(written)
+}
+
+fn standard_length(origin: Origin, contents: &[u8]) -> u64
+    ensures { λ r. ⌜ Tells r (writeFields (through length (sentDraft origin (standard (now (contents .entry)))))) ⌝ }
+{
+    let length = frame::standard_length(origin, contents);
+    packed::of_length(length)
+}
+
+fn read(origin: Origin, wire: &[u8], out: &mut [u8]) -> u64
+    ensures { λ r. ⌜ Tells r
+        (readFields (readAnswer (admit origin (verdict (now (wire .entry)))) (length (now (out .entry))))) ⌝ }
+    ensures { λ r. ⌜ now (out .exit) ≡ readOut (admit origin (verdict (now (wire .entry)))) (now (out .entry)) ⌝ }
+{
+    let read = frame::read_frame(origin, wire, out);
+    packed::of_read(read)
+}
+
+fn feed(
+    origin: Origin,
+    bytes: &mut [u8; 118],
+    state: &mut u64,
+    input: &[u8],
+    taken: &mut u64,
+) -> u64
+    ensures { λ r. ⌜ FedAs r (now (bytes .exit)) (now (state .exit)) (now (taken .exit))
+        (fedTo origin (now (bytes .entry)) (now (state .entry)) (now (input .entry))) ⌝ }
+{
+    let before = line_state::state_in(origin, *state);
+    let fed = line::feed_in(bytes, before, input);
+    let after = fed.state;
+    *state = line_state::pack_state(after);
+    *taken = fed.taken as u64;
+    let told = fed.told;
+    packed::of_told(told)
+}
+
+// ---- workouts with either goal
+
+fn write_workout(workout: Workout, out: &mut [u8]) -> u64
+    ensures { λ r. ⌜ Tells r (writeFields
+        (draftAnswer (workoutDraft pm3Limits (programmed workout)) (length (now (out .entry))))) ⌝ }
+    ensures { λ r. ⌜ now (out .exit) ≡ draftOut (workoutDraft pm3Limits (programmed workout)) (now (out .entry)) ⌝ }
+    ensures { λ r. ⌜ workout .watts < 2 ^ 16 ⌝ }
+{
+    let written = workout::write_workout(workout, out);
+    packed::of_written(written)
+}
+
+fn write_workout_frame(address: u32, workout: Workout, out: &mut [u8]) -> u64
+    ensures { λ r. ⌜ Tells r (writeFields
+        (draftAnswer (workoutFrameDraft pm3Limits address (programmed workout)) (length (now (out .entry))))) ⌝ }
+    ensures { λ r. ⌜ now (out .exit) ≡ draftOut (workoutFrameDraft pm3Limits address (programmed workout))
+        (now (out .entry)) ⌝ }
+    ensures { λ r. ⌜ workout .watts < 2 ^ 16 ⌝ }
+{
+    let written = workout::write_workout_frame(address, workout, out);
     packed::of_written(written)
 }

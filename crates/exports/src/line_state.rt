@@ -1,4 +1,6 @@
-// The number that holds the state of a line reader: the mode in the lowest two bits, the length above them.
+// The number that holds the state of a line reader: the mode in the lowest two bits, the length above them. The origin is
+// not in it, so that no number makes a live reader one of a trace.
+use frame::Origin;
 use line::Mode;
 use line::State;
 ghost use mathlib.Core.Path.{_≡_};
@@ -32,13 +34,14 @@ fn mode_in(number: u64) -> Mode
     Mode::Overlong
 }
 
-pub(crate) fn state_in(number: u64) -> State
-    ensures { λ r. ⌜ r ≡ stateIn number ⌝ }
+pub(crate) fn state_in(origin: Origin, number: u64) -> State
+    ensures { λ r. ⌜ r ≡ stateIn origin number ⌝ }
 {
     let mode = mode_in(number);
     State {
         len: (number / MODES) as usize,
         mode,
+        origin,
     }
 }
 

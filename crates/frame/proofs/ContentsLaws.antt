@@ -22,14 +22,17 @@ use Rattle.frame.specs.Checksum.{checksum}
 use Rattle.frame.specs.Frame.{Frame, contentsOf, standard, extended}
 use Rattle.frame.specs.Answers.{leftIn, judgeAnswer, frameRead, readAnswer, readOut}
 use Rattle.frame.specs.Private.{frameOf, readAs, unstuffedBytes, isSound, isEscape, lastAt, SoundAt, judgeWhole}
+use Rattle.frame.specs.Origin.{admit}
+use Rattle.frame.specs.declared.Origin.{Origin}
 use Rattle.frame.specs.declared.Kind.{Kind}
 use Rattle.frame.specs.declared.Header.{Header}
 use Rattle.frame.proofs.UndoLaws.{before-last}
+use Rattle.frame.proofs.OriginLaws.{admit-means}
 use Rattle.frame.proofs.VerdictLaws.{contents-of, candidate-verdict, answer-no-room, answer-done, header-as}
 
 -- ---- the stuffed contents and checksum of a sound body
 
-module _ {kind : Kind} {body : List ℕ} {header : Header} {start len : ℕ} (s : SoundAt kind body header start len) where
+module _ {v : Verdict} {body : List ℕ} {header : Header} {start len : ℕ} (s : SoundAt v body header start len) where
   pub rest-length : length (unstuffedBytes (unstuff false (drop start body))) ≡ len + 1
   unfolding unstuffedBytes
   rest-length =
@@ -202,10 +205,10 @@ judge-shrinks kind body f e =
         let z : _≡_ {A = ℕ} 0 1 = cc in absurd (omega arith))
 
 -- bytes that were judged in place are as many as they were
-pub left-length : (kind : Kind) (n : ℕ) (s : List ℕ)
-    → length (leftIn (verdict (candidateOf kind (take n s))) s) ≡ length s
+pub left-length : (o : Origin) (kind : Kind) (n : ℕ) (s : List ℕ)
+    → length (leftIn (admit o (verdict (candidateOf kind (take n s)))) s) ≡ length s
 unfolding leftIn
-left-length kind n s = of-verdict (verdict (candidateOf kind (take n s))) refl
+left-length o kind n s = of-verdict (admit o (verdict (candidateOf kind (take n s)))) refl
   where
     accepted : (f : Frame) → judgeWhole kind (take n s) ≡ result f → judge kind (take n s) ≡ result f
     accepted f e =
@@ -213,10 +216,11 @@ left-length kind n s = of-verdict (verdict (candidateOf kind (take n s))) refl
         (λ y. let q : refused 6 ≡ result f = simp y at e in
         let z : _≡_ {A = ℕ} 0 1 = cc in absurd (omega arith))
 
-    of-verdict : (v : Verdict) → verdict (candidateOf kind (take n s)) ≡ v → length (leftIn v s) ≡ length s
+    of-verdict : (v : Verdict) → admit o (verdict (candidateOf kind (take n s))) ≡ v → length (leftIn v s) ≡ length s
     of-verdict (refused m) e = refl
     of-verdict (result f) e =
-        let j = judge-shrinks kind (take n s) f (accepted f (sym (candidate-verdict kind (take n s)) ∙ e)) in
+        let a = admit-means o (verdict (candidateOf kind (take n s))) f e .0 in
+        let j = judge-shrinks kind (take n s) f (accepted f (sym (candidate-verdict kind (take n s)) ∙ a)) in
         omega (
           arith,
           length-append (contentsOf f) (drop (length (contentsOf f)) s),

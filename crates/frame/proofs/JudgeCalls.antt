@@ -1,5 +1,5 @@
--- What `judge_array` answers, known by nothing but what its contract tells a caller: document 01's table, of the
--- candidate that the bytes and the two flags make.
+-- What `judge_array` answers, known by nothing but what its contract tells a caller: the papers' table, of the candidate
+-- that the bytes and the two flags make.
 use mathlib.Core.Path.{_≡_, refl, sym, ap₂, _∙_}
 use mathlib.Core.List.{List}
 use native.Mathlib.Omega.{arith}
@@ -12,8 +12,10 @@ use Rattle.lists.proofs.Cases.{exactly}
 use Rattle.answer.specs.Answer.{Answer, result, refused}
 use Rattle.frame.specs.Flags.{candidateOf}
 use Rattle.frame.specs.Verdict.{Verdict, verdict}
+use Rattle.frame.specs.Origin.{admit}
 use Rattle.frame.specs.Answers.{FrameOutline, readMeans, judgeAnswer, leftIn, frameRead}
 use Rattle.frame.specs.Conditions.{Judged}
+use Rattle.frame.specs.declared.Origin.{Origin}
 use Rattle.frame.specs.declared.Kind.{Kind}
 use Rattle.frame.specs.declared.Read.{Read}
 use Rattle.frame.proofs.Table.{verdict-by-table}
@@ -25,20 +27,21 @@ unfolding judgeAnswer leftIn
 left-as (refused m) s n e = refl
 left-as (result f) s n e = let z : _≡_ {A = ℕ} 0 1 = cc in absurd (omega arith)
 
-module _ (κs : Lfts 1) (kind : Kind) (ρ ρ′ : RefT (List ℕ)) (len : ℕ) (r : Read)
-    (k : judge-array-reads.Learnt κs (kind, (ρ, (len, tt))) r (kind, (ρ′, (len, tt)))) where
-  judged-is : frameRead (readMeans r) (ρ′ .now) ≡ verdict (candidateOf kind (take len (ρ .now)))
+module _ (κs : Lfts 1) (o : Origin) (kind : Kind) (ρ ρ′ : RefT (List ℕ)) (len : ℕ) (r : Read)
+    (k : judge-array-reads.Learnt κs (o, (kind, (ρ, (len, tt)))) r (o, (kind, (ρ′, (len, tt))))) where
+  abbrev judged : Verdict
+  judged = admit o (verdict (candidateOf kind (take len (ρ .now))))
+
+  judged-is : frameRead (readMeans r) (ρ′ .now) ≡ judged
   judged-is =
-      ap₂ (λ (a : Answer FrameOutline) (s : List ℕ). frameRead a s) (k .0) (k .1)
-      ∙ left-whole (verdict (candidateOf kind (take len (ρ .now)))) (ρ .now)
+      ap₂ (λ (a : Answer FrameOutline) (s : List ℕ). frameRead a s) (k .0) (k .1) ∙ left-whole judged (ρ .now)
 
   -- What the answer and the bytes that are left tell is the table's, and everything that the table gives is told so. A
   -- flag among the bytes is refused with 6.
   pub judged-by-table : (v : Verdict)
-      → Exactly (frameRead (readMeans r) (ρ′ .now) ≡ v) (Judged (candidateOf kind (take len (ρ .now))) v)
-  judged-by-table v = exactly judged-is (verdict-by-table (candidateOf kind (take len (ρ .now))) v)
+      → Exactly (frameRead (readMeans r) (ρ′ .now) ≡ v) (Judged o (candidateOf kind (take len (ρ .now))) v)
+  judged-by-table v = exactly judged-is (verdict-by-table o (candidateOf kind (take len (ρ .now))) v)
 
   -- A refusal changes no byte.
   pub judged-untouched : (n : ℕ) → readMeans r ≡ refused n → ρ′ .now ≡ ρ .now
-  judged-untouched n e =
-      k .1 ∙ left-as (verdict (candidateOf kind (take len (ρ .now)))) (ρ .now) n (sym (k .0) ∙ e)
+  judged-untouched n e = k .1 ∙ left-as judged (ρ .now) n (sym (k .0) ∙ e)

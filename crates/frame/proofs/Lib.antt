@@ -7,10 +7,12 @@ pub mod WireLaws
 pub mod MeasureLaws
 pub mod NumberLaws
 pub mod ScanLaws
+pub mod OriginLaws
 pub mod VerdictLaws
 pub mod ContentsLaws
 pub mod Table
 pub mod JudgeCalls
 pub mod RoundTrip
+pub mod Unnamed
 pub mod Calls
 pub mod LeadingLaws

@@ -1,13 +1,18 @@
--- Which verdict is given exactly when: document 01's table of refusals, and demand 2's "accepted exactly when".
+-- Which verdict is given exactly when, at an origin: the papers' table of refusals, and demand 2's "accepted exactly
+-- when".
 use Rattle.frame.specs.Frame.{Frame, standard, extended, contentsOf, frameKind, addressesOf, payload, wireOf}
-use Rattle.frame.specs.Answers.{frameDraft, readAnswer, readOut, Reads, FrameOutline}
-use Rattle.frame.specs.Conditions.{ReadJudged, refusedBy, noRoom, fits, Terminated, WithinLimit, EscapesSound}
-use Rattle.frame.specs.Conditions.{Unstuffs, none, plain, escape, fewest, ChecksumRight, Sound, SoundFrame}
-use Rattle.frame.specs.Conditions.{Judged, truncated, long, badEscape as badEscapes, short, badSum, sound}
-use Rattle.frame.specs.Conditions.{WriteJudged, overLimit, noRoomToWrite, written, LengthJudged, tooLong, takes}
+use Rattle.frame.specs.Answers.{frameDraft, sentDraft, readAnswer, readOut, Reads, FrameOutline}
+use Rattle.frame.specs.Conditions.{ReadJudged, refusedBy, noRoom, fits, Terminated, WithinLimit, EscapesSound, LongEnough}
+use Rattle.frame.specs.Conditions.{Unstuffs, none, plain, escape, fewest, ChecksumRight, SenderNamed, Sound}
+use Rattle.frame.specs.Conditions.{SoundFrame, Sent}
+use Rattle.frame.specs.Conditions.{Judged, truncated, long, badEscape as badEscapes, short, badSum, unnamed}
+use Rattle.frame.specs.Conditions.{sound}
+use Rattle.frame.specs.Conditions.{WriteJudged, notSent, overLimit, noRoomToWrite, written}
+use Rattle.frame.specs.Conditions.{LengthJudged, notMeasured, tooLong, takes}
 use Prim.Native.Nat.{ℕ, zero, suc, _+_, _≤_}
 use mathlib.Core.Path.{_≡_, refl, sym, ap, _∙_, subst}
 use mathlib.Core.Bool.{Bool, true, false, true≢false}
+use mathlib.Core.Logic.{_⊎_, inl, inr}
 use mathlib.Core.List.{List, [], _∷_, _++_}
 use native.Mathlib.Nat.{zero-add}
 use native.Mathlib.Omega.{arith}
@@ -17,7 +22,7 @@ use borrow.Author.Tests.{leb-true, leb-false, eqb-true, eqb-false, le-leb, ne-eq
 use Rattle.lists.specs.Choice.{pick, Exactly}
 use Rattle.lists.proofs.Cases.{by-bool, both-exactly}
 use Rattle.lists.proofs.Lists.{drop-two}
-use Rattle.answer.specs.Draft.{draftAnswer, draftOut, Writes}
+use Rattle.answer.specs.Draft.{draftOut, Writes}
 use Rattle.answer.proofs.Drafts.{writes-refusal, writes-no-room, writes-done}
 use Rattle.frame.specs.Flags.{kindOf}
 use Rattle.frame.specs.Stuffing.{Unstuffed, badEscape, bytes, prepend, unstuff}
@@ -25,10 +30,15 @@ use Rattle.frame.specs.Checksum.{checksum}
 use Rattle.frame.specs.Verdict.{Verdict, addressCount, contentsIn, lastOf, judgeBytes, judge, bodyOf}
 use Rattle.frame.specs.Verdict.{isTerminated, verdict}
 use Rattle.answer.specs.Answer.{result, refused, Answer, through}
+use Rattle.frame.specs.Origin.{admit}
+use Rattle.frame.specs.declared.Origin.{Origin}
+use Rattle.frame.specs.declared.Origin.the-variants.{Live}
 use Rattle.frame.specs.declared.Kind.{Kind}
 use Rattle.frame.specs.declared.Kind.the-variants.{Standard, Extended}
 use Rattle.frame.proofs.StuffingLaws.{prepend-inv}
 use Rattle.frame.proofs.WireLaws.{draft-long, draft-fits}
+use Rattle.frame.proofs.OriginLaws.{sender, sender-missing, admit-refused, admit-result, admit-unnamed}
+use Rattle.frame.proofs.OriginLaws.{sent-frame, sent-unnamed}
 use Rattle.frame.proofs.VerdictLaws.{whole-length, whole-terminated, whole-verdict, terminated-means}
 use Rattle.frame.proofs.VerdictLaws.{terminated-whole, verdict-truncated, judge-long, judge-escape, judge-short}
 use Rattle.frame.proofs.VerdictLaws.{judge-sum, judge-bytes, judge-payload, answer-refused, answer-no-room}
@@ -146,45 +156,61 @@ module _ (w : List ℕ) (t : Terminated w) where
 
 -- ---- the table
 
+-- the verdict on a terminated candidate that passes every rule on its bytes
+passes : (w : List ℕ) (t : Terminated w) (u : List ℕ) (f : Frame) → WithinLimit w → Unstuffs (t .body) u
+    → t .kind ≡ frameKind f → u ≡ payload f → verdict w ≡ result f
+passes w t u f l x k b =
+    of-body w t
+    ∙ judge-bytes (t .kind) (t .body) (omega (arith, long-as w t, l))
+    ∙ ap (judgeBytes (t .kind)) (unstuffs-bytes x ∙ ap bytes b)
+    ∙ ap (λ (k : Kind). judgeBytes k (bytes (payload f))) k
+    ∙ judge-payload f
+
 -- what the table says is the verdict
-table-verdict : (w : List ℕ) (v : Verdict) → Judged w v → verdict w ≡ v
-table-verdict w v (truncated n) =
-    by-bool (isTerminated w) (λ y. absurd (n (terminated-of w y))) (λ y. verdict-truncated w y)
-table-verdict w v (long t n) =
-    of-body w t ∙ by-bool (leb (length w) 120) (λ y. absurd (n (leb-true _ _ y)))
-    (λ y. judge-long (t .kind) (t .body) (omega (arith, long-as w t, leb-false (length w) 120 y)))
-table-verdict w v (badEscapes t l n) =
-    of-body w t ∙ judge-escape (t .kind) (t .body) (omega (arith, long-as w t)) (bad (unstuff false (t .body)) refl)
+table-verdict : (o : Origin) (w : List ℕ) (v : Verdict) → Judged o w v → admit o (verdict w) ≡ v
+table-verdict o w v (truncated n) =
+    admit-refused o (verdict w) 6
+    (by-bool (isTerminated w) (λ y. absurd (n (terminated-of w y))) (λ y. verdict-truncated w y))
+table-verdict o w v (long t n) =
+    admit-refused o (verdict w) 2
+    (of-body w t ∙ by-bool (leb (length w) 120) (λ y. absurd (n (leb-true _ _ y)))
+    (λ y. judge-long (t .kind) (t .body) (omega (arith, long-as w t, leb-false (length w) 120 y))))
+table-verdict o w v (badEscapes t l n) =
+    admit-refused o (verdict w) 3
+    (of-body w t ∙ judge-escape (t .kind) (t .body) (omega (arith, long-as w t)) (bad (unstuff false (t .body)) refl))
   where
     bad : (r : Unstuffed) → unstuff false (t .body) ≡ r → unstuff false (t .body) ≡ badEscape
     bad badEscape e = e
     bad (bytes u) e = absurd (n (unstuffs-sound (bytes-unstuffs false (t .body) u e)))
-table-verdict w v (short t u l e x n) =
-    of-body w t
+table-verdict o w v (short t u l e x n) =
+    admit-refused o (verdict w) 4
+    (of-body w t
     ∙ judge-short (t .kind) (t .body) (omega (arith, long-as w t)) u (unstuffs-bytes x)
     (by-bool (leb (fewest (t .kind)) (length u)) (λ y. absurd (n (leb-true _ _ y)))
-    (λ y. omega (arith, leb-false (fewest (t .kind)) (length u) y, fewest-is (t .kind))))
-table-verdict w v (badSum t u l e x k n) =
+    (λ y. omega (arith, leb-false (fewest (t .kind)) (length u) y, fewest-is (t .kind)))))
+table-verdict o w v (badSum t u l e x k n) =
     let h : addressCount (t .kind) + 1 ≤ length u = omega (arith, k, fewest-is (t .kind)) in
-    of-body w t ∙ judge-sum (t .kind) (t .body) (omega (arith, long-as w t)) u (unstuffs-bytes x) h
-    (λ q. n (sum-parts (t .kind) u h q))
-table-verdict w v (sound f s) =
-    let t = s .slice .candidate in
-    of-body w t
-    ∙ judge-bytes (t .kind) (t .body) (omega (arith, long-as w t, s .slice .limit))
-    ∙ ap (judgeBytes (t .kind)) (unstuffs-bytes (s .slice .unstuffs) ∙ ap bytes (s .bytes-are))
-    ∙ ap (λ (k : Kind). judgeBytes k (bytes (payload f))) (s .kind-is)
-    ∙ judge-payload f
+    admit-refused o (verdict w) 5
+    (of-body w t ∙ judge-sum (t .kind) (t .body) (omega (arith, long-as w t)) u (unstuffs-bytes x) h
+    (λ q. n (sum-parts (t .kind) u h q)))
+table-verdict o w v (unnamed t u l e x k r n) =
+    let p = parts-frame (t .kind) u r in
+    admit-unnamed o (verdict w) (p .0) (passes w t u (p .0) l x (p .1) (p .2))
+    (λ m. n (subst (λ (k : Kind). SenderNamed o k) (sym (p .1)) m))
+table-verdict o w v (sound f s) =
+    let c = s .slice in
+    admit-result o (verdict w) f (passes w (c .candidate) (c .unstuffed) f (c .limit) (c .unstuffs) (s .kind-is) (s .bytes-are))
+    (subst (λ (k : Kind). SenderNamed o k) (s .kind-is) (c .sender))
 
 -- the frame of a sound slice
-sound-frame : (w : List ℕ) → Sound w → (f : Frame) × SoundFrame w f
-sound-frame w s =
+sound-frame : (o : Origin) (w : List ℕ) → Sound o w → (f : Frame) × SoundFrame o w f
+sound-frame o w s =
     let p = parts-frame (s .candidate .kind) (s .unstuffed) (s .sum) in
     (p .0, record { slice = s; kind-is = p .1; bytes-are = p .2 })
 
 -- every slice has a line of the table
-some-line : (w : List ℕ) → (v : Verdict) × Judged w v
-some-line w =
+some-line : (o : Origin) (w : List ℕ) → (v : Verdict) × Judged o w v
+some-line o w =
     by-bool (isTerminated w)
     (λ y. let t = terminated-of w y in
     by-bool (leb (length w) 120)
@@ -192,8 +218,27 @@ some-line w =
     (λ l. (refused 2, long t (λ k. absurd (omega (arith, k, leb-false (length w) 120 l))))))
     (λ y. (refused 6, truncated (λ t. true≢false (sym (is-terminated w t) ∙ y))))
   where
+    -- the last two lines, where all rules on the bytes hold
+    named : (t : Terminated w) (u : List ℕ) → WithinLimit w → EscapesSound (t .body) → Unstuffs (t .body) u
+        → LongEnough (t .kind) u → ChecksumRight (t .kind) u
+        → SenderNamed o (t .kind) ⊎ ((o ≡ Live) × (t .kind ≡ Standard)) → (v : Verdict) × Judged o w v
+    named t u l g x k r (inl m) =
+        let s = sound-frame o w
+        (record {
+          candidate = t;
+          limit = l;
+          escapes = g;
+          unstuffed = u;
+          unstuffs = x;
+          enough = k;
+          sum = r;
+          sender = m;
+        }) in
+        (result (s .0), sound (s .0) (s .1))
+    named t u l g x k r (inr m) = (refused 17, unnamed t u l g x k r (sender-missing o (t .kind) .1 m))
+
     line : (t : Terminated w) → WithinLimit w → (r : Unstuffed) → unstuff false (t .body) ≡ r
-        → (v : Verdict) × Judged w v
+        → (v : Verdict) × Judged o w v
     line t l badEscape e = (
       refused 3,
       badEscapes t l (λ x. let q : badEscape ≡ bytes (sound-unstuffs (t .body) x .0) = sym e
@@ -204,91 +249,87 @@ some-line w =
         let x : Unstuffs (t .body) u = bytes-unstuffs false (t .body) u e in
         let g : EscapesSound (t .body) = unstuffs-sound x in
         by-bool (leb (fewest (t .kind)) (length u))
-        (λ k. let all : (ChecksumRight (t .kind) u → Sound w) =
-        (λ r. record {
-          candidate = t;
-          limit = l;
-          escapes = g;
-          unstuffed = u;
-          unstuffs = x;
-          enough = leb-true _ _ k;
-          sum = r;
-        }) in
-        let h : addressCount (t .kind) + 1 ≤ length u =
+        (λ k. let h : addressCount (t .kind) + 1 ≤ length u =
         omega (arith, leb-true (fewest (t .kind)) (length u) k, fewest-is (t .kind)) in
         by-bool (eqb (lastOf u) (checksum (contentsIn (addressCount (t .kind)) u)))
-        (λ q. let s = sound-frame w (all (sum-parts (t .kind) u h (eqb-true _ _ q))) in
-        (result (s .0), sound (s .0) (s .1)))
+        (λ q. named t u l g x (leb-true _ _ k) (sum-parts (t .kind) u h (eqb-true _ _ q)) (sender o (t .kind)))
         (λ q. (
           refused 5,
-          badSum t u l g x (leb-true _ _ k) (λ r. let s = sound-frame w (all r) in
-              let e : refused 5 ≡ result (s .0) =
+          badSum t u l g x (leb-true _ _ k) (λ r. let p = parts-frame (t .kind) u r in
+              let e : refused 5 ≡ result (p .0) =
               sym (of-body w t
               ∙ judge-sum (t .kind) (t .body) (omega (arith, long-as w t)) u (unstuffs-bytes x) h (eqb-false _ _ q))
-              ∙ table-verdict w (result (s .0)) (sound (s .0) (s .1)) in
+              ∙ passes w t u (p .0) l x (p .1) (p .2) in
               let z : _≡_ {A = ℕ} 0 1 = cc in omega arith),
         )))
         (λ k. (refused 4, short t u l g x (λ m. absurd (omega (arith, m, leb-false (fewest (t .kind)) (length u) k)))))
 
--- Every verdict is given exactly when the table gives it: a refusal where the rule that it names fails and all before
--- it hold.
-pub verdict-by-table : (w : List ℕ) (v : Verdict) → Exactly (verdict w ≡ v) (Judged w v)
-verdict-by-table w v = (
-  (λ e. let l = some-line w in subst (λ (x : Verdict). Judged w x) (sym (table-verdict w (l .0) (l .1)) ∙ e) (l .1)),
-  table-verdict w v,
+-- Every verdict is given at an origin exactly when the table gives it: a refusal where the rule that it names fails and
+-- all before it hold.
+pub verdict-by-table : (o : Origin) (w : List ℕ) (v : Verdict) → Exactly (admit o (verdict w) ≡ v) (Judged o w v)
+verdict-by-table o w v = (
+  (λ e. let l = some-line o w in
+      subst (λ (x : Verdict). Judged o w x) (sym (table-verdict o w (l .0) (l .1)) ∙ e) (l .1)),
+  table-verdict o w v,
 )
 
 -- Accepted exactly when every condition holds, and then as that frame.
-pub accepted-exactly : (w : List ℕ) (f : Frame) → Exactly (verdict w ≡ result f) (SoundFrame w f)
-accepted-exactly w f =
-    ((λ e. found (result f) (verdict-by-table w (result f) .0 e) f refl), (λ s. table-verdict w (result f) (sound f s)))
+pub accepted-exactly : (o : Origin) (w : List ℕ) (f : Frame)
+    → Exactly (admit o (verdict w) ≡ result f) (SoundFrame o w f)
+accepted-exactly o w f = (
+  (λ e. found (result f) (verdict-by-table o w (result f) .0 e) f refl),
+  (λ s. table-verdict o w (result f) (sound f s)),
+)
   where
-    found : (v : Verdict) → Judged w v → (f : Frame) → v ≡ result f → SoundFrame w f
+    found : (v : Verdict) → Judged o w v → (f : Frame) → v ≡ result f → SoundFrame o w f
     found v (truncated n) f e = let z : _≡_ {A = ℕ} 0 1 = cc in absurd (omega arith)
     found v (long t n) f e = let z : _≡_ {A = ℕ} 0 1 = cc in absurd (omega arith)
     found v (badEscapes t l n) f e = let z : _≡_ {A = ℕ} 0 1 = cc in absurd (omega arith)
     found v (short t u l g x n) f e = let z : _≡_ {A = ℕ} 0 1 = cc in absurd (omega arith)
     found v (badSum t u l g x k n) f e = let z : _≡_ {A = ℕ} 0 1 = cc in absurd (omega arith)
-    found v (sound h s) f e = let q : h ≡ f = cc in subst (λ (x : Frame). SoundFrame w x) q s
+    found v (unnamed t u l g x k r n) f e = let z : _≡_ {A = ℕ} 0 1 = cc in absurd (omega arith)
+    found v (sound h s) f e = let q : h ≡ f = cc in subst (λ (x : Frame). SoundFrame o w x) q s
 
--- Demand 2's "accepted exactly when": as some frame exactly when limit, escapes, length and checksum are right.
-pub accepted-when : (w : List ℕ) → Exactly ((f : Frame) × (verdict w ≡ result f)) (Sound w)
-accepted-when w = (
-  (λ p. accepted-exactly w (p .0) .0 (p .1) .slice),
-  (λ s. let p = sound-frame w s in (p .0, accepted-exactly w (p .0) .1 (p .1))),
+-- Demand 2's "accepted exactly when": as some frame exactly when limit, escapes, length and checksum are right, and live
+-- the sender is named.
+pub accepted-when : (o : Origin) (w : List ℕ) → Exactly ((f : Frame) × (admit o (verdict w) ≡ result f)) (Sound o w)
+accepted-when o w = (
+  (λ p. accepted-exactly o w (p .0) .0 (p .1) .slice),
+  (λ s. let p = sound-frame o w s in (p .0, accepted-exactly o w (p .0) .1 (p .1))),
 )
 
 -- ---- with an output
 
-module _ (w out : List ℕ) where
+module _ (o : Origin) (w out : List ℕ) where
   -- every answer, with the output that is left, has a line
-  read-line : (v : Verdict) → Judged w v → ReadJudged w out (readAnswer v (length out)) (readOut v out)
+  read-line : (v : Verdict) → Judged o w v → ReadJudged o w out (readAnswer v (length out)) (readOut v out)
   unfolding readAnswer readOut draftOut
   read-line (refused n) j = refusedBy j
   read-line (result f) j =
-      let s = accepted-exactly w f .0 (table-verdict w (result f) j) in
+      let s = accepted-exactly o w f .0 (table-verdict o w (result f) j) in
       by-bool (leb (length (contentsOf f)) (length out))
       (λ y. simp y (fits s (leb-true _ _ y)))
       (λ n. simp n (noRoom s (leb-false _ _ n)))
 
-  line-read : (a : Answer FrameOutline) (last : List ℕ) → ReadJudged w out a last → Reads w out a last
-  line-read a last (refusedBy {n = n} j) = answer-refused (verdict w) n out (table-verdict w (refused n) j)
-  line-read a last (noRoom {f = f} s h) = answer-no-room (verdict w) f out (accepted-exactly w f .1 s) h
-  line-read a last (fits {f = f} s h) = answer-done (verdict w) f out (accepted-exactly w f .1 s) h
+  line-read : (a : Answer FrameOutline) (last : List ℕ) → ReadJudged o w out a last → Reads o w out a last
+  line-read a last (refusedBy {n = n} j) = answer-refused (admit o (verdict w)) n out (table-verdict o w (refused n) j)
+  line-read a last (noRoom {f = f} s h) = answer-no-room (admit o (verdict w)) f out (accepted-exactly o w f .1 s) h
+  line-read a last (fits {f = f} s h) = answer-done (admit o (verdict w)) f out (accepted-exactly o w f .1 s) h
 
   -- Every answer to reading a slice, with the output that is left, is given exactly when the table gives it, 1
   -- included.
-  pub read-by-table : (a : Answer FrameOutline) (last : List ℕ) → Exactly (Reads w out a last) (ReadJudged w out a last)
+  pub read-by-table : (a : Answer FrameOutline) (last : List ℕ)
+      → Exactly (Reads o w out a last) (ReadJudged o w out a last)
   read-by-table a last = (
-    (λ p. subst (λ (l : List ℕ). ReadJudged w out a l) (sym (p .1))
-        (subst (λ (x : Answer FrameOutline). ReadJudged w out x (readOut (verdict w) out)) (sym (p .0))
-        (read-line (verdict w) (verdict-by-table w (verdict w) .0 refl)))),
+    (λ p. subst (λ (l : List ℕ). ReadJudged o w out a l) (sym (p .1))
+        (subst (λ (x : Answer FrameOutline). ReadJudged o w out x (readOut (admit o (verdict w)) out)) (sym (p .0))
+        (read-line (admit o (verdict w)) (verdict-by-table o w (admit o (verdict w)) .0 refl)))),
     line-read a last,
   )
 
   -- The answer of a call that reads and the output that it left are given ones exactly when the table gives those.
-  pub reads-exactly : (a b : Answer FrameOutline) (last left : List ℕ) → Reads w out a last
-      → Exactly ((a ≡ b) × (last ≡ left)) (ReadJudged w out b left)
+  pub reads-exactly : (a b : Answer FrameOutline) (last left : List ℕ) → Reads o w out a last
+      → Exactly ((a ≡ b) × (last ≡ left)) (ReadJudged o w out b left)
   reads-exactly a b last left p = both-exactly p (read-by-table b left)
 
 -- ---- writing
@@ -297,64 +338,85 @@ over-draft : (f : Frame) → (WithinLimit (wireOf f) → ⊥) → frameDraft f �
 over-draft f n =
     by-bool (leb (length (wireOf f)) 120) (λ y. absurd (n (leb-true _ _ y))) (λ y. draft-long f (leb-false _ _ y))
 
-module _ (f : Frame) (out : List ℕ) where
-  abbrev answer : Answer ℕ
-  answer = draftAnswer (frameDraft f) (length out)
+-- the draft of a frame at an origin, by the first rule that fails
+module _ (o : Origin) (f : Frame) where
+  sent-over : Sent o f → (WithinLimit (wireOf f) → ⊥) → sentDraft o f ≡ refused 2
+  sent-over m n = sent-frame o f m ∙ over-draft f n
 
-  write-line : WriteJudged f out answer (draftOut (frameDraft f) out)
-  unfolding frameDraft draftAnswer draftOut
-  write-line =
+  sent-fits : Sent o f → WithinLimit (wireOf f) → sentDraft o f ≡ result (wireOf f)
+  sent-fits m l = sent-frame o f m ∙ draft-fits f l
+
+  -- A frame is never refused for want of room before it is written.
+  pub draft-never-1 : sentDraft o f ≡ refused 1 → ⊥
+  unfolding frameDraft
+  draft-never-1 e = of-sender (sender o (frameKind f))
+    where
+      of-sender : Sent o f ⊎ ((o ≡ Live) × (frameKind f ≡ Standard)) → ⊥
+      of-sender (inl m) =
+          let d : frameDraft f ≡ refused 1 = sym (sent-frame o f m) ∙ e in
+          by-bool (leb (length (wireOf f)) 120)
+          (λ y. let q : result (wireOf f) ≡ refused 1 = simp y at d in
+          let z : _≡_ {A = ℕ} 0 1 = cc in absurd (omega arith))
+          (λ y. let q : _≡_ {A = Answer (List ℕ)} (refused 2) (refused 1) = simp y at d in
+          let z : _≡_ {A = ℕ} 2 1 = cc in absurd (omega arith))
+      of-sender (inr m) =
+          let q : _≡_ {A = Answer (List ℕ)} (refused 17) (refused 1) =
+          sym (sent-unnamed o f (sender-missing o (frameKind f) .1 m)) ∙ e in
+          let z : _≡_ {A = ℕ} 17 1 = cc in absurd (omega arith)
+
+module _ (o : Origin) (f : Frame) (out : List ℕ) where
+  line-write : (a : Answer ℕ) (last : List ℕ) → WriteJudged o f out a last → Writes (sentDraft o f) out a last
+  line-write a last (notSent n) = writes-refusal (sentDraft o f) 17 out (sent-unnamed o f n)
+  line-write a last (overLimit m n) = writes-refusal (sentDraft o f) 2 out (sent-over o f m n)
+  line-write a last (noRoomToWrite m l h) = writes-no-room (sentDraft o f) (wireOf f) out (sent-fits o f m l) h
+  line-write a last (written m l h) =
+      writes-done (sentDraft o f) (wireOf f) out _ (sent-fits o f m l) h (sym (simp zero-add))
+
+  -- every frame has a line
+  write-line : Sent o f ⊎ ((o ≡ Live) × (frameKind f ≡ Standard))
+      → (a : Answer ℕ) × (last : List ℕ) × WriteJudged o f out a last
+  write-line (inr m) = (refused 17, out, notSent (sender-missing o (frameKind f) .1 m))
+  write-line (inl m) =
       by-bool (leb (length (wireOf f)) 120)
       (λ y. by-bool (leb (length (wireOf f)) (length out))
-      (λ r. simp (y, r) (written (leb-true _ _ y) (leb-true _ _ r)))
-      (λ r. simp (y, r) (noRoomToWrite (leb-true _ _ y) (leb-false _ _ r))))
-      (λ y. simp y (overLimit (λ l. absurd (omega (arith, l, leb-false (length (wireOf f)) 120 y)))))
-
-  line-write : (a : Answer ℕ) (last : List ℕ) → WriteJudged f out a last → Writes (frameDraft f) out a last
-  line-write a last (overLimit n) = writes-refusal (frameDraft f) 2 out (over-draft f n)
-  line-write a last (noRoomToWrite l h) = writes-no-room (frameDraft f) (wireOf f) out (draft-fits f l) h
-  line-write a last (written l h) = writes-done (frameDraft f) (wireOf f) out _ (draft-fits f l) h (sym (simp zero-add))
+      (λ r. (result (length (wireOf f)), _, written m (leb-true _ _ y) (leb-true _ _ r)))
+      (λ r. (refused 1, out, noRoomToWrite m (leb-true _ _ y) (leb-false _ _ r))))
+      (λ y. (refused 2, out, overLimit m (λ l. absurd (omega (arith, l, leb-false (length (wireOf f)) 120 y)))))
 
   -- Every answer to writing a frame, with the output that is left, is given exactly when the table gives it.
   pub written-by-table : (a : Answer ℕ) (last : List ℕ)
-      → Exactly (Writes (frameDraft f) out a last) (WriteJudged f out a last)
+      → Exactly (Writes (sentDraft o f) out a last) (WriteJudged o f out a last)
   written-by-table a last = (
-    (λ p. subst (λ (l : List ℕ). WriteJudged f out a l) (sym (p .1))
-        (subst (λ (x : Answer ℕ). WriteJudged f out x (draftOut (frameDraft f) out)) (sym (p .0)) write-line)),
+    (λ p. let l = write-line (sender o (frameKind f)) in
+        let q = line-write (l .0) (l .1) (l .2) in
+        subst (λ (x : List ℕ). WriteJudged o f out a x) (q .1 ∙ sym (p .1))
+        (subst (λ (x : Answer ℕ). WriteJudged o f out x (l .1)) (q .0 ∙ sym (p .0)) (l .2))),
     line-write a last,
   )
 
   -- The answer of a call that writes and the output that it left are given ones exactly when the table gives those.
-  pub writes-exactly : (a b : Answer ℕ) (last left : List ℕ) → Writes (frameDraft f) out a last
-      → Exactly ((a ≡ b) × (last ≡ left)) (WriteJudged f out b left)
+  pub writes-exactly : (a b : Answer ℕ) (last left : List ℕ) → Writes (sentDraft o f) out a last
+      → Exactly ((a ≡ b) × (last ≡ left)) (WriteJudged o f out b left)
   writes-exactly a b last left p = both-exactly p (written-by-table b left)
 
 -- ---- the length on the wire
 
-module _ (f : Frame) where
-  length-line : LengthJudged f (through length (frameDraft f))
-  unfolding frameDraft
-  length-line =
-      by-bool (leb (length (wireOf f)) 120) (λ y. simp y (takes (leb-true _ _ y)))
-      (λ y. simp y (tooLong (λ l. absurd (omega (arith, l, leb-false (length (wireOf f)) 120 y)))))
+module _ (o : Origin) (f : Frame) where
+  line-length : (a : Answer ℕ) → LengthJudged o f a → a ≡ through length (sentDraft o f)
+  line-length a (notMeasured n) = ap (through length) (sym (sent-unnamed o f n))
+  line-length a (tooLong m n) = ap (through length) (sym (sent-over o f m n))
+  line-length a (takes m l) = ap (through length) (sym (sent-fits o f m l))
 
-  line-length : (a : Answer ℕ) → LengthJudged f a → a ≡ through length (frameDraft f)
-  line-length a (tooLong n) = ap (through length) (sym (over-draft f n))
-  line-length a (takes l) = ap (through length) (sym (draft-fits f l))
+  length-line : Sent o f ⊎ ((o ≡ Live) × (frameKind f ≡ Standard)) → (a : Answer ℕ) × LengthJudged o f a
+  length-line (inr m) = (refused 17, notMeasured (sender-missing o (frameKind f) .1 m))
+  length-line (inl m) =
+      by-bool (leb (length (wireOf f)) 120) (λ y. (result (length (wireOf f)), takes m (leb-true _ _ y)))
+      (λ y. (refused 2, tooLong m (λ l. absurd (omega (arith, l, leb-false (length (wireOf f)) 120 y)))))
 
   -- The answer of a call that measures is a given one exactly when the table gives it.
-  pub lengths-exactly : (a b : Answer ℕ) → a ≡ through length (frameDraft f) → Exactly (a ≡ b) (LengthJudged f b)
+  pub lengths-exactly : (a b : Answer ℕ) → a ≡ through length (sentDraft o f) → Exactly (a ≡ b) (LengthJudged o f b)
   lengths-exactly a b e = (
-    (λ h. subst (LengthJudged f) (sym e ∙ h) length-line),
+    (λ h. let l = length-line (sender o (frameKind f)) in
+        subst (LengthJudged o f) (line-length (l .0) (l .1) ∙ sym e ∙ h) (l .1)),
     (λ j. e ∙ sym (line-length b j)),
   )
-
-  -- A frame is never refused for want of room before it is written.
-  pub draft-never-1 : frameDraft f ≡ refused 1 → ⊥
-  unfolding frameDraft
-  draft-never-1 e =
-      by-bool (leb (length (wireOf f)) 120)
-      (λ y. let q : result (wireOf f) ≡ refused 1 = simp y at e in
-      let z : _≡_ {A = ℕ} 0 1 = cc in absurd (omega arith))
-      (λ y. let q : _≡_ {A = Answer (List ℕ)} (refused 2) (refused 1) = simp y at e in
-      let z : _≡_ {A = ℕ} 2 1 = cc in absurd (omega arith))

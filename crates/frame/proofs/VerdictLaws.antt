@@ -1,6 +1,6 @@
 -- Laws of the verdict: its shape test, its refusals one by one, and the frame that it accepts.
 use Prim.Native.Nat.{ℕ, suc, _+_, _-_, _≤_, _<_}
-use mathlib.Core.Path.{_≡_, refl, sym, ap, _∙_}
+use mathlib.Core.Path.{_≡_, refl, sym, ap, _∙_, subst}
 use mathlib.Core.Bool.{Bool, true, false}
 use mathlib.Core.List.{List, [], _∷_, _++_}
 use native.Mathlib.Omega.{arith}
@@ -32,7 +32,6 @@ use Rattle.frame.specs.declared.Header.the-variants.{Plain, Addressed}
 use Rattle.frame.specs.declared.candidate.Scan.the-variants.{Flagged, Fault, Good}
 use Rattle.frame.specs.declared.candidate.Rest.{Rest}
 use Rattle.frame.specs.declared.candidate.Examined.{Examined}
-use Rattle.frame.specs.declared.candidate.Examined.the-variants.{Unsound, Sound}
 use Rattle.frame.proofs.FlagLaws.{kind-start, start-kind, start-between, none-narrower}
 use Rattle.frame.proofs.ChecksumLaws.{contents-last, sum-right, sum-wrong, sum-after}
 use Rattle.frame.proofs.StuffingLaws.{unstuff-plain}
@@ -256,7 +255,7 @@ module _ (h : Header) (body : List ℕ) (next : ℕ) (limit : length body ≤ 11
           judge-sum (headerKind h) body limit (under h rest) all (omega (arith, long))
           (sum-wrong skip (under h rest) long (λ q. n (summed ∙ q)))
 
-      pub rest-sound : sum ≡ 0 → next ≤ length body → SoundAt (headerKind h) body h next (len - 1)
+      pub rest-sound : sum ≡ 0 → next ≤ length body → SoundAt (judge (headerKind h) body) body h next (len - 1)
       unfolding frameIn
       rest-sound z inside =
           let right = sum-right skip (under h rest) long (sym summed ∙ z) in
@@ -336,10 +335,9 @@ scan-faults kind body h e =
 pub whole-judged : (kind : Kind) (body : List ℕ) → flagless body ≡ true → judgeWhole kind body ≡ judge kind body
 whole-judged kind body f = simp f
 
-pub whole-examined : (kind : Kind) (body : List ℕ) → flagless body ≡ true → (x : Examined) → Examines kind body x
-    → ExaminesWhole kind body x
-whole-examined kind body f (Unsound why) e = whole-judged kind body f ∙ e
-whole-examined kind body f (Sound header start len) e = (f, e)
+pub whole-examined : (kind : Kind) (body : List ℕ) → flagless body ≡ true → (x : Examined)
+    → Examines (judge kind body) body x → ExaminesWhole kind body x
+whole-examined kind body f x e = subst (λ (v : Verdict). Examines v body x) (sym (whole-judged kind body f)) e
 
 -- one in which no byte is F0 to F3, as a look finds it
 pub looked-clear : (body : List ℕ) (clear : Bool) (sum : ℕ) → EndsPlain body
@@ -409,7 +407,8 @@ module _ (header : Header) (body : List ℕ) (start sum : ℕ) (p : UnescapedAft
     after-sum n =
         rest-sum header body start (p .limit) (p .addressed) (length body - start) sum after-scan (omega arith) n
 
-    pub after-sound : sum ≡ 0 → SoundAt (headerKind header) body header start (length body - start - 1)
+    pub after-sound : sum ≡ 0
+        → SoundAt (judge (headerKind header) body) body header start (length body - start - 1)
     after-sound z =
         rest-sound header body start (p .limit) (p .addressed) (length body - start) sum after-scan (omega arith) z
         (p .inside)

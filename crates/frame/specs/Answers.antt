@@ -6,11 +6,14 @@ use mathlib.Core.List.{List, _++_}
 use lib.Dec.{leb}
 use lib.ListN.{length, take, drop}
 use Rattle.lists.specs.Choice.{pick}
-use Rattle.answer.specs.Answer.{Answer, result, refused, through}
+use Rattle.answer.specs.Answer.{Answer, result, refused, through, andThen}
 use Rattle.answer.specs.Draft.{Draft, draftOut}
 use Rattle.answer.specs.Refusals.{numberOf}
 use Rattle.frame.specs.Frame.{Frame, standard, extended, contentsOf, wireOf}
 use Rattle.frame.specs.Verdict.{Verdict, verdict}
+use Rattle.frame.specs.Origin.{named, admit}
+use Rattle.frame.specs.declared.Origin.{Origin}
+use Rattle.frame.specs.declared.Origin.the-variants.{Live, Trace}
 use Rattle.frame.specs.declared.WireLength.{WireLength}
 use Rattle.frame.specs.declared.WireLength.the-variants.{Bytes, Refused as NotSent}
 use Rattle.frame.specs.declared.Read.{Read}
@@ -21,6 +24,11 @@ use Rattle.frame.specs.declared.Read.the-variants.{Standard, Extended, R
 -- The bytes of a frame, or refusal 2 where they are over 120.
 unfoldable pub frameDraft : Frame → Draft
 frameDraft f = pick (leb (length (wireOf f)) 120) (result (wireOf f)) (refused 2)
+
+-- The bytes of a frame that is to go to an origin. Live, 17 comes first, for a frame that names no sender.
+abbrev pub sentDraft : Origin → Frame → Draft
+sentDraft Live f = andThen frameDraft (named f)
+sentDraft Trace f = frameDraft f
 
 -- ---- measuring
 
@@ -58,9 +66,9 @@ readAnswer (result f) room = pick (leb (length (contentsOf f)) room) (result (ou
 unfoldable pub readOut : Verdict → List ℕ → List ℕ
 readOut v out = draftOut (through contentsOf v) out
 
--- A call that reads a slice gives this answer and leaves this output, given the output before.
-abbrev pub Reads : (w out : List ℕ) → Answer FrameOutline → (last : List ℕ) → Type 0
-Reads w out a last = (a ≡ readAnswer (verdict w) (length out)) × (last ≡ readOut (verdict w) out)
+-- A call that reads a slice of an origin gives this answer and leaves this output, given the output before.
+abbrev pub Reads : Origin → (w out : List ℕ) → Answer FrameOutline → (last : List ℕ) → Type 0
+Reads o w out a last = (a ≡ readAnswer (admit o (verdict w)) (length out)) × (last ≡ readOut (admit o (verdict w)) out)
 
 -- ---- judging in place
 

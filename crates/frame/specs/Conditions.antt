@@ -1,6 +1,6 @@
--- The conditions on a sound frame, each by itself, and document 01's tables of reading, writing and measuring over
--- them. None uses the function `verdict` or the steps by which it is computed; the checksum and the flags are those of
--- frames.
+-- The conditions on a sound frame at an origin, each by itself, and document 01's tables of reading, writing and
+-- measuring over them, with 17 of document 02's No. 9. None uses the functions `verdict` and `admit` or the steps by
+-- which the verdict is computed; the checksum and the flags are those of frames.
 use Prim.Native.Nat.{ℕ, _+_, _≤_, _<_}
 use mathlib.Core.Path.{_≡_}
 use mathlib.Core.List.{List, [], _∷_, _++_}
@@ -10,6 +10,8 @@ use Rattle.frame.specs.Frame.{Frame, contentsOf, frameKind, payload, wir
 use Rattle.frame.specs.Verdict.{Verdict}
 use Rattle.answer.specs.Answer.{result, refused, Answer}
 use Rattle.frame.specs.Answers.{outlineOf, FrameOutline}
+use Rattle.frame.specs.declared.Origin.{Origin}
+use Rattle.frame.specs.declared.Origin.the-variants.{Live}
 use Rattle.frame.specs.declared.Kind.{Kind}
 use Rattle.frame.specs.declared.Kind.the-variants.{Standard, Extended}
 use Rattle.framing.specs.Reference.{FlagFree}
@@ -51,8 +53,13 @@ ChecksumRight Standard u = (contents : List ℕ) × (u ≡ contents ++ (checksum
 ChecksumRight Extended u =
     (to : ℕ) × (from : ℕ) × (contents : List ℕ) × (u ≡ to ∷ from ∷ contents ++ (checksum contents ∷ []))
 
--- What demand 2 asks of a slice that is accepted: its limit, escapes, length and checksum are right.
-pub record Sound (w : List ℕ) : Type 0 where
+-- Live, a frame names its sender: it is an extended one.
+abbrev pub SenderNamed : Origin → Kind → Type 0
+SenderNamed o kind = o ≡ Live → kind ≡ Extended
+
+-- What demand 2 asks of a slice of an origin that is accepted: its limit, escapes, length and checksum are right, and
+-- live it names its sender.
+pub record Sound (o : Origin) (w : List ℕ) : Type 0 where
   pub candidate : Terminated w
   pub limit : WithinLimit w
   pub escapes : EscapesSound (candidate .body)
@@ -60,42 +67,54 @@ pub record Sound (w : List ℕ) : Type 0 where
   pub unstuffs : Unstuffs (candidate .body) unstuffed
   pub enough : LongEnough (candidate .kind) unstuffed
   pub sum : ChecksumRight (candidate .kind) unstuffed
+  pub sender : SenderNamed o (candidate .kind)
 
 -- A slice that demand 2 accepts, and the frame that it is: of the slice's kind, with its unstuffed bytes.
-pub record SoundFrame (w : List ℕ) (f : Frame) : Type 0 where
-  pub slice : Sound w
+pub record SoundFrame (o : Origin) (w : List ℕ) (f : Frame) : Type 0 where
+  pub slice : Sound o w
   pub kind-is : slice .candidate .kind ≡ frameKind f
   pub bytes-are : slice .unstuffed ≡ payload f
 
--- Document 01's table with its order: each answer with the rule that fails, where every rule before it holds.
-pub data Judged (w : List ℕ) : Verdict → Type 0 where
-  truncated : (Terminated w → ⊥) → Judged w (refused 6)
-  long : Terminated w → (WithinLimit w → ⊥) → Judged w (refused 2)
-  badEscape : (t : Terminated w) → WithinLimit w → (EscapesSound (t .body) → ⊥) → Judged w (refused 3)
+-- The papers' table with its order: each answer with the rule that fails, where every rule before it holds.
+pub data Judged (o : Origin) (w : List ℕ) : Verdict → Type 0 where
+  truncated : (Terminated w → ⊥) → Judged o w (refused 6)
+  long : Terminated w → (WithinLimit w → ⊥) → Judged o w (refused 2)
+  badEscape : (t : Terminated w) → WithinLimit w → (EscapesSound (t .body) → ⊥) → Judged o w (refused 3)
   short : (t : Terminated w) (u : List ℕ) → WithinLimit w → EscapesSound (t .body) → Unstuffs (t .body) u
-      → (LongEnough (t .kind) u → ⊥) → Judged w (refused 4)
+      → (LongEnough (t .kind) u → ⊥) → Judged o w (refused 4)
   badSum : (t : Terminated w) (u : List ℕ) → WithinLimit w → EscapesSound (t .body) → Unstuffs (t .body) u
       → LongEnough (t .kind) u
-      → (ChecksumRight (t .kind) u → ⊥) → Judged w (refused 5)
-  sound : (f : Frame) → SoundFrame w f → Judged w (result f)
+      → (ChecksumRight (t .kind) u → ⊥) → Judged o w (refused 5)
+  unnamed : (t : Terminated w) (u : List ℕ) → WithinLimit w → EscapesSound (t .body) → Unstuffs (t .body) u
+      → LongEnough (t .kind) u → ChecksumRight (t .kind) u
+      → (SenderNamed o (t .kind) → ⊥) → Judged o w (refused 17)
+  sound : (f : Frame) → SoundFrame o w f → Judged o w (result f)
 
 -- What reading a slice is answered, and the output afterwards. The slice's refusal comes first, and 1 last, where the
 -- output has no room. A frame's contents stand first in the output, and all after them is as it was.
-pub data ReadJudged (w out : List ℕ) : Answer FrameOutline → List ℕ → Type 0 where
-  refusedBy : {n : ℕ} → Judged w (refused n) → ReadJudged w out (refused n) out
-  noRoom : {f : Frame} → SoundFrame w f → length out < length (contentsOf f) → ReadJudged w out (refused 1) out
-  fits : {f : Frame} → SoundFrame w f → length (contentsOf f) ≤ length out
-      → ReadJudged w out (result (outlineOf f)) (contentsOf f ++ drop (length (contentsOf f)) out)
+pub data ReadJudged (o : Origin) (w out : List ℕ) : Answer FrameOutline → List ℕ → Type 0 where
+  refusedBy : {n : ℕ} → Judged o w (refused n) → ReadJudged o w out (refused n) out
+  noRoom : {f : Frame} → SoundFrame o w f → length out < length (contentsOf f) → ReadJudged o w out (refused 1) out
+  fits : {f : Frame} → SoundFrame o w f → length (contentsOf f) ≤ length out
+      → ReadJudged o w out (result (outlineOf f)) (contentsOf f ++ drop (length (contentsOf f)) out)
 
--- What writing a frame is answered, and the output afterwards: 2 where the frame is over the limit, then 1, then its
--- length.
-pub data WriteJudged (f : Frame) (out : List ℕ) : Answer ℕ → List ℕ → Type 0 where
-  overLimit : (WithinLimit (wireOf f) → ⊥) → WriteJudged f out (refused 2) out
-  noRoomToWrite : WithinLimit (wireOf f) → length out < length (wireOf f) → WriteJudged f out (refused 1) out
-  written : WithinLimit (wireOf f) → length (wireOf f) ≤ length out
-      → WriteJudged f out (result (length (wireOf f))) (wireOf f ++ drop (length (wireOf f)) out)
+-- A frame that may go to an origin.
+abbrev pub Sent : Origin → Frame → Type 0
+Sent o f = SenderNamed o (frameKind f)
 
--- What asking for a frame's length on the wire is answered: 2 where the frame is over the limit, else its length.
-pub data LengthJudged (f : Frame) : Answer ℕ → Type 0 where
-  tooLong : (WithinLimit (wireOf f) → ⊥) → LengthJudged f (refused 2)
-  takes : WithinLimit (wireOf f) → LengthJudged f (result (length (wireOf f)))
+-- What writing a frame is answered, and the output afterwards: live 17 where it names no sender, then 2 where it is over
+-- the limit, then 1, then its length.
+pub data WriteJudged (o : Origin) (f : Frame) (out : List ℕ) : Answer ℕ → List ℕ → Type 0 where
+  notSent : (Sent o f → ⊥) → WriteJudged o f out (refused 17) out
+  overLimit : Sent o f → (WithinLimit (wireOf f) → ⊥) → WriteJudged o f out (refused 2) out
+  noRoomToWrite : Sent o f → WithinLimit (wireOf f) → length out < length (wireOf f)
+      → WriteJudged o f out (refused 1) out
+  written : Sent o f → WithinLimit (wireOf f) → length (wireOf f) ≤ length out
+      → WriteJudged o f out (result (length (wireOf f))) (wireOf f ++ drop (length (wireOf f)) out)
+
+-- What asking for a frame's length on the wire is answered: live 17 where it names no sender, then 2 where it is over
+-- the limit, else its length.
+pub data LengthJudged (o : Origin) (f : Frame) : Answer ℕ → Type 0 where
+  notMeasured : (Sent o f → ⊥) → LengthJudged o f (refused 17)
+  tooLong : Sent o f → (WithinLimit (wireOf f) → ⊥) → LengthJudged o f (refused 2)
+  takes : Sent o f → WithinLimit (wireOf f) → LengthJudged o f (result (length (wireOf f)))

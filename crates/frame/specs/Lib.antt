@@ -4,6 +4,7 @@ pub mod Stuffing
 pub mod Checksum
 pub mod Frame
 pub mod Verdict
+pub mod Origin
 pub mod Leading
 pub mod Answers
 pub mod Conditions

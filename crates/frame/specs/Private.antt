@@ -9,6 +9,7 @@ use lib.ListN.{length, getD, take, drop}
 use Rattle.lists.specs.Choice.{pick, within, noneOf, countOf, countBefore}
 use Rattle.lists.specs.Splice.{splice}
 use Rattle.answer.specs.Refusals.{numberOf}
+use Rattle.answer.specs.declared.Refusal.the-variants.{Unnamed}
 use Rattle.frame.specs.Stuffing.{isStuffed, stuffByte, unstuff, Unstuffed, badEscape, bytes, prepend}
 use Rattle.frame.specs.Flags.{flagless, startFlag, stopFlag, isStart, isFlag}
 use Rattle.frame.specs.Leading.{isStopAt}
@@ -17,6 +18,8 @@ use Rattle.frame.specs.Frame.{Frame, standard, extended, wireOf}
 use Rattle.frame.specs.Verdict.{Verdict, judge, addressCount, lastOf}
 use Rattle.answer.specs.Answer.{result, refused, Answer}
 use Rattle.frame.specs.Answers.{standardOutline, extendedOutline, FrameOutline}
+use Rattle.frame.specs.declared.Origin.{Origin}
+use Rattle.frame.specs.declared.Origin.the-variants.{Live, Trace}
 use Rattle.frame.specs.declared.Kind.{Kind}
 use Rattle.frame.specs.declared.Kind.the-variants.{Standard, Extended}
 use Rattle.frame.specs.declared.Header.{Header}
@@ -149,10 +152,10 @@ abbrev pub WithoutHeader : Header → (len sum : ℕ) → Rest → Type 0
 WithoutHeader Plain len sum r = (r .len ≡ len) × (r .sum ≡ sum)
 WithoutHeader (Addressed to from) len sum r = (r .len ≡ len - 2) × (r .sum ≡ bitXor sum (bitXor to from))
 
--- A sound body: its frame, and where its stuffed contents stand.
-pub record SoundAt (kind : Kind) (body : List ℕ) (header : Header) (start len : ℕ) : Type 0 where
+-- A body whose verdict is a frame, and where the frame's stuffed contents stand in it.
+pub record SoundAt (v : Verdict) (body : List ℕ) (header : Header) (start len : ℕ) : Type 0 where
   pub contents : List ℕ
-  pub judged : judge kind body ≡ result (frameOf header contents)
+  pub judged : v ≡ result (frameOf header contents)
   pub counted : length contents ≡ len
   pub follows : unstuff false (drop start body) ≡ bytes (contents ++ (checksum contents ∷ []))
   pub inside : start ≤ length body
@@ -175,18 +178,24 @@ pub record UnescapedAfter (header : Header) (body : List ℕ) (start sum : ℕ) 
   pub addressed : unstuff false body ≡ headed header (unstuff false (drop start body))
   pub summed : sum ≡ checksum (drop start body)
 
--- What was found of a body.
-abbrev pub Examines : Kind → List ℕ → Examined → Type 0
-Examines kind body (Unsound why) = judge kind body ≡ refused (numberOf why)
-Examines kind body (Sound header start len) = SoundAt kind body header start len
+-- What was found of a body whose verdict is v.
+abbrev pub Examines : (v : Verdict) → List ℕ → Examined → Type 0
+Examines v body (Unsound why) = v ≡ refused (numberOf why)
+Examines v body (Sound header start len) = SoundAt v body header start len
+
+-- The same at an origin: live, 17 in place of a frame without addresses.
+abbrev pub foundAt : Origin → Examined → Examined
+foundAt Live (Unsound why) = Unsound why
+foundAt Live (Sound Plain start len) = Unsound Unnamed
+foundAt Live (Sound (Addressed to from) start len) = Sound (Addressed to from) start len
+foundAt Trace x = x
 
 -- The verdict where flags may stand in the body: with one it is no whole candidate.
 abbrev pub judgeWhole : Kind → List ℕ → Verdict
 judgeWhole kind body = pick (flagless body) (judge kind body) (refused 6)
 
 abbrev pub ExaminesWhole : Kind → List ℕ → Examined → Type 0
-ExaminesWhole kind body (Unsound why) = judgeWhole kind body ≡ refused (numberOf why)
-ExaminesWhole kind body (Sound header start len) = (flagless body ≡ true) × SoundAt kind body header start len
+ExaminesWhole kind body x = Examines (judgeWhole kind body) body x
 
 -- No byte before an index is F0 to F3, and their exclusive or.
 pub record PlainTo (s : List ℕ) (at sum : ℕ) : Type 0 where

@@ -1,6 +1,7 @@
 // A candidate for a frame, looked at before anything is written: its shape, its escapes, its length and its checksum.
 use crate::Header;
 use crate::Kind;
+use crate::Origin;
 use crate::bytes::Looked;
 use crate::flags;
 use answer::Refusal;
@@ -17,7 +18,7 @@ ghost use Rattle.frame.specs.Checksum.{checksum};
 ghost use Rattle.frame.specs.Verdict.{addressCount};
 ghost use Rattle.frame.specs.Private.{isBounded, nextAt, scanOf, isSound, goodPair, lowerByte, isEscape, lifts};
 ghost use Rattle.frame.specs.Private.{unstuffedBytes, lastAt, headerKind, AddressesIn, EndsPlain};
-ghost use Rattle.frame.specs.Private.{Tallied, WithoutHeader, ExaminesWhole};
+ghost use Rattle.frame.specs.Private.{Tallied, WithoutHeader, ExaminesWhole, foundAt};
 
 // The most bytes that may stand between the flags.
 pub(crate) const BODY_LIMIT: usize = 118;
@@ -334,6 +335,39 @@ fn without_header(header: Header, len: usize, sum: u8) -> Rest
         Header::Addressed { to, from } => Rest {
             len: len - 2,
             sum: sum ^ (to ^ from),
+        },
+    }
+}
+
+// What was found, at an origin. 17 comes after every refusal of the bytes, and before any of them is moved.
+pub(crate) fn admit(origin: Origin, found: Examined) -> Examined
+    ensures { λ r. ⌜ r ≡ foundAt origin found ⌝ }
+{
+    match origin {
+        Origin::Live => named(found),
+        Origin::Trace => found,
+    }
+}
+
+// What was found on the live line, where a frame has to name its sender.
+fn named(found: Examined) -> Examined
+    ensures { λ r. ⌜ r ≡ foundAt Origin.Live found ⌝ }
+{
+    match found {
+        Examined::Unsound(why) => Examined::Unsound(why),
+        Examined::Sound { header, start, len } => addressed(header, start, len),
+    }
+}
+
+fn addressed(header: Header, start: usize, len: usize) -> Examined
+    ensures { λ r. ⌜ r ≡ foundAt Origin.Live (Examined.Sound header start len) ⌝ }
+{
+    match header {
+        Header::Plain => Examined::Unsound(Refusal::Unnamed),
+        Header::Addressed { to, from } => Examined::Sound {
+            header: Header::Addressed { to, from },
+            start,
+            len,
         },
     }
 }

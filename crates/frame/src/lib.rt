@@ -1,5 +1,5 @@
 // CSAFE frames: one frame measured and written, one slice read, and the bytes between two flags judged.
-// Document 01, "Frames on the wire".
+// Document 01, "Frames on the wire"; document 02, No. 9.
 pub mod address;
 mod bytes;
 mod candidate;
@@ -26,10 +26,19 @@ ghost use Rattle.frame.specs.Flags.{candidateOf};
 ghost use Rattle.frame.specs.Stuffing.{unstuff};
 ghost use Rattle.frame.specs.Frame.{standard, extended};
 ghost use Rattle.frame.specs.Verdict.{judge, verdict};
-ghost use Rattle.frame.specs.Answers.{frameDraft, lengthMeans, readMeans, judgeAnswer, readAnswer, readOut, leftIn};
+ghost use Rattle.frame.specs.Origin.{admit};
+ghost use Rattle.frame.specs.Answers.{frameDraft, sentDraft, lengthMeans, readMeans, judgeAnswer};
+ghost use Rattle.frame.specs.Answers.{readAnswer, readOut, leftIn};
 ghost use Rattle.frame.specs.Leading.{openCount, leadingCount};
 ghost use Rattle.frame.specs.Private.{frameOf, readAs, unstuffedBytes, judgeWhole, Unescaped, ExaminesWhole};
 ghost use Rattle.frame.specs.Private.{openVerdict};
+
+// Where bytes come from, or are to go: the line as it is, or a trace that was kept of one. Live, standard frames are
+// refused, because they name no sender.
+pub enum Origin {
+    Live,
+    Trace,
+}
 
 // The two kinds of frame.
 pub enum Kind {
@@ -63,11 +72,14 @@ pub struct Leading {
     pub taken: usize,
 }
 
-// How many bytes a standard frame takes on the wire, which is the room that writing it needs. Refusal 2.
-pub fn standard_length(contents: &[u8]) -> WireLength
-    ensures { λ r. ⌜ lengthMeans r ≡ through length (frameDraft (standard (now (contents .entry)))) ⌝ }
+// How many bytes a standard frame takes on the wire, which is the room that writing it needs. Refusals 17, live, and 2.
+pub fn standard_length(origin: Origin, contents: &[u8]) -> WireLength
+    ensures { λ r. ⌜ lengthMeans r ≡ through length (sentDraft origin (standard (now (contents .entry)))) ⌝ }
 {
-    wire_length(Header::Plain, contents)
+    match origin {
+        Origin::Live => WireLength::Refused(Refusal::Unnamed),
+        Origin::Trace => wire_length(Header::Plain, contents),
+    }
 }
 
 // How many bytes an extended frame takes on the wire, which is the room that writing it needs. Refusal 2.
@@ -77,16 +89,20 @@ pub fn extended_length(to: u8, from: u8, contents: &[u8]) -> WireLength
     wire_length(Header::Addressed { to, from }, contents)
 }
 
-// Writes a standard frame. Refusals 2 and 1.
-pub fn write_standard(contents: &[u8], out: &mut [u8]) -> Written
-    ensures { λ r. ⌜ writtenMeans r ≡ draftAnswer (frameDraft (standard (now (contents .entry))))
+// Writes a standard frame. Refusals 17, live, then 2 and 1.
+pub fn write_standard(origin: Origin, contents: &[u8], out: &mut [u8]) -> Written
+    ensures { λ r. ⌜ writtenMeans r ≡ draftAnswer (sentDraft origin (standard (now (contents .entry))))
         (length (now (out .entry))) ⌝ }
-    ensures { λ r. ⌜ now (out .exit) ≡ draftOut (frameDraft (standard (now (contents .entry)))) (now (out .entry)) ⌝ }
+    ensures { λ r. ⌜ now (out .exit) ≡ draftOut (sentDraft origin (standard (now (contents .entry))))
+        (now (out .entry)) ⌝ }
 {
-    write_frame(Header::Plain, contents, out)
+    match origin {
+        Origin::Live => Written::Refused(Refusal::Unnamed),
+        Origin::Trace => write_frame(Header::Plain, contents, out),
+    }
 }
 
-// Writes an extended frame. Refusals 2 and 1.
+// Writes an extended frame, to any origin. Refusals 2 and 1.
 pub fn write_extended(to: u8, from: u8, contents: &[u8], out: &mut [u8]) -> Written
     ensures { λ r. ⌜ writtenMeans r ≡ draftAnswer (frameDraft (extended to from (now (contents .entry))))
         (length (now (out .entry))) ⌝ }
@@ -120,10 +136,11 @@ pub fn write_extended_number(to: u8, from: u8, number: u64, width: usize, out: &
     }
 }
 
-// Reads a slice that is to be one frame, and puts its contents first in the output. Refusals 6, 2, 3, 4, 5 and 1.
-pub fn read_frame(wire: &[u8], out: &mut [u8]) -> Read
-    ensures { λ r. ⌜ readMeans r ≡ readAnswer (verdict (now (wire .entry))) (length (now (out .entry))) ⌝ }
-    ensures { λ r. ⌜ now (out .exit) ≡ readOut (verdict (now (wire .entry))) (now (out .entry)) ⌝ }
+// Reads a slice that is to be one frame, and puts its contents first in the output. Refusals 6, 2, 3, 4 and 5, live 17,
+// and 1.
+pub fn read_frame(origin: Origin, wire: &[u8], out: &mut [u8]) -> Read
+    ensures { λ r. ⌜ readMeans r ≡ readAnswer (admit origin (verdict (now (wire .entry)))) (length (now (out .entry))) ⌝ }
+    ensures { λ r. ⌜ now (out .exit) ≡ readOut (admit origin (verdict (now (wire .entry)))) (now (out .entry)) ⌝ }
 {
     if !candidate::is_bounded(wire) {
         return Read::Refused(Refusal::Truncated);
@@ -135,37 +152,39 @@ pub fn read_frame(wire: &[u8], out: &mut [u8]) -> Read
     if candidate::ends_plain(body) {
         let looked = candidate::look_plain(body);
         if looked.clear {
-            return read_plain(kind, body, looked.sum, out);
+            return read_plain(origin, kind, body, looked.sum, out);
         }
     }
-    read_stuffed(kind, body, out)
+    read_stuffed(origin, kind, body, out)
 }
 
 // Reads the candidate that a slice begins with: a start flag, and the stop flag as the next flag, with any number of
 // bytes between them. What follows does not matter. A slice that begins with no closed candidate has 0 bytes taken and
-// is refused with 6. Refusals 6, 2, 3, 4, 5 and 1.
-pub fn read_leading(s: &[u8], out: &mut [u8]) -> Leading
+// is refused with 6. Refusals 6, 2, 3, 4 and 5, live 17, and 1.
+pub fn read_leading(origin: Origin, s: &[u8], out: &mut [u8]) -> Leading
     ensures { λ r. ⌜ r .taken ≡ leadingCount (now (s .entry)) ⌝ }
-    ensures { λ r. ⌜ readMeans (r .read) ≡ readAnswer (verdict (take (r .taken) (now (s .entry))))
+    ensures { λ r. ⌜ readMeans (r .read) ≡ readAnswer (admit origin (verdict (take (r .taken) (now (s .entry)))))
         (length (now (out .entry))) ⌝ }
-    ensures { λ r. ⌜ now (out .exit) ≡ readOut (verdict (take (r .taken) (now (s .entry)))) (now (out .entry)) ⌝ }
+    ensures { λ r. ⌜ now (out .exit) ≡ readOut (admit origin (verdict (take (r .taken) (now (s .entry)))))
+        (now (out .entry)) ⌝ }
 {
     if !front::starts(s) {
         return no_leading();
     }
     let kind = flags::kind_of(s[0]);
-    read_open(kind, &s[1..], out)
+    read_open(origin, kind, &s[1..], out)
 }
 
 // Judges the candidate that a start flag of this kind, the first `len` bytes of an array (all where it has fewer) and
-// the stop flag make: refusals 6, 2, 3, 4 and 5. The contents of an accepted frame are brought to the front; a refusal
-// changes nothing.
-pub fn judge_array(kind: Kind, bytes: &mut [u8; 118], len: usize) -> Read
-    ensures { λ r. ⌜ readMeans r ≡ judgeAnswer (verdict (candidateOf kind (take len (now (bytes .entry))))) ⌝ }
+// the stop flag make: refusals 6, 2, 3, 4 and 5, and live 17. The contents of an accepted frame are brought to the
+// front; a refusal changes nothing.
+pub fn judge_array(origin: Origin, kind: Kind, bytes: &mut [u8; 118], len: usize) -> Read
+    ensures { λ r. ⌜ readMeans r
+        ≡ judgeAnswer (admit origin (verdict (candidateOf kind (take len (now (bytes .entry)))))) ⌝ }
     ensures { λ r. ⌜ now (bytes .exit)
-        ≡ leftIn (verdict (candidateOf kind (take len (now (bytes .entry))))) (now (bytes .entry)) ⌝ }
+        ≡ leftIn (admit origin (verdict (candidateOf kind (take len (now (bytes .entry)))))) (now (bytes .entry)) ⌝ }
 {
-    judge_first(kind, bytes, len)
+    judge_first(origin, kind, bytes, len)
 }
 
 fn no_leading() -> Leading
@@ -179,11 +198,12 @@ fn no_leading() -> Leading
 }
 
 // Reads the candidate of this kind whose start flag stands right before a slice.
-fn read_open(kind: Kind, rest: &[u8], out: &mut [u8]) -> Leading
+fn read_open(origin: Origin, kind: Kind, rest: &[u8], out: &mut [u8]) -> Leading
     ensures { λ r. ⌜ r .taken ≡ openCount (now (rest .entry)) ⌝ }
-    ensures { λ r. ⌜ readMeans (r .read) ≡ readAnswer (openVerdict kind (now (rest .entry)))
+    ensures { λ r. ⌜ readMeans (r .read) ≡ readAnswer (admit origin (openVerdict kind (now (rest .entry))))
         (length (now (out .entry))) ⌝ }
-    ensures { λ r. ⌜ now (out .exit) ≡ readOut (openVerdict kind (now (rest .entry))) (now (out .entry)) ⌝ }
+    ensures { λ r. ⌜ now (out .exit) ≡ readOut (admit origin (openVerdict kind (now (rest .entry))))
+        (now (out .entry)) ⌝ }
 {
     let run = front::plain_run(rest);
     let at = run.at;
@@ -195,11 +215,11 @@ fn read_open(kind: Kind, rest: &[u8], out: &mut [u8]) -> Leading
     let body = &rest[..end];
     if end == at {
         if end <= candidate::BODY_LIMIT {
-            let read = read_plain(kind, body, run.sum, out);
+            let read = read_plain(origin, kind, body, run.sum, out);
             return Leading { read, taken };
         }
     }
-    let read = read_stuffed(kind, body, out);
+    let read = read_stuffed(origin, kind, body, out);
     Leading { read, taken }
 }
 
@@ -236,12 +256,13 @@ fn write_frame(header: Header, contents: &[u8], out: &mut [u8]) -> Written
 }
 
 // Reads a body in which no byte is F0 to F3 and whose exclusive or is known: its contents are copied as they are.
-fn read_plain(kind: Kind, body: &[u8], sum: u8, out: &mut [u8]) -> Read
+fn read_plain(origin: Origin, kind: Kind, body: &[u8], sum: u8, out: &mut [u8]) -> Read
     requires { ⌜ Unescaped (now body) sum ⌝ }
-    ensures { λ r. ⌜ readMeans r ≡ readAnswer (judge kind (now (body .entry))) (length (now (out .entry))) ⌝ }
-    ensures { λ r. ⌜ now (out .exit) ≡ readOut (judge kind (now (body .entry))) (now (out .entry)) ⌝ }
+    ensures { λ r. ⌜ readMeans r
+        ≡ readAnswer (admit origin (judge kind (now (body .entry)))) (length (now (out .entry))) ⌝ }
+    ensures { λ r. ⌜ now (out .exit) ≡ readOut (admit origin (judge kind (now (body .entry)))) (now (out .entry)) ⌝ }
 {
-    let found = plain::examine_plain(kind, body, sum);
+    let found = candidate::admit(origin, plain::examine_plain(kind, body, sum));
     match found {
         Examined::Unsound(why) => Read::Refused(why),
         Examined::Sound { header, start, len } => {
@@ -256,11 +277,13 @@ fn read_plain(kind: Kind, body: &[u8], sum: u8, out: &mut [u8]) -> Read
 }
 
 // Reads any body, flags and escapes among its bytes.
-fn read_stuffed(kind: Kind, body: &[u8], out: &mut [u8]) -> Read
-    ensures { λ r. ⌜ readMeans r ≡ readAnswer (judgeWhole kind (now (body .entry))) (length (now (out .entry))) ⌝ }
-    ensures { λ r. ⌜ now (out .exit) ≡ readOut (judgeWhole kind (now (body .entry))) (now (out .entry)) ⌝ }
+fn read_stuffed(origin: Origin, kind: Kind, body: &[u8], out: &mut [u8]) -> Read
+    ensures { λ r. ⌜ readMeans r
+        ≡ readAnswer (admit origin (judgeWhole kind (now (body .entry)))) (length (now (out .entry))) ⌝ }
+    ensures { λ r. ⌜ now (out .exit)
+        ≡ readOut (admit origin (judgeWhole kind (now (body .entry)))) (now (out .entry)) ⌝ }
 {
-    let found = candidate::examine_stuffed(kind, body);
+    let found = candidate::admit(origin, candidate::examine_stuffed(kind, body));
     match found {
         Examined::Unsound(why) => Read::Refused(why),
         Examined::Sound { header, start, len } => {
@@ -319,13 +342,14 @@ fn bring_contents(s: &mut [u8], start: usize, len: usize)
 }
 
 // Judges the first bytes of a slice of any length, as `judge_array` does those of an array.
-fn judge_first(kind: Kind, s: &mut [u8], len: usize) -> Read
-    ensures { λ r. ⌜ readMeans r ≡ judgeAnswer (verdict (candidateOf kind (take len (now (s .entry))))) ⌝ }
+fn judge_first(origin: Origin, kind: Kind, s: &mut [u8], len: usize) -> Read
+    ensures { λ r. ⌜ readMeans r
+        ≡ judgeAnswer (admit origin (verdict (candidateOf kind (take len (now (s .entry)))))) ⌝ }
     ensures { λ r. ⌜ now (s .exit)
-        ≡ leftIn (verdict (candidateOf kind (take len (now (s .entry))))) (now (s .entry)) ⌝ }
+        ≡ leftIn (admit origin (verdict (candidateOf kind (take len (now (s .entry)))))) (now (s .entry)) ⌝ }
 {
     let n = lists::lesser(len, s.len());
-    judge_whole(kind, &mut s[..n])
+    judge_whole(origin, kind, &mut s[..n])
 }
 
 // The verdict on what stands between a start flag of this kind and a stop flag.
@@ -341,11 +365,12 @@ fn examine_whole(kind: Kind, body: &[u8]) -> Examined
     candidate::examine_stuffed(kind, body)
 }
 
-fn judge_whole(kind: Kind, s: &mut [u8]) -> Read
-    ensures { λ r. ⌜ readMeans r ≡ judgeAnswer (verdict (candidateOf kind (now (s .entry)))) ⌝ }
-    ensures { λ r. ⌜ now (s .exit) ≡ leftIn (verdict (candidateOf kind (now (s .entry)))) (now (s .entry)) ⌝ }
+fn judge_whole(origin: Origin, kind: Kind, s: &mut [u8]) -> Read
+    ensures { λ r. ⌜ readMeans r ≡ judgeAnswer (admit origin (verdict (candidateOf kind (now (s .entry))))) ⌝ }
+    ensures { λ r. ⌜ now (s .exit)
+        ≡ leftIn (admit origin (verdict (candidateOf kind (now (s .entry))))) (now (s .entry)) ⌝ }
 {
-    let found = examine_whole(kind, s);
+    let found = candidate::admit(origin, examine_whole(kind, s));
     match found {
         Examined::Unsound(refusal) => Read::Refused(refusal),
         Examined::Sound { header, start, len } => {

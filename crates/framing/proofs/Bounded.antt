@@ -140,21 +140,21 @@ module _ {K A : Type 0} (P : Protocol A) (B : Bounds K A) (suits : Suits P B) wh
 
   -- ---- what can be seen as a bounded reader
 
-  -- Demand 3 of any machine that can be seen as a bounded reader, from a state that is outside of a candidate: what the
-  -- array and the length are doesn't matter.
-  pub bounded-follows : {S : Type 0} (turnOf : S → Call → Turn S A) (seen : S → BoundedReader K)
-      → ((s : S) (c : Call) → (turnOf s c .answer ≡ boundedTurn P B (seen s) c .answer)
-      × (seen (turnOf s c .next) ≡ boundedTurn P B (seen s) c .next))
-      → (s : S) → length (seen s .bytes) ≡ B .capacity → seen s .mode ≡ outside
+  -- Demand 3 of any machine whose states of one sort can be seen as a bounded reader and stay of that sort, from a state
+  -- that is outside of a candidate: what the array and the length are doesn't matter.
+  pub bounded-follows : {S : Type 0} (sort : S → Type 0) (turnOf : S → Call → Turn S A) (seen : S → BoundedReader K)
+      → ((s : S) (c : Call) → sort s → (turnOf s c .answer ≡ boundedTurn P B (seen s) c .answer)
+      × (seen (turnOf s c .next) ≡ boundedTurn P B (seen s) c .next) × sort (turnOf s c .next))
+      → (s : S) → sort s → length (seen s .bytes) ≡ B .capacity → seen s .mode ≡ outside
       → Follows P (run (λ s c. turnOf s c .answer) (λ s c. turnOf s c .next) s)
-  bounded-follows turnOf seen same s e o =
-      follows P (λ s c. turnOf s c .answer) (λ s c. turnOf s c .next) (λ s k. StandsFor (seen s) k)
-      (λ s k c r. let q = call-at (seen s) k c r in (
-        same s c .0 ∙ q .0,
-        subst (λ (x : BoundedReader K). StandsFor x (candidateAfter P k c)) (sym (same s c .1))
-            (q .1),
+  bounded-follows sort turnOf seen same s h e o =
+      follows P (λ s c. turnOf s c .answer) (λ s c. turnOf s c .next) (λ s k. sort s × StandsFor (seen s) k)
+      (λ s k c r. let q = call-at (seen s) k c (r .1) in
+      let t = same s c (r .0) in (
+        t .0 ∙ q .0,
+        (t .2, subst (λ (x : BoundedReader K). StandsFor x (candidateAfter P k c)) (sym (t .1)) (q .1)),
       ))
-      s (e, subst (λ (m : BoundedMode K). StandsAt m (seen s .bytes) (seen s .len) none) (sym o) refl)
+      s (h, (e, subst (λ (m : BoundedMode K). StandsAt m (seen s .bytes) (seen s .len) none) (sym o) refl))
 
   -- Demand 3 of functions whose contracts say that each call on a state is one on the bounded reader that the state is
   -- seen as, from what is known of a new state.
@@ -168,7 +168,8 @@ module _ {K A : Type 0} (P : Protocol A) (B : Bounds K A) (suits : Suits P B) wh
     from-new : (s : S) → new s → (calls : List Call) → from (seen s) calls ≡ Reference P calls
     from-new s n calls =
         let o = new-outside s n in
-        bounded-follows (boundedTurn P B) (λ r. r) (λ r c. (refl, refl)) (seen s) (o .0) (o .1) .same calls
+        bounded-follows (λ r. Unit {0}) (boundedTurn P B) (λ r. r) (λ r c h. (refl, refl, tt)) (seen s) tt (o .0) (o .1) .same
+        calls
 
     pub bounded-demand-3 : Demand3 P (Answered called new)
     bounded-demand-3 =

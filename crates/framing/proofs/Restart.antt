@@ -1,7 +1,7 @@
 -- The reference decoder starts again at each start flag, and so does every machine that it simulates.
 use mathlib.Core.Path.{_≡_, refl, sym, ap, _∙_}
 use mathlib.Core.Logic.{_⊎_, inl, inr}
-use mathlib.Core.List.{List, [], _∷_, _++_, map}
+use mathlib.Core.List.{List, [], _∷_, _++_, map, append-assoc, append-nil}
 use native.Mathlib.Omega.{arith}
 use Prim.Native.Nat.{ℕ}
 use lib.ListN.{drop}
@@ -131,6 +131,29 @@ module _ {A : Type 0} (P : Protocol A) where
   }
 
   -- ---- after a candidate that was terminated, and after a finish
+
+  -- the bytes of an open candidate are answered with nothing
+  held-silently : (s body : List ℕ) (rest : List Call) → FlagFree (P .role) body
+      → from (opened s) (feed body ++ rest)
+      ≡ map (λ (b : ℕ). P .nothing) body ++ from (opened (s ++ body)) rest
+  held-silently s [] rest f =
+      ap (λ (t : List ℕ). from (opened t) rest) (sym (append-nil s))
+  held-silently s (b ∷ body) rest f =
+      rw (f .0) (ap (λ (xs : List A). P .nothing ∷ xs)
+      (held-silently (s ++ b ∷ []) body rest (f .1)
+      ∙ ap (λ (t : List ℕ). map (λ (b : ℕ). P .nothing) body ++ from (opened t) rest)
+      (append-assoc s (b ∷ []) body)))
+
+  -- A whole candidate is judged at its stop flag, and nothing is answered before it.
+  pub reference-candidate : (flag : ℕ) (body : List ℕ) (b : ℕ) → P .role flag ≡ starts → FlagFree (P .role) body
+      → P .role b ≡ stops
+      → Reference P (feed (flag ∷ (body ++ b ∷ [])))
+      ≡ P .nothing ∷ (map (λ (x : ℕ). P .nothing) body ++ P .judge (flag ∷ (body ++ b ∷ [])) ∷ [])
+  reference-candidate flag body b s f e =
+      rw s (ap (λ (xs : List A). P .nothing ∷ xs)
+      (ap (from (opened (flag ∷ []))) (feed-append body (b ∷ []))
+      ∙ held-silently (flag ∷ []) body (byte b ∷ []) f
+      ∙ ap (λ (xs : List A). map (λ (x : ℕ). P .nothing) body ++ xs) (rw e refl)))
 
   -- A call that leaves none open leaves the decoder as new; so does everything that answers as it does.
   pub as-new : (c : Call) → ((k : Candidate) → candidateAfter P k c ≡ none) → (f : List Call → List A)

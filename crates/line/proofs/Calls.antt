@@ -11,6 +11,7 @@ use Rattle.framing.specs.Reference.{Call, byte, finish}
 use Rattle.framing.specs.Demand3.{toldBy, Demand3}
 use Rattle.framing.proofs.Restart.{demand3-of, reference-told}
 use Rattle.line.specs.Outcome.{Outcome, Summary, summaryOf, outcomeOf, ValueAnswer, valueAnswerOf}
+use Rattle.frame.specs.declared.Origin.{Origin}
 use Rattle.line.specs.Rowing.{rowing}
 use Rattle.line.specs.Reader.{lentReader, turnOf, outcomeAt, lentOutcome, nextAfter, answerMeans, AsNew}
 use Rattle.line.specs.Reader.{LentStepIs}
@@ -28,9 +29,9 @@ use Rattle.line.proofs.finish_in.Reads as finish-in-reads
 
 -- ---- by value
 
--- A reader that `new` returned.
-abbrev pub Made : LineReader → Type 0
-Made r = new-reads.Learnt tt tt r tt
+-- A reader that `new` returned for an origin.
+abbrev pub Made : Origin → LineReader → Type 0
+Made o r = new-reads.Learnt tt (o, tt) r (o, tt)
 
 -- A call on a reader, its whole answer and the reader that it left, known by what the function's contract tells a
 -- caller.
@@ -45,17 +46,17 @@ pub called-turns : (r u : LineReader) (c : Call) (a : ValueAnswer) → Called r 
 called-turns r u c a (stepped s k) = (k .answer-is, k .next-is)
 called-turns r u c a (finished s k) = (k .answer-is, k .next-is)
 
--- Demand 3 of `new`, `step` and `finish`, whole: every answer, all 118 bytes of its array included, is the one that the
--- reference decoder's outcome is.
-pub demand-3 : Demand3 (toldBy valueAnswerOf rowing) (Answered Called Made)
-demand-3 =
-    demand3-of (toldBy valueAnswerOf rowing) (Answered Called Made)
+-- Demand 3 of `new`, `step` and `finish` at any origin, whole: every answer, all 118 bytes of its array included, is the
+-- one that the reference decoder's outcome is.
+pub demand-3 : (o : Origin) → Demand3 (toldBy valueAnswerOf (rowing o)) (Answered Called (Made o))
+demand-3 o =
+    demand3-of (toldBy valueAnswerOf (rowing o)) (Answered Called (Made o))
     (λ calls answers k.
     ran-run Called (λ r c. valueAnswerOf (outcomeAt r c)) nextAfter (λ r. r) called-turns (k .ran) .0
     ∙ run-told valueAnswerOf outcomeAt nextAfter (k .start) calls
     ∙ ap (λ (r : LineReader). map valueAnswerOf (run outcomeAt nextAfter r calls)) (k .made)
-    ∙ ap (map valueAnswerOf) (reader-follows .same calls)
-    ∙ reference-told valueAnswerOf rowing calls)
+    ∙ ap (map valueAnswerOf) (reader-follows o .same calls)
+    ∙ reference-told valueAnswerOf (rowing o) calls)
 
 -- ---- over a lent array
 
@@ -80,9 +81,9 @@ pub lent-turns : (r u : LineReader) (c : Call) (o : Outcome) → CalledLent r c 
 lent-turns r u c o (stepped-lent κs ρ ρ′ s k) = (lent-outcome (ρ′ .now) s r c k, k .next-is)
 lent-turns r u c o (finished-lent {bytes = bytes} s k) = (lent-outcome bytes s r c (k bytes), (k bytes) .next-is)
 
--- Demand 3 of `step_in` and `finish_in`, whole.
-pub lent-demand-3 : Demand3 rowing (Answered CalledLent AsNew)
-lent-demand-3 =
-    demand3-of rowing (Answered CalledLent AsNew)
+-- Demand 3 of `step_in` and `finish_in` at any origin, whole.
+pub lent-demand-3 : (o : Origin) → Demand3 (rowing o) (Answered CalledLent (AsNew o))
+lent-demand-3 o =
+    demand3-of (rowing o) (Answered CalledLent (AsNew o))
     (λ calls outcomes k. ran-run CalledLent outcomeAt nextAfter (λ r. r) lent-turns (k .ran) .0
-    ∙ as-new-follows (k .start) (k .made) .same calls)
+    ∙ as-new-follows o (k .start) (k .made) .same calls)

@@ -23,6 +23,7 @@ use Rattle.framing.proofs.Restart.{demand3-of}
 use Rattle.frame.specs.Flags.{roleOf}
 use Rattle.line.specs.Outcome.{Outcome, Summary, toldMeans, summaryOf, outcomeOf, ValueAnswer}
 use Rattle.line.specs.Reader.{ReaderTurn, lentReader, newReader, stepOf, outcomeAt, nextAfter, AsNew}
+use Rattle.frame.specs.declared.Origin.{Origin}
 use Rattle.line.specs.Rowing.{rowing}
 use Rattle.line.specs.Feed.{isAnswer, ChunkTurn, chunkTurn, laterBy, feedOf, cutChunk, chunkOf, ChunkIs, ChunkAnswerIs}
 use Rattle.line.specs.Chunks.{byByte, TakenToAnswer, AsSingly, TakesFirst}
@@ -84,9 +85,9 @@ module _ {M : Type 1} (𝓤 : URA M) (H : Heap 𝓤) (A : Atoms 𝓤) (mem : Mem
   feed-lent-asks κs ρ given = refl
 
 -- A lent reader that is left as it was does not meet it.
-pub feed-lent-moves : (a : ChunkAnswer) → FedLent newReader (0xF1 ∷ []) a newReader → ⊥
+pub feed-lent-moves : (o : Origin) (a : ChunkAnswer) → FedLent (newReader o) (0xF1 ∷ []) a (newReader o) → ⊥
 unfolding feedOf
-feed-lent-moves a k = false≢true (ap (λ (r : LineReader). isHeld (r .state .mode)) (k .next-is))
+feed-lent-moves o a k = false≢true (ap (λ (r : LineReader). isHeld (r .state .mode)) (k .next-is))
 
 -- ---- one call
 
@@ -172,8 +173,8 @@ chunks-alike t u =
     let s = ran-run CalledLent outcomeAt nextAfter (λ r. r) lent-turns u in
     (k .outcomes-are ∙ sym (s .0), k .reader-is ∙ sym (s .1))
 
--- Demand 3 of all of these calls, whole.
-pub chunks-demand-3 : Demand3 rowing (AnsweredBy CalledOn AsNew)
-chunks-demand-3 =
-    demand3-of rowing (AnsweredBy CalledOn AsNew)
-    (λ calls outcomes k. chunks-singly (k .ran) .outcomes-are ∙ as-new-follows (k .start) (k .made) .same calls)
+-- Demand 3 of all of these calls at any origin, whole.
+pub chunks-demand-3 : (o : Origin) → Demand3 (rowing o) (AnsweredBy CalledOn (AsNew o))
+chunks-demand-3 o =
+    demand3-of (rowing o) (AnsweredBy CalledOn (AsNew o))
+    (λ calls outcomes k. chunks-singly (k .ran) .outcomes-are ∙ as-new-follows o (k .start) (k .made) .same calls)

@@ -1,4 +1,5 @@
--- Bounds on what bytes that were fed give: a frame's contents fit between two flags, and the length held stays short.
+-- What every chunk that was fed leaves within bounds: a frame's contents fit between two flags, the length held stays
+-- short, and the origin stays.
 use mathlib.Core.Path.{_≡_, refl}
 use mathlib.Core.Bool.{Bool, true, false}
 use mathlib.Core.List.{List, [], _∷_}
@@ -14,49 +15,55 @@ use Rattle.framing.specs.Bounded.{BoundedMode, outside, inside, overlong, trunc
 use Rattle.frame.specs.Flags.{roleOf, candidateOf}
 use Rattle.frame.specs.Frame.{standard, extended, contentsOf}
 use Rattle.frame.specs.Verdict.{Verdict, verdict}
+use Rattle.frame.specs.Origin.{admit}
 use Rattle.answer.specs.Answer.{refused, result}
 use Rattle.frame.specs.Answers.{judgeAnswer}
+use Rattle.frame.specs.declared.Origin.{Origin}
 use Rattle.frame.specs.declared.Kind.{Kind}
 use Rattle.frame.proofs.ContentsLaws.{accepted-short}
+use Rattle.frame.proofs.OriginLaws.{admit-means}
 use Rattle.line.specs.Rowing.{rowing, rowingBounds}
 use Rattle.line.specs.Outcome.{summaryOf, tells, ContentsFit}
-use Rattle.line.specs.Reader.{ReaderTurn, modeSeen, roleStep, stepOf, finishOf}
+use Rattle.line.specs.Reader.{ReaderTurn, originOf, modeSeen, roleStep, stepOf, finishOf}
 use Rattle.line.specs.Feed.{isAnswer, ChunkTurn, chunkTurn, laterBy, feedOf}
 use Rattle.line.specs.declared.LineReader.{LineReader}
 
 -- ---- contents
 
--- The contents of a slice that is accepted are at most the bytes that may stand between flags.
-verdict-within : (w : List ℕ) → ContentsFit 118 (tells (judgeAnswer (verdict w)))
-unfolding judgeAnswer contentsOf
-verdict-within w = fits (verdict w) refl
-  where
-    fits : (v : Verdict) → verdict w ≡ v → ContentsFit 118 (tells (judgeAnswer v))
-    fits (refused n) e = tt
-    fits (result (standard c)) e = omega (arith, accepted-short w (standard c) e)
-    fits (result (extended to from c)) e = omega (arith, accepted-short w (extended to from c) e)
+module _ (o : Origin) where
+  -- The contents of a slice that is accepted are at most the bytes that may stand between flags.
+  verdict-within : (w : List ℕ) → ContentsFit 118 (tells (judgeAnswer (admit o (verdict w))))
+  unfolding judgeAnswer contentsOf
+  verdict-within w = fits (admit o (verdict w)) refl
+    where
+      fits : (v : Verdict) → admit o (verdict w) ≡ v → ContentsFit 118 (tells (judgeAnswer v))
+      fits (refused n) e = tt
+      fits (result (standard c)) e = omega (arith, accepted-short w (standard c) (admit-means o (verdict w) _ e .0))
+      fits (result (extended to from c)) e =
+          omega (arith, accepted-short w (extended to from c) (admit-means o (verdict w) _ e .0))
 
--- Truncation tells of no contents.
-truncated-within : (m : BoundedMode Kind) → ContentsFit 118 (summaryOf (truncatedIn rowing rowingBounds m))
-unfolding judgeAnswer
-truncated-within outside = tt
-truncated-within (inside kind) = tt
-truncated-within overlong = tt
+  -- Truncation tells of no contents.
+  truncated-within : (m : BoundedMode Kind)
+      → ContentsFit 118 (summaryOf (truncatedIn (rowing o) (rowingBounds o) m))
+  unfolding judgeAnswer
+  truncated-within outside = tt
+  truncated-within (inside kind) = tt
+  truncated-within overlong = tt
 
-terminated-within : (m : BoundedMode Kind) (bytes : List ℕ) (len : ℕ)
-    → ContentsFit 118 (summaryOf (terminatedIn rowing rowingBounds m bytes len))
-unfolding judgeAnswer
-terminated-within outside bytes len = tt
-terminated-within (inside kind) bytes len = verdict-within (candidateOf kind (take len bytes))
-terminated-within overlong bytes len = tt
+  terminated-within : (m : BoundedMode Kind) (bytes : List ℕ) (len : ℕ)
+      → ContentsFit 118 (summaryOf (terminatedIn (rowing o) (rowingBounds o) m bytes len))
+  unfolding judgeAnswer
+  terminated-within outside bytes len = tt
+  terminated-within (inside kind) bytes len = verdict-within (candidateOf kind (take len bytes))
+  terminated-within overlong bytes len = tt
 
 byte-within : (r : LineReader) (b : ℕ) (ρ : Role) → ContentsFit 118 (summaryOf (roleStep ρ r b .answer))
-byte-within r b starts = truncated-within (modeSeen (r .state .mode))
-byte-within r b stops = terminated-within (modeSeen (r .state .mode)) (r .bytes) (r .state .len)
+byte-within r b starts = truncated-within (originOf r) (modeSeen (r .state .mode))
+byte-within r b stops = terminated-within (originOf r) (modeSeen (r .state .mode)) (r .bytes) (r .state .len)
 byte-within r b plain = tt
 
 pub finish-within : (r : LineReader) → ContentsFit 118 (summaryOf (finishOf r .answer))
-finish-within r = truncated-within (modeSeen (r .state .mode))
+finish-within r = truncated-within (originOf r) (modeSeen (r .state .mode))
 
 -- The contents of a frame that is told are at most 118 bytes.
 pub feed-within : (r : LineReader) (s : List ℕ) → ContentsFit 118 (summaryOf (feedOf r s .answer))
@@ -75,18 +82,18 @@ feed-within r (b ∷ s) =
 -- ---- the length held
 
 module _ (limit : ℕ) (roomy : 118 < limit) where
-  grown-len : (m : BoundedMode Kind) (bytes : List ℕ) (len b : ℕ) → len < limit
-      → grownIn rowing rowingBounds m bytes len b .len < limit
-  grown-len outside bytes len b h = h
-  grown-len (inside kind) bytes len b h =
+  grown-len : (o : Origin) (m : BoundedMode Kind) (bytes : List ℕ) (len b : ℕ) → len < limit
+      → grownIn (rowing o) (rowingBounds o) m bytes len b .len < limit
+  grown-len o outside bytes len b h = h
+  grown-len o (inside kind) bytes len b h =
       by-bool (ltb len 118) (λ y. simp y (omega (arith, ltb-true len 118 y, roomy)))
       (λ y. simp y (omega (arith, roomy)))
-  grown-len overlong bytes len b h = h
+  grown-len o overlong bytes len b h = h
 
   byte-len : (r : LineReader) (b : ℕ) → r .state .len < limit → (ρ : Role) → roleStep ρ r b .next .state .len < limit
   byte-len r b h starts = omega (arith, roomy)
   byte-len r b h stops = omega (arith, roomy)
-  byte-len r b h plain = grown-len (modeSeen (r .state .mode)) (r .bytes) (r .state .len) b h
+  byte-len r b h plain = grown-len (originOf r) (modeSeen (r .state .mode)) (r .bytes) (r .state .len) b h
 
   -- A length below a limit above 118 stays below it.
   pub feed-len : (r : LineReader) (s : List ℕ) → r .state .len < limit → feedOf r s .next .state .len < limit
@@ -102,3 +109,19 @@ module _ (limit : ℕ) (roomy : 118 < limit) where
           → pick q (chunkTurn (t .answer) (t .next) 1) (laterBy 1 f) .next .state .len < limit
       by-answer true t h f k = h
       by-answer false t h f k = k
+
+-- ---- the origin
+
+-- Bytes that were fed leave a reader of the origin that it had.
+pub feed-origin : (r : LineReader) (s : List ℕ) → originOf (feedOf r s .next) ≡ originOf r
+unfolding feedOf
+feed-origin r [] = refl
+feed-origin r (b ∷ s) =
+    by-answer (isAnswer (stepOf r b .answer)) (stepOf r b) refl (feedOf (stepOf r b .next) s)
+    (feed-origin (stepOf r b .next) s)
+  where
+    by-answer : (q : Bool) (t : ReaderTurn) → originOf (t .next) ≡ originOf r → (f : ChunkTurn)
+        → originOf (f .next) ≡ originOf r
+        → originOf (pick q (chunkTurn (t .answer) (t .next) 1) (laterBy 1 f) .next) ≡ originOf r
+    by-answer true t h f k = h
+    by-answer false t h f k = k

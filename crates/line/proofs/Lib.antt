@@ -3,6 +3,8 @@ pub mod Follows
 pub mod ValueLaws
 pub mod Calls
 pub mod Consequences
+pub mod Origins
+pub mod WrittenTold
 pub mod FeedLaws
 pub mod FeedBounds
 pub mod RunLaws

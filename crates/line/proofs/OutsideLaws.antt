@@ -11,6 +11,7 @@ use Rattle.lists.specs.Machine.{turn}
 use Rattle.lists.proofs.Cases.{by-bool}
 use Rattle.framing.specs.Reference.{Role, starts, stops, plain}
 use Rattle.frame.specs.Flags.{roleOf, isStart}
+use Rattle.frame.specs.declared.Origin.{Origin}
 use Rattle.frame.proofs.FlagLaws.{isStarts, role-tests}
 use Rattle.line.specs.Outcome.{nothing}
 use Rattle.line.specs.Reader.{ReaderTurn, reader, roleStep, stepOf}
@@ -19,9 +20,9 @@ use Rattle.line.specs.declared.LineReader.{LineReader}
 use Rattle.line.specs.declared.Mode.the-variants.{Outside}
 use Rattle.line.proofs.FeedLaws.{fromTurn, plus-zero, plus-plus}
 
-module _ (bytes : List ℕ) where
+module _ (o : Origin) (bytes : List ℕ) where
   abbrev outside : LineReader
-  outside = reader bytes 0 Outside
+  outside = reader o bytes 0 Outside
 
   -- a stop flag does so too
   no-start : (b : ℕ) → isStart b ≡ false → stepOf outside b ≡ turn nothing outside

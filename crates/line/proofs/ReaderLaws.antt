@@ -8,12 +8,14 @@ use lib.ListN.{set}
 use Rattle.lists.specs.Choice.{pick}
 use Rattle.lists.specs.Machine.{turn}
 use Rattle.framing.specs.Reference.{Call, byte, finish, plain}
-use Rattle.framing.specs.Bounded.{BoundedMode, outside, inside, overlong, BoundedReader, bounded, boundedTurn}
+use Rattle.framing.specs.Bounded.{BoundedMode, outside, inside, overlong, BoundedReader, bounded, truncatedIn}
+use Rattle.framing.specs.Bounded.{boundedTurn}
+use Rattle.frame.specs.declared.Origin.{Origin}
 use Rattle.frame.specs.declared.Kind.{Kind}
 use Rattle.frame.specs.declared.Kind.the-variants.{Standard, Extended}
 use Rattle.line.specs.Outcome.{nothing, capacity}
 use Rattle.line.specs.Rowing.{rowing, rowingBounds}
-use Rattle.line.specs.Reader.{lentReader, reader, modeSeen, modeIn, seen, readerSeen, roleStep, turnOf}
+use Rattle.line.specs.Reader.{lentReader, reader, originOf, modeSeen, modeIn, seen, readerSeen, roleStep, turnOf}
 use Rattle.line.specs.Reader.{LentStepIs}
 use Rattle.line.specs.Private.{withByte, isHeld}
 use Rattle.line.specs.declared.State.{State}
@@ -30,31 +32,52 @@ mode-again (inside Standard) = refl
 mode-again (inside Extended) = refl
 mode-again overlong = refl
 
-pub seen-again : (r : BoundedReader Kind) → seen (readerSeen r) ≡ r
-seen-again r = ap (bounded (r .bytes) (r .len)) (mode-again (r .mode))
+pub seen-again : (o : Origin) (r : BoundedReader Kind) → seen (readerSeen o r) ≡ r
+seen-again o r = ap (bounded (r .bytes) (r .len)) (mode-again (r .mode))
 
--- Each call on the line reader, whatever its fields are, is the call on the bounded reader.
-pub call-seen : (r : LineReader) (c : Call)
-    → (turnOf r c .answer ≡ boundedTurn rowing rowingBounds (seen r) c .answer)
-    × (seen (turnOf r c .next) ≡ boundedTurn rowing rowingBounds (seen r) c .next)
-call-seen r (byte b) = (refl, seen-again (boundedTurn rowing rowingBounds (seen r) (byte b) .next))
-call-seen r finish = (refl, seen-again (boundedTurn rowing rowingBounds (seen r) finish .next))
+-- Every call keeps the reader's origin.
+pub origin-kept : (r : LineReader) (c : Call) → originOf (turnOf r c .next) ≡ originOf r
+origin-kept r (byte b) = refl
+origin-kept r finish = refl
+
+-- Each call on a line reader of an origin, whatever its other fields are, is the call on the bounded reader.
+pub call-seen : (o : Origin) (r : LineReader) (c : Call) → originOf r ≡ o
+    → (turnOf r c .answer ≡ boundedTurn (rowing o) (rowingBounds o) (seen r) c .answer)
+    × (seen (turnOf r c .next) ≡ boundedTurn (rowing o) (rowingBounds o) (seen r) c .next)
+    × (originOf (turnOf r c .next) ≡ o)
+call-seen o r c e =
+    subst (λ (p : Origin). (turnOf r c .answer ≡ boundedTurn (rowing p) (rowingBounds p) (seen r) c .answer)
+    × (seen (turnOf r c .next) ≡ boundedTurn (rowing p) (rowingBounds p) (seen r) c .next)
+    × (originOf (turnOf r c .next) ≡ p)) e (own c)
+  where
+    own : (c : Call) → (turnOf r c .answer ≡ boundedTurn (rowing (originOf r)) (rowingBounds (originOf r)) (seen r) c .answer)
+        × (seen (turnOf r c .next) ≡ boundedTurn (rowing (originOf r)) (rowingBounds (originOf r)) (seen r) c .next)
+        × (originOf (turnOf r c .next) ≡ originOf r)
+    own (byte b) = (refl, seen-again (originOf r) _, refl)
+    own finish = (refl, seen-again (originOf r) _, refl)
+
+-- Truncation is told alike at every origin.
+pub truncated-alike : (o p : Origin) (m : BoundedMode Kind)
+    → truncatedIn (rowing o) (rowingBounds o) m ≡ truncatedIn (rowing p) (rowingBounds p) m
+truncated-alike o p outside = refl
+truncated-alike o p (inside kind) = refl
+truncated-alike o p overlong = refl
 
 -- ---- a byte that is no flag
 
-by-capacity : (t : Bool) (kind : Kind) (bytes : List ℕ) (len b : ℕ)
-    → readerSeen (pick t (bounded (set bytes len b) (len + 1) (inside kind)) (bounded bytes 0 overlong))
-    ≡ pick t (reader (set bytes len b) (len + 1) (modeIn (inside kind))) (reader bytes 0 Overlong)
-by-capacity true kind bytes len b = refl
-by-capacity false kind bytes len b = refl
+by-capacity : (t : Bool) (o : Origin) (kind : Kind) (bytes : List ℕ) (len b : ℕ)
+    → readerSeen o (pick t (bounded (set bytes len b) (len + 1) (inside kind)) (bounded bytes 0 overlong))
+    ≡ pick t (reader o (set bytes len b) (len + 1) (modeIn (inside kind))) (reader o bytes 0 Overlong)
+by-capacity true o kind bytes len b = refl
+by-capacity false o kind bytes len b = refl
 
 -- It is held in a candidate that may still be a frame.
-pub held-byte : (m : Mode) (bytes : List ℕ) (len b : ℕ) → isHeld m ≡ true
-    → roleStep plain (reader bytes len m) b .next ≡ withByte (reader bytes len m) b
-held-byte Outside bytes len b h = absurd (false≢true h)
-held-byte InStandard bytes len b h = by-capacity (ltb len capacity) Standard bytes len b
-held-byte InExtended bytes len b h = by-capacity (ltb len capacity) Extended bytes len b
-held-byte Overlong bytes len b h = absurd (false≢true h)
+pub held-byte : (o : Origin) (m : Mode) (bytes : List ℕ) (len b : ℕ) → isHeld m ≡ true
+    → roleStep plain (reader o bytes len m) b .next ≡ withByte (reader o bytes len m) b
+held-byte o Outside bytes len b h = absurd (false≢true h)
+held-byte o InStandard bytes len b h = by-capacity (ltb len capacity) o Standard bytes len b
+held-byte o InExtended bytes len b h = by-capacity (ltb len capacity) o Extended bytes len b
+held-byte o Overlong bytes len b h = absurd (false≢true h)
 
 pub held-step : (bytes : List ℕ) (state : State) (b : ℕ) (left : List ℕ) (s : LentStep) (m : Mode) → isHeld m ≡ true
     → state .mode ≡ m
@@ -62,12 +85,12 @@ pub held-step : (bytes : List ℕ) (state : State) (b : ℕ) (left : List ℕ) (
     → LentStepIs left s (roleStep plain (lentReader bytes state) b)
 held-step bytes state b left s m h e k =
     subst (λ (r : LineReader). LentStepIs left s (turn nothing r))
-    (sym (held-byte (state .mode) bytes (state .len) b (ap isHeld e ∙ h))) k
+    (sym (held-byte (state .origin) (state .mode) bytes (state .len) b (ap isHeld e ∙ h))) k
 
 -- Anywhere else it changes nothing.
-pub unheld-byte : (m : Mode) (bytes : List ℕ) (len b : ℕ) → isHeld m ≡ false
-    → roleStep plain (reader bytes len m) b .next ≡ reader bytes len m
-unheld-byte Outside bytes len b h = refl
-unheld-byte InStandard bytes len b h = absurd (true≢false h)
-unheld-byte InExtended bytes len b h = absurd (true≢false h)
-unheld-byte Overlong bytes len b h = refl
+pub unheld-byte : (o : Origin) (m : Mode) (bytes : List ℕ) (len b : ℕ) → isHeld m ≡ false
+    → roleStep plain (reader o bytes len m) b .next ≡ reader o bytes len m
+unheld-byte o Outside bytes len b h = refl
+unheld-byte o InStandard bytes len b h = absurd (true≢false h)
+unheld-byte o InExtended bytes len b h = absurd (true≢false h)
+unheld-byte o Overlong bytes len b h = refl

@@ -19,7 +19,8 @@ use Rattle.framing.specs.Reference.{Role, plain}
 use Rattle.frame.specs.Flags.{isFlag}
 use Rattle.frame.proofs.FlagLaws.{no-flag}
 use Rattle.line.specs.Outcome.{capacity}
-use Rattle.line.specs.Reader.{reader, roleStep}
+use Rattle.frame.specs.declared.Origin.{Origin}
+use Rattle.line.specs.Reader.{originOf, reader, roleStep}
 use Rattle.line.specs.Feed.{laterBy, feedOf}
 use Rattle.line.specs.Private.{isHeld, afterRun, Reaches}
 use Rattle.line.specs.declared.LineReader.{LineReader}
@@ -99,42 +100,42 @@ pub unheld-run : (r : LineReader) → isHeld (r .state .mode) ≡ false → (run
 unheld-run r h [] = refl
 unheld-run r h (b ∷ run) =
     unheld-run r h run
-    ∙ ap (λ (u : LineReader). afterRun u run) (sym (unheld-byte (r .state .mode) (r .bytes) (r .state .len) b h))
+    ∙ ap (λ (u : LineReader). afterRun u run) (sym (unheld-byte (originOf r) (r .state .mode) (r .bytes) (r .state .len) b h))
 
-module _ (m : Mode) (h : isHeld m ≡ true) where
+module _ (o : Origin) (m : Mode) (h : isHeld m ≡ true) where
   -- where they are, and there is room for them
   pub held-run : (run bytes : List ℕ) (len : ℕ) → length bytes ≡ capacity → len + length run ≤ capacity
-      → afterRun (reader bytes len m) run ≡ reader (splice bytes len run) (len + length run) m
+      → afterRun (reader o bytes len m) run ≡ reader o (splice bytes len run) (len + length run) m
   held-run [] bytes len a room =
-      sym (ap₂ (λ (l : List ℕ) (n : ℕ). reader l n m) (splice-nil bytes len) (add-zero len))
+      sym (ap₂ (λ (l : List ℕ) (n : ℕ). reader o l n m) (splice-nil bytes len) (add-zero len))
   held-run (b ∷ run) bytes len a room =
       let n : len + 1 + length run ≡ len + suc (length run) = omega arith in
       ap (λ (u : LineReader). afterRun u run)
-      (held-byte m bytes len b h ∙ simp (lt-ltb len capacity (omega arith)))
+      (held-byte o m bytes len b h ∙ simp (lt-ltb len capacity (omega arith)))
       ∙ held-run run (set bytes len b) (len + 1) (length-set bytes len b ∙ a) (omega arith)
-      ∙ ap₂ (λ (l : List ℕ) (k : ℕ). reader l k m)
+      ∙ ap₂ (λ (l : List ℕ) (k : ℕ). reader o l k m)
       (ap (λ (l : List ℕ). splice l (len + 1) run) (set-splice bytes len b (omega arith))
       ∙ splice-splice bytes len (b ∷ []) (omega arith) run) n
 
   -- where there is no room for any
   pub full-run : (run bytes : List ℕ) (len : ℕ) → capacity ≤ len → 0 < length run
-      → reader bytes 0 Overlong ≡ afterRun (reader bytes len m) run
+      → reader o bytes 0 Overlong ≡ afterRun (reader o bytes len m) run
   full-run [] bytes len full some = absurd (omega arith)
   full-run (b ∷ run) bytes len full some =
-      unheld-run (reader bytes 0 Overlong) refl run
-      ∙ ap (λ (u : LineReader). afterRun u run) (sym (held-byte m bytes len b h ∙ simp (le-ltb len capacity full)))
+      unheld-run (reader o bytes 0 Overlong) refl run
+      ∙ ap (λ (u : LineReader). afterRun u run) (sym (held-byte o m bytes len b h ∙ simp (le-ltb len capacity full)))
 
   -- as the code copies them, all or those that there is room for
   pub kept-all : (run bytes left : List ℕ) (len : ℕ) → length bytes ≡ capacity → len < capacity
       → length run ≤ capacity - len → left ≡ copied bytes len run
-      → reader left (len + length run) m ≡ afterRun (reader bytes len m) run
+      → reader o left (len + length run) m ≡ afterRun (reader o bytes len m) run
   kept-all run bytes left len a below l e =
-      ap (λ (x : List ℕ). reader x (len + length run) m) (copied-fits run bytes left len (omega arith) e)
+      ap (λ (x : List ℕ). reader o x (len + length run) m) (copied-fits run bytes left len (omega arith) e)
       ∙ sym (held-run run bytes len a (omega arith))
 
   pub kept-first : (run bytes left : List ℕ) (len : ℕ) → length bytes ≡ capacity → len < capacity
       → capacity - len < length run → left ≡ copied bytes len (take (capacity - len) run)
-      → reader left 0 Overlong ≡ afterRun (reader bytes len m) run
+      → reader o left 0 Overlong ≡ afterRun (reader o bytes len m) run
   kept-first run bytes left len a below l e =
       let room = capacity - len in
       let first = take room run in
@@ -142,5 +143,5 @@ module _ (m : Mode) (h : isHeld m ≡ true) where
       full-run (drop room run) left (len + length first) (omega arith) (omega (arith, length-drop room run))
       ∙ ap (λ (u : LineReader). afterRun u (drop room run))
       (kept-all first bytes left len a below (omega arith) e)
-      ∙ sym (left-append (λ (u : LineReader) (b : ℕ). roleStep plain u b .next) (reader bytes len m) first (drop room run))
-      ∙ ap (afterRun (reader bytes len m)) (take-append-drop room run)
+      ∙ sym (left-append (λ (u : LineReader) (b : ℕ). roleStep plain u b .next) (reader o bytes len m) first (drop room run))
+      ∙ ap (afterRun (reader o bytes len m)) (take-append-drop room run)

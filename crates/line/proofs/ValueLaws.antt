@@ -16,42 +16,47 @@ use Rattle.framing.specs.Bounded.{BoundedMode, outside, inside, overlong, trunc
 use Rattle.frame.specs.Flags.{roleOf, candidateOf}
 use Rattle.frame.specs.Frame.{standard, extended, contentsOf}
 use Rattle.frame.specs.Verdict.{verdict}
+use Rattle.frame.specs.Origin.{admit}
 use Rattle.frame.specs.Answers.{judgeAnswer, frameRead}
+use Rattle.frame.specs.declared.Origin.{Origin}
 use Rattle.frame.specs.declared.Kind.{Kind}
 use Rattle.frame.proofs.ContentsLaws.{left-whole}
 use Rattle.line.specs.Outcome.{Outcome, nothing, judged, summaryOf, outcomeOf, capacity, padded, contentsTold}
 use Rattle.line.specs.Outcome.{valueAnswerOf}
 use Rattle.line.specs.Rowing.{rowing, rowingBounds}
-use Rattle.line.specs.Reader.{modeSeen, roleStep, turnOf}
+use Rattle.line.specs.Reader.{originOf, modeSeen, roleStep, turnOf}
 use Rattle.line.specs.Private.{Whole, besideTold}
 use Rattle.line.specs.declared.LineReader.{LineReader}
 
 -- ---- the enum and the array that is left
 
-truncated-whole : (m : BoundedMode Kind) (bytes : List ℕ)
-    → outcomeOf (summaryOf (truncatedIn rowing rowingBounds m)) bytes ≡ truncatedIn rowing rowingBounds m
-unfolding judgeAnswer frameRead
-truncated-whole outside bytes = refl
-truncated-whole (inside kind) bytes = refl
-truncated-whole overlong bytes = refl
+module _ (o : Origin) where
+  truncated-whole : (m : BoundedMode Kind) (bytes : List ℕ)
+      → outcomeOf (summaryOf (truncatedIn (rowing o) (rowingBounds o) m)) bytes
+      ≡ truncatedIn (rowing o) (rowingBounds o) m
+  unfolding judgeAnswer frameRead
+  truncated-whole outside bytes = refl
+  truncated-whole (inside kind) bytes = refl
+  truncated-whole overlong bytes = refl
 
-terminated-whole : (m : BoundedMode Kind) (bytes : List ℕ) (len : ℕ)
-    → outcomeOf (summaryOf (terminatedIn rowing rowingBounds m bytes len)) (leftByStop rowing rowingBounds m bytes len)
-    ≡ terminatedIn rowing rowingBounds m bytes len
-unfolding judgeAnswer frameRead
-terminated-whole outside bytes len = refl
-terminated-whole (inside kind) bytes len =
-    ap judged (left-whole (verdict (candidateOf kind (take len bytes))) bytes)
-terminated-whole overlong bytes len = refl
+  terminated-whole : (m : BoundedMode Kind) (bytes : List ℕ) (len : ℕ)
+      → outcomeOf (summaryOf (terminatedIn (rowing o) (rowingBounds o) m bytes len))
+      (leftByStop (rowing o) (rowingBounds o) m bytes len)
+      ≡ terminatedIn (rowing o) (rowingBounds o) m bytes len
+  unfolding judgeAnswer frameRead
+  terminated-whole outside bytes len = refl
+  terminated-whole (inside kind) bytes len =
+      ap judged (left-whole (admit o (verdict (candidateOf kind (take len bytes)))) bytes)
+  terminated-whole overlong bytes len = refl
 
 pub byte-whole : (r : LineReader) (b : ℕ) (ρ : Role) → Whole (roleStep ρ r b)
-byte-whole r b starts = truncated-whole (modeSeen (r .state .mode)) (r .bytes)
-byte-whole r b stops = terminated-whole (modeSeen (r .state .mode)) (r .bytes) (r .state .len)
+byte-whole r b starts = truncated-whole (originOf r) (modeSeen (r .state .mode)) (r .bytes)
+byte-whole r b stops = terminated-whole (originOf r) (modeSeen (r .state .mode)) (r .bytes) (r .state .len)
 byte-whole r b plain = refl
 
 pub call-whole : (r : LineReader) (c : Call) → Whole (turnOf r c)
 call-whole r (byte b) = byte-whole r b (roleOf b)
-call-whole r finish = truncated-whole (modeSeen (r .state .mode)) (r .bytes)
+call-whole r finish = truncated-whole (originOf r) (modeSeen (r .state .mode)) (r .bytes)
 
 -- ---- the array beside an answer
 

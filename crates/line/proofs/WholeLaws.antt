@@ -2,7 +2,7 @@
 -- read into the array leaves there.
 use mathlib.Core.Path.{_≡_, refl, sym, ap, ap₂, _∙_, subst}
 use mathlib.Core.Bool.{true}
-use mathlib.Core.List.{List, _∷_, _++_, append-assoc}
+use mathlib.Core.List.{List, [], _∷_, _++_, append-assoc}
 use native.Mathlib.Omega.{arith}
 use lib.Dec.{leb, ltb}
 use lib.ListN.{length, getD, take, drop, length-drop, length-append}
@@ -20,12 +20,15 @@ use Rattle.answer.specs.Draft.{draftOut}
 use Rattle.frame.specs.Flags.{startFlag, stopFlag, isStart, isFlag, candidateOf}
 use Rattle.frame.specs.Frame.{Frame, standard, extended, contentsOf}
 use Rattle.frame.specs.Verdict.{Verdict, verdict, bodyOf}
+use Rattle.frame.specs.Origin.{admit}
 use Rattle.frame.specs.Leading.{isStopAt, leadingCount}
 use Rattle.frame.specs.Answers.{FrameOutline, judgeAnswer, readAnswer, readOut, leftIn}
+use Rattle.frame.specs.declared.Origin.{Origin}
 use Rattle.frame.specs.declared.Kind.{Kind}
 use Rattle.frame.specs.declared.Kind.the-variants.{Standard, Extended}
 use Rattle.frame.proofs.VerdictLaws.{whole-body}
 use Rattle.frame.proofs.ContentsLaws.{accepted-shrinks}
+use Rattle.frame.proofs.OriginLaws.{admit-refused, admit-means}
 use Rattle.frame.proofs.LeadingLaws.{leadingKind, leadingBody, leadingRest, leads, leading-clear}
 use Rattle.frame.proofs.LeadingLaws.{leading-count, leading-wire, leading-some, verdict-none}
 use Rattle.line.specs.Outcome.{judged, capacity, toldMeans, summaryOf}
@@ -43,27 +46,33 @@ use Rattle.line.proofs.RunLaws.{feed-run, held-run}
 
 -- ---- a slice that is read into the array
 
+-- the contents of a frame that is accepted at an origin, and the bytes between its flags
+shrinks-at : (o : Origin) (w : List ℕ) (f : Frame) → admit o (verdict w) ≡ result f
+    → (length (contentsOf f) < length (bodyOf w)) × (length (bodyOf w) ≤ 118)
+shrinks-at o w f e = accepted-shrinks w f (admit-means o (verdict w) f e .0)
+
 -- There is room for the contents, so reading answers what judging does.
-pub read-judges : (w : List ℕ) (room : ℕ) → capacity ≤ room → readAnswer (verdict w) room ≡ judgeAnswer (verdict w)
+pub read-judges : (o : Origin) (w : List ℕ) (room : ℕ) → capacity ≤ room
+    → readAnswer (admit o (verdict w)) room ≡ judgeAnswer (admit o (verdict w))
 unfolding readAnswer judgeAnswer
-read-judges w room h = of-verdict (verdict w) refl
+read-judges o w room h = of-verdict (admit o (verdict w)) refl
   where
-    of-verdict : (v : Verdict) → verdict w ≡ v → readAnswer v room ≡ judgeAnswer v
+    of-verdict : (v : Verdict) → admit o (verdict w) ≡ v → readAnswer v room ≡ judgeAnswer v
     of-verdict (refused n) e = refl
     of-verdict (result f) e =
-        let k = accepted-shrinks w f e in
+        let k = shrinks-at o w f e in
         let l : length (contentsOf f) ≤ room = omega (arith, k .0, k .1) in
         simp (le-leb (length (contentsOf f)) room l)
 
 -- The contents are no more than the bytes between the flags.
-pub count-inside : (w : List ℕ) → contentsCount (judgeAnswer (verdict w)) ≤ length (bodyOf w)
+pub count-inside : (o : Origin) (w : List ℕ) → contentsCount (judgeAnswer (admit o (verdict w))) ≤ length (bodyOf w)
 unfolding judgeAnswer contentsOf
-count-inside w = of-verdict (verdict w) refl
+count-inside o w = of-verdict (admit o (verdict w)) refl
   where
-    of-verdict : (v : Verdict) → verdict w ≡ v → contentsCount (judgeAnswer v) ≤ length (bodyOf w)
+    of-verdict : (v : Verdict) → admit o (verdict w) ≡ v → contentsCount (judgeAnswer v) ≤ length (bodyOf w)
     of-verdict (refused n) e = omega arith
-    of-verdict (result (standard c)) e = omega (arith, accepted-shrinks w (standard c) e .0)
-    of-verdict (result (extended to from c)) e = omega (arith, accepted-shrinks w (extended to from c) e .0)
+    of-verdict (result (standard c)) e = omega (arith, shrinks-at o w (standard c) e .0)
+    of-verdict (result (extended to from c)) e = omega (arith, shrinks-at o w (extended to from c) e .0)
 
 count-of : (f : Frame) → contentsCount (judgeAnswer (result f)) ≡ length (contentsOf f)
 unfolding judgeAnswer contentsOf
@@ -100,15 +109,15 @@ left-filled (result f) out body last n e i h k =
 body-count : (w : List ℕ) → 2 ≤ length w → length (bodyOf w) ≡ length w - 2
 body-count w h = length-take-le (length w - 2) (drop 1 w) (omega (arith, length-drop 1 w))
 
--- the call that reads a slice w, by what it answers and how many contents bytes that tells of
-module _ (w bytes : List ℕ) (some : 2 ≤ length w) (short : length w ≤ 120) (array : length bytes ≡ capacity)
-    (a : Answer FrameOutline) (answers : a ≡ readAnswer (verdict w) (length bytes)) (n : ℕ)
-    (counts : n ≡ contentsCount a) where
-  pub slice-judged : a ≡ judgeAnswer (verdict w)
-  slice-judged = answers ∙ read-judges w (length bytes) (omega arith)
+-- the call that reads a slice w of an origin, by what it answers and how many contents bytes that tells of
+module _ (o : Origin) (w bytes : List ℕ) (some : 2 ≤ length w) (short : length w ≤ 120)
+    (array : length bytes ≡ capacity) (a : Answer FrameOutline)
+    (answers : a ≡ readAnswer (admit o (verdict w)) (length bytes)) (n : ℕ) (counts : n ≡ contentsCount a) where
+  pub slice-judged : a ≡ judgeAnswer (admit o (verdict w))
+  slice-judged = answers ∙ read-judges o w (length bytes) (omega arith)
 
   body-counts : n ≤ length (bodyOf w)
-  body-counts = omega (arith, counts, ap contentsCount slice-judged, count-inside w)
+  body-counts = omega (arith, counts, ap contentsCount slice-judged, count-inside o w)
 
   pub slice-inside : n + 2 ≤ length w
   slice-inside = omega (arith, body-counts, body-count w some)
@@ -124,10 +133,10 @@ module _ (w bytes : List ℕ) (some : 2 ≤ length w) (short : length w ≤ 120)
       ∙ sym (drop-take n k (drop 1 w) (omega (arith, slice-inside, length-drop 1 w)))
       ∙ ap (λ (x : ℕ). drop n (take x (drop 1 w))) i
 
-  pub slice-left : (read last : List ℕ) → read ≡ readOut (verdict w) bytes
-      → last ≡ copied read n (take (length w - 1 - (n + 1)) (drop (n + 1) w)) → last ≡ leftByWhole bytes w
+  pub slice-left : (read last : List ℕ) → read ≡ readOut (admit o (verdict w)) bytes
+      → last ≡ copied read n (take (length w - 1 - (n + 1)) (drop (n + 1) w)) → last ≡ leftByWhole o bytes w
   slice-left read last e k =
-      left-filled (verdict w) bytes (bodyOf w) last n (counts ∙ ap contentsCount slice-judged) body-counts
+      left-filled (admit o (verdict w)) bytes (bodyOf w) last n (counts ∙ ap contentsCount slice-judged) body-counts
       (omega (arith, body-count w some))
       (k ∙ ap₂ (λ (x y : List ℕ). copied x n y) e body-rest)
 
@@ -137,7 +146,7 @@ kind-held : (kind : Kind) → isHeld (modeIn (inside kind)) ≡ true
 kind-held Standard = refl
 kind-held Extended = refl
 
-module _ (bytes : List ℕ) (array : length bytes ≡ capacity) (len : ℕ) (body rest : List ℕ)
+module _ (o : Origin) (bytes : List ℕ) (array : length bytes ≡ capacity) (len : ℕ) (body rest : List ℕ)
     (room : length body ≤ capacity) (clear : noneOf isFlag body ≡ true) where
   -- the candidate's stop flag, where its bytes are held
   abbrev held : List ℕ
@@ -147,33 +156,35 @@ module _ (bytes : List ℕ) (array : length bytes ≡ capacity) (len : ℕ) (bod
   held-first = take-at body (drop (0 + length body) bytes) (0 + length body) (omega arith)
 
   at-stop : (kind : Kind)
-      → feedOf (reader held (0 + length body) (modeIn (inside kind))) (stopFlag ∷ rest)
-      ≡ chunkTurn (judged (verdict (candidateOf kind (take (0 + length body) held))))
-      (reader (leftIn (verdict (candidateOf kind (take (0 + length body) held))) held) 0 Outside) 1
+      → feedOf (reader o held (0 + length body) (modeIn (inside kind))) (stopFlag ∷ rest)
+      ≡ chunkTurn (judged (admit o (verdict (candidateOf kind (take (0 + length body) held)))))
+      (reader o (leftIn (admit o (verdict (candidateOf kind (take (0 + length body) held)))) held) 0 Outside) 1
   unfolding feedOf
   at-stop Standard = refl
   at-stop Extended = refl
 
   at-start : (kind : Kind) (s : List ℕ)
-      → feedOf (reader bytes len Outside) (startFlag kind ∷ s) ≡ laterBy 1 (feedOf (reader bytes 0 (modeIn (inside kind))) s)
+      → feedOf (reader o bytes len Outside) (startFlag kind ∷ s)
+      ≡ laterBy 1 (feedOf (reader o bytes 0 (modeIn (inside kind))) s)
   unfolding feedOf
   at-start Standard s = refl
   at-start Extended s = refl
 
   -- the turn that judges the candidate
   abbrev judgedTurn : List ℕ → ℕ → ChunkTurn
-  judgedTurn wire taken = chunkTurn (judged (verdict wire)) (reader (leftIn (verdict wire) held) 0 Outside) taken
+  judgedTurn wire taken =
+      chunkTurn (judged (admit o (verdict wire))) (reader o (leftIn (admit o (verdict wire)) held) 0 Outside) taken
 
   candidate-fed : (kind : Kind)
-      → feedOf (reader bytes len Outside) (startFlag kind ∷ (body ++ stopFlag ∷ rest))
+      → feedOf (reader o bytes len Outside) (startFlag kind ∷ (body ++ stopFlag ∷ rest))
       ≡ judgedTurn (candidateOf kind body) (length body + 2)
   candidate-fed kind =
       let m = modeIn (inside kind) in
       let n : 1 + (length body + 1) ≡ length body + 2 = omega arith in
       at-start kind (body ++ stopFlag ∷ rest)
-      ∙ ap (laterBy 1) (feed-run body (stopFlag ∷ rest) (reader bytes 0 m) clear
+      ∙ ap (laterBy 1) (feed-run body (stopFlag ∷ rest) (reader o bytes 0 m) clear
       ∙ ap (λ (u : LineReader). laterBy (length body) (feedOf u (stopFlag ∷ rest)))
-      (held-run m (kind-held kind) body bytes 0 array (omega arith))
+      (held-run o m (kind-held kind) body bytes 0 array (omega arith))
       ∙ ap (laterBy (length body)) (at-stop kind))
       ∙ ap₂ (λ (l : List ℕ) (k : ℕ). judgedTurn (candidateOf kind l) k) held-first n
 
@@ -211,11 +222,11 @@ pub whole-long : (s : List ℕ) (taken : ℕ) → taken ≡ leadingCount s → 1
 whole-long s taken e h = simp (lt-leb (leadingCount s) 120 (omega arith))
 
 -- The candidate is judged at its stop flag, and the array is left as the code leaves it.
-whole-fed : (bytes : List ℕ) → length bytes ≡ capacity → (len : ℕ) (s : List ℕ) → 0 < leadingCount s
-    → leadingCount s ≤ 120 → feedOf (reader bytes len Outside) s
-    ≡ chunkTurn (judged (verdict (take (leadingCount s) s)))
-    (reader (leftByWhole bytes (take (leadingCount s) s)) 0 Outside) (leadingCount s)
-whole-fed bytes array len s h most =
+whole-fed : (o : Origin) (bytes : List ℕ) → length bytes ≡ capacity → (len : ℕ) (s : List ℕ) → 0 < leadingCount s
+    → leadingCount s ≤ 120 → feedOf (reader o bytes len Outside) s
+    ≡ chunkTurn (judged (admit o (verdict (take (leadingCount s) s))))
+    (reader o (leftByWhole o bytes (take (leadingCount s) s)) 0 Outside) (leadingCount s)
+whole-fed o bytes array len s h most =
     let f = leading-found s h in
     let body = leadingBody s (f .0) (f .1) in
     let kind = leadingKind s (f .0) (f .1) in
@@ -226,11 +237,11 @@ whole-fed bytes array len s h most =
     let room = leading-short s (f .0) (f .1) most in
     let clear = leading-clear s (f .0) (f .1) in
     let same : body ≡ bodyOf (take (leadingCount s) s) = sym (ap bodyOf wire ∙ whole-body kind body) in
-    ap (feedOf (reader bytes len Outside)) (leads s (f .0) (f .1))
-    ∙ candidate-fed bytes array len body after room clear kind
-    ∙ ap₂ (judgedTurn bytes array len body after room clear) (sym wire) (sym count)
-    ∙ ap (λ (l : List ℕ). chunkTurn (judged (verdict (take (leadingCount s) s)))
-    (reader (leftIn (verdict (take (leadingCount s) s)) (splice bytes 0 l)) 0 Outside) (leadingCount s)) same
+    ap (feedOf (reader o bytes len Outside)) (leads s (f .0) (f .1))
+    ∙ candidate-fed o bytes array len body after room clear kind
+    ∙ ap₂ (judgedTurn o bytes array len body after room clear) (sym wire) (sym count)
+    ∙ ap (λ (l : List ℕ). chunkTurn (judged (admit o (verdict (take (leadingCount s) s))))
+    (reader o (leftIn (admit o (verdict (take (leadingCount s) s))) (splice bytes 0 l)) 0 Outside) (leadingCount s)) same
 
 -- no more bytes than there are
 leading-fits : (s : List ℕ) → leadingCount s ≤ length s
@@ -248,9 +259,10 @@ leading-inside InExtended s = omega arith
 leading-inside Overlong s = omega arith
 
 -- the call that reads it, by what it answers and how many contents bytes that tells of
-module _ (s bytes : List ℕ) (array : length bytes ≡ capacity) (taken : ℕ) (count : taken ≡ leadingCount s)
-    (found : 0 < taken) (short : taken ≤ 120) (a : Answer FrameOutline)
-    (answers : a ≡ readAnswer (verdict (take taken s)) (length bytes)) (n : ℕ) (counts : n ≡ contentsCount a) where
+module _ (o : Origin) (s bytes : List ℕ) (array : length bytes ≡ capacity) (taken : ℕ)
+    (count : taken ≡ leadingCount s) (found : 0 < taken) (short : taken ≤ 120) (a : Answer FrameOutline)
+    (answers : a ≡ readAnswer (admit o (verdict (take taken s))) (length bytes)) (n : ℕ)
+    (counts : n ≡ contentsCount a) where
   abbrev wire : List ℕ
   wire = take taken s
 
@@ -261,12 +273,12 @@ module _ (s bytes : List ℕ) (array : length bytes ≡ capacity) (taken : ℕ) 
       let l : length wire ≡ taken = length-take-le taken s (omega (arith, count, leading-fits s)) in
       (l, omega (arith, l, count, c), omega (arith, l))
 
-  pub wire-judged : a ≡ judgeAnswer (verdict wire)
-  wire-judged = slice-judged wire bytes (wire-length .1) (wire-length .2) array a answers n counts
+  pub wire-judged : a ≡ judgeAnswer (admit o (verdict wire))
+  wire-judged = slice-judged o wire bytes (wire-length .1) (wire-length .2) array a answers n counts
 
   pub wire-inside : (n + 2 ≤ taken) × (taken ≤ length s)
   wire-inside =
-      let k = slice-inside wire bytes (wire-length .1) (wire-length .2) array a answers n counts in
+      let k = slice-inside o wire bytes (wire-length .1) (wire-length .2) array a answers n counts in
       (omega (arith, k, wire-length .0), omega (arith, count, leading-fits s))
 
   -- the bytes behind the contents, as the code takes them
@@ -279,36 +291,37 @@ module _ (s bytes : List ℕ) (array : length bytes ≡ capacity) (taken : ℕ) 
       ∙ ap₂ take m
       (sym (drop-take (n + 1) k s (omega (arith, i, wire-inside .1))) ∙ ap (λ (x : ℕ). drop (n + 1) (take x s)) i)
 
-  pub wire-left : (read last : List ℕ) → read ≡ readOut (verdict wire) bytes
-      → last ≡ copied read n (take (taken - 1 - (n + 1)) (drop (n + 1) s)) → last ≡ leftByWhole bytes wire
+  pub wire-left : (read last : List ℕ) → read ≡ readOut (admit o (verdict wire)) bytes
+      → last ≡ copied read n (take (taken - 1 - (n + 1)) (drop (n + 1) s)) → last ≡ leftByWhole o bytes wire
   wire-left read last e k =
-      slice-left wire bytes (wire-length .1) (wire-length .2) array a answers n counts read last e
+      slice-left o wire bytes (wire-length .1) (wire-length .2) array a answers n counts read last e
       (k ∙ ap (copied read n) behind)
 
 -- where there is none, nothing is left in the array
-pub none-left : (s bytes last : List ℕ) (taken : ℕ) → taken ≡ 0 → last ≡ readOut (verdict (take taken s)) bytes
-    → last ≡ bytes
+pub none-left : (o : Origin) (s bytes last : List ℕ) (taken : ℕ) → taken ≡ 0
+    → last ≡ readOut (admit o (verdict (take taken s))) bytes → last ≡ bytes
 unfolding readOut draftOut
-none-left s bytes last taken z e =
-    e ∙ ap (λ (n : ℕ). readOut (verdict (take n s)) bytes) z ∙ ap (λ (v : Verdict). readOut v bytes) verdict-none
+none-left o s bytes last taken z e =
+    e ∙ ap (λ (n : ℕ). readOut (admit o (verdict (take n s))) bytes) z
+    ∙ ap (λ (v : Verdict). readOut v bytes) (admit-refused o (verdict []) 6 verdict-none)
 
 -- a candidate of more than 120 bytes is no frame, so nothing is left of it either
-pub long-left : (s bytes last : List ℕ) (taken : ℕ) → taken ≡ leadingCount s → 120 < taken
-    → last ≡ readOut (verdict (take taken s)) bytes → last ≡ bytes
+pub long-left : (o : Origin) (s bytes last : List ℕ) (taken : ℕ) → taken ≡ leadingCount s → 120 < taken
+    → last ≡ readOut (admit o (verdict (take taken s))) bytes → last ≡ bytes
 unfolding readOut draftOut
-long-left s bytes last taken count h e = e ∙ of-verdict (verdict (take taken s)) refl
+long-left o s bytes last taken count h e = e ∙ of-verdict (admit o (verdict (take taken s))) refl
   where
-    of-verdict : (v : Verdict) → verdict (take taken s) ≡ v → readOut v bytes ≡ bytes
+    of-verdict : (v : Verdict) → admit o (verdict (take taken s)) ≡ v → readOut v bytes ≡ bytes
     of-verdict (refused n) q = refl
     of-verdict (result f) q =
         let w = take taken s in
         let l : length w ≡ taken = length-take-le taken s (omega (arith, count, leading-fits s)) in
-        absurd (omega (arith, l, body-count w (omega (arith, l)), accepted-shrinks w f q .1))
+        absurd (omega (arith, l, body-count w (omega (arith, l)), shrinks-at o w f q .1))
 
 -- in a mode in which none can begin
-pub judges-none : (bytes s : List ℕ) (m m′ : Mode) (r : Judged) → m ≡ m′ → leadingIn m′ s ≡ 0 → r .taken ≡ 0
-    → Judges bytes s bytes (leadingIn m s) r
-judges-none bytes s m m′ r g z e = record {
+pub judges-none : (o : Origin) (bytes s : List ℕ) (m m′ : Mode) (r : Judged) → m ≡ m′ → leadingIn m′ s ≡ 0
+    → r .taken ≡ 0 → Judges o bytes s bytes (leadingIn m s) r
+judges-none o bytes s m m′ r g z e = record {
   counted = e ∙ sym (ap (λ (x : Mode). leadingIn x s) g ∙ z);
   unmoved = λ k. refl;
   whole = λ h. absurd (omega (arith, h, e));
@@ -338,8 +351,9 @@ module _ (mode : Mode) (s : List ℕ) (at taken : ℕ) (count : taken ≡ leadin
   pub whole-answers : (f : ChunkTurn) (bytes : List ℕ) (state : State) → state .mode ≡ mode → 0 < taken
       → f ≡ laterBy at (feedOf (lentReader bytes state) (drop at s))
       → (left : List ℕ) (told : Told)
-      → JudgedWhole bytes (take taken (take (length s - at) (drop at s))) left told
-      → (r : ChunkStep) → r ≡ record { told = told; state = record { len = 0; mode = Outside }; taken = at + taken }
+      → JudgedWhole (state .origin) bytes (take taken (take (length s - at) (drop at s))) left told
+      → (r : ChunkStep)
+      → r ≡ record { told = told; state = record { len = 0; mode = Outside; origin = state .origin }; taken = at + taken }
       → ChunkStepIs left r f
   whole-answers f bytes state m h so-far left told j r is =
       let rest = take (length s - at) (drop at s) in
@@ -348,13 +362,14 @@ module _ (mode : Mode) (s : List ℕ) (at taken : ℕ) (count : taken ≡ leadin
       let found = whole-found rest (subst (λ (i : ℕ). 0 < i) k h) in
       let n : taken ≡ leadingCount rest = k ∙ found .1 in
       let wire = take taken rest in
-      let q : f ≡ chunkTurn (judged (verdict wire)) (reader (leftByWhole bytes wire) 0 Outside) (at + taken) =
+      let o = state .origin in
+      let q : f ≡ chunkTurn (judged (admit o (verdict wire))) (reader o (leftByWhole o bytes wire) 0 Outside) (at + taken) =
       so-far
-      ∙ ap₂ (λ (x : Mode) (l : List ℕ). laterBy at (feedOf (reader bytes (state .len) x) l)) (m ∙ out)
+      ∙ ap₂ (λ (x : Mode) (l : List ℕ). laterBy at (feedOf (reader o bytes (state .len) x) l)) (m ∙ out)
       (sym (rest-part s at))
-      ∙ ap (laterBy at) (whole-fed bytes (j .array) (state .len) rest (subst (λ (i : ℕ). 0 < i) n h) (found .0))
-      ∙ ap (λ (k : ℕ). laterBy at (chunkTurn (judged (verdict (take k rest)))
-      (reader (leftByWhole bytes (take k rest)) 0 Outside) k)) (sym n) in
+      ∙ ap (laterBy at) (whole-fed o bytes (j .array) (state .len) rest (subst (λ (i : ℕ). 0 < i) n h) (found .0))
+      ∙ ap (λ (k : ℕ). laterBy at (chunkTurn (judged (admit o (verdict (take k rest))))
+      (reader o (leftByWhole o bytes (take k rest)) 0 Outside) k)) (sym n) in
       record {
         told-is = ap (λ (x : ChunkStep). toldMeans (x .told)) is ∙ j .told-is
             ∙ ap (λ (g : ChunkTurn). summaryOf (g .answer)) (sym q);

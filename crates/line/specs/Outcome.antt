@@ -6,7 +6,7 @@ use lib.ListN.{length, replicate}
 use Rattle.lists.specs.Choice.{Every}
 use Rattle.answer.specs.Answer.{Answer, result, refused}
 use Rattle.answer.specs.Refusals.{numberOf}
-use Rattle.frame.specs.Frame.{contentsOf}
+use Rattle.frame.specs.Frame.{standard, contentsOf}
 use Rattle.frame.specs.Verdict.{Verdict}
 use Rattle.frame.specs.Answers.{FrameOutline, standardOutline, extendedOutline, judgeAnswer, frameRead}
 use Rattle.line.specs.declared.Told.{Told}
@@ -33,6 +33,10 @@ Not1 o = o ≡ judged (refused 1) → ⊥
 
 abbrev pub Never1 : List Outcome → Type 0
 Never1 outcomes = Every Not1 outcomes
+
+-- An outcome is no standard frame, which names no sender.
+abbrev pub NamesSender : Outcome → Type 0
+NamesSender o = (contents : List ℕ) → o ≡ judged (result (standard contents)) → ⊥
 
 -- An outcome without the contents: what the enum `Told` holds.
 pub data Summary : Type 0 where

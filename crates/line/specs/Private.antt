@@ -12,11 +12,13 @@ use Rattle.framing.specs.Reference.{plain}
 use Rattle.answer.specs.Answer.{Answer, result, refused}
 use Rattle.frame.specs.Leading.{leadingCount}
 use Rattle.frame.specs.Verdict.{verdict, bodyOf}
+use Rattle.frame.specs.Origin.{admit}
+use Rattle.frame.specs.declared.Origin.{Origin}
 use Rattle.frame.specs.Answers.{FrameOutline, standardOutline, extendedOutline, judgeAnswer, leftIn}
 use Rattle.line.specs.Outcome.{capacity, Summary, silent, tells, toldMeans, summaryOf, outcomeOf, padded}
 use Prim.Native.Nat.{ℕ, _+_, _≤_, _<_}
 use Rattle.line.specs.Feed.{laterBy, feedOf}
-use Rattle.line.specs.Reader.{ReaderTurn, reader, roleStep}
+use Rattle.line.specs.Reader.{ReaderTurn, originOf, reader, roleStep}
 use Rattle.line.specs.declared.LineReader.{LineReader}
 use Rattle.line.specs.declared.Told.{Told}
 use Rattle.line.specs.declared.whole.Judged.{Judged}
@@ -26,8 +28,9 @@ use Rattle.line.specs.declared.Mode.the-variants.{Outside, InStandard, I
 -- A candidate of which bytes are held has one byte more, or is over-long where there is no room for it.
 abbrev pub withByte : LineReader → ℕ → LineReader
 withByte r b =
-    pick (ltb (r .state .len) capacity) (reader (set (r .bytes) (r .state .len) b) (r .state .len + 1) (r .state .mode))
-    (reader (r .bytes) 0 Overlong)
+    pick (ltb (r .state .len) capacity)
+    (reader (originOf r) (set (r .bytes) (r .state .len) b) (r .state .len + 1) (r .state .mode))
+    (reader (originOf r) (r .bytes) 0 Overlong)
 
 -- The enum and the array that a call leaves tell the whole outcome: a frame's contents are the first bytes.
 abbrev pub Whole : ReaderTurn → Type 0
@@ -77,19 +80,20 @@ contentsCount (result (standardOutline len)) = len
 contentsCount (result (extendedOutline to from len)) = len
 contentsCount (refused n) = 0
 
--- What a whole candidate leaves in an array: what its bytes leave there that were held, and judged in place.
-abbrev pub leftByWhole : (bytes wire : List ℕ) → List ℕ
-leftByWhole bytes wire = leftIn (verdict wire) (splice bytes 0 (bodyOf wire))
+-- What a whole candidate of an origin leaves in an array: what its bytes leave there that were held, and judged in
+-- place.
+abbrev pub leftByWhole : Origin → (bytes wire : List ℕ) → List ℕ
+leftByWhole o bytes wire = leftIn (admit o (verdict wire)) (splice bytes 0 (bodyOf wire))
 
 -- A candidate that was judged as it stands.
-pub record JudgedWhole (bytes wire left : List ℕ) (told : Told) : Type 0 where
+pub record JudgedWhole (o : Origin) (bytes wire left : List ℕ) (told : Told) : Type 0 where
   pub array : length bytes ≡ capacity
-  pub told-is : toldMeans told ≡ tells (judgeAnswer (verdict wire))
-  pub left-is : left ≡ leftByWhole bytes wire
+  pub told-is : toldMeans told ≡ tells (judgeAnswer (admit o (verdict wire)))
+  pub left-is : left ≡ leftByWhole o bytes wire
 
 -- What was made of the candidate that an input begins with, by how many bytes it has, and what it leaves in an array.
 -- Where there is none the array stays as it was.
-pub record Judges (bytes input left : List ℕ) (count : ℕ) (r : Judged) : Type 0 where
+pub record Judges (o : Origin) (bytes input left : List ℕ) (count : ℕ) (r : Judged) : Type 0 where
   pub counted : r .taken ≡ count
   pub unmoved : r .taken ≡ 0 → left ≡ bytes
-  pub whole : 0 < r .taken → JudgedWhole bytes (take (r .taken) input) left (r .told)
+  pub whole : 0 < r .taken → JudgedWhole o bytes (take (r .taken) input) left (r .told)

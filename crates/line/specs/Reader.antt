@@ -1,4 +1,5 @@
--- The line reader's calls, on every value of the struct: those of framing's bounded reader, at the rowing protocol.
+-- The line reader's calls, on every value of the struct: those of framing's bounded reader, at the rowing protocol of
+-- the reader's own origin.
 use mathlib.Core.Path.{_≡_}
 use mathlib.Core.List.{List}
 use Prim.Native.Nat.{ℕ}
@@ -7,6 +8,7 @@ use Rattle.lists.specs.Machine.{Turn, turn, run}
 use Rattle.framing.specs.Reference.{Call, byte, finish, Role}
 use Rattle.framing.specs.Bounded.{BoundedMode, outside, inside, overlong, BoundedReader, bounded, byteTurn, boundedTurn}
 use Rattle.frame.specs.Flags.{stopFlag, roleOf}
+use Rattle.frame.specs.declared.Origin.{Origin}
 use Rattle.frame.specs.declared.Kind.{Kind}
 use Rattle.frame.specs.declared.Kind.the-variants.{Standard, Extended}
 use Rattle.line.specs.Outcome.{Outcome, toldMeans, summaryOf, outcomeOf, capacity, zeros, ValueAnswer, valueAnswerOf}
@@ -23,16 +25,21 @@ use Rattle.line.specs.declared.Stepped.{Stepped}
 abbrev pub lentReader : List ℕ → State → LineReader
 lentReader bytes state = record { bytes = bytes; state = state }
 
-abbrev pub reader : List ℕ → ℕ → Mode → LineReader
-reader bytes len mode = lentReader bytes (record { len = len; mode = mode })
+abbrev pub reader : Origin → List ℕ → ℕ → Mode → LineReader
+reader o bytes len mode = lentReader bytes (record { len = len; mode = mode; origin = o })
 
-abbrev pub newReader : LineReader
-newReader = reader zeros 0 Outside
+-- A new reader of an origin.
+abbrev pub newReader : Origin → LineReader
+newReader o = reader o zeros 0 Outside
 
--- A reader that is outside of a candidate is as new: what is in its array, and its length, doesn't matter.
-pub record AsNew (r : LineReader) : Type 0 where
+abbrev pub originOf : LineReader → Origin
+originOf r = r .state .origin
+
+-- A reader of an origin that is outside of a candidate is as new: what is in its array, and its length, doesn't matter.
+pub record AsNew (o : Origin) (r : LineReader) : Type 0 where
   pub array : length (r .bytes) ≡ capacity
   pub outside-is : r .state .mode ≡ Outside
+  pub origin-is : originOf r ≡ o
 
 -- A call after which no candidate is open: the stop flag, or the end of input.
 pub data Closes : Call → Type 0 where
@@ -56,8 +63,8 @@ modeIn overlong = Overlong
 abbrev pub seen : LineReader → BoundedReader Kind
 seen r = bounded (r .bytes) (r .state .len) (modeSeen (r .state .mode))
 
-abbrev pub readerSeen : BoundedReader Kind → LineReader
-readerSeen r = reader (r .bytes) (r .len) (modeIn (r .mode))
+abbrev pub readerSeen : Origin → BoundedReader Kind → LineReader
+readerSeen o r = reader o (r .bytes) (r .len) (modeIn (r .mode))
 
 -- ---- the calls
 
@@ -65,12 +72,13 @@ readerSeen r = reader (r .bytes) (r .len) (modeIn (r .mode))
 abbrev pub ReaderTurn : Type 0
 ReaderTurn = Turn LineReader Outcome
 
-abbrev pub turnSeen : Turn (BoundedReader Kind) Outcome → ReaderTurn
-turnSeen t = turn (t .answer) (readerSeen (t .next))
+-- The reader keeps its origin.
+abbrev pub turnSeen : Origin → Turn (BoundedReader Kind) Outcome → ReaderTurn
+turnSeen o t = turn (t .answer) (readerSeen o (t .next))
 
 -- A byte of a role.
 abbrev pub roleStep : Role → LineReader → ℕ → ReaderTurn
-roleStep ρ r b = turnSeen (byteTurn rowing rowingBounds ρ (seen r) b)
+roleStep ρ r b = turnSeen (originOf r) (byteTurn (rowing (originOf r)) (rowingBounds (originOf r)) ρ (seen r) b)
 
 -- A byte is fed.
 abbrev pub stepOf : LineReader → ℕ → ReaderTurn
@@ -78,7 +86,7 @@ stepOf r b = roleStep (roleOf b) r b
 
 -- The input ends.
 abbrev pub finishOf : LineReader → ReaderTurn
-finishOf r = turnSeen (boundedTurn rowing rowingBounds (seen r) finish)
+finishOf r = turnSeen (originOf r) (boundedTurn (rowing (originOf r)) (rowingBounds (originOf r)) (seen r) finish)
 
 abbrev pub turnOf : LineReader → Call → ReaderTurn
 turnOf r (byte b) = stepOf r b
@@ -90,9 +98,9 @@ outcomeAt r c = turnOf r c .answer
 abbrev pub nextAfter : LineReader → Call → LineReader
 nextAfter r c = turnOf r c .next
 
--- The answers of a new reader, each call on the reader as the last one left it.
-abbrev pub readerOutcomes : List Call → List Outcome
-readerOutcomes calls = run outcomeAt nextAfter newReader calls
+-- The answers of a new reader of an origin, each call on the reader as the last one left it.
+abbrev pub readerOutcomes : Origin → List Call → List Outcome
+readerOutcomes o calls = run outcomeAt nextAfter (newReader o) calls
 
 -- ---- what a function returns
 

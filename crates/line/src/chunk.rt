@@ -26,13 +26,15 @@ pub(crate) fn feed_all(bytes: &mut [u8; 118], state: State, input: &[u8]) -> Chu
             return stepped(Told::Nothing, s, j);
         }
         let mode = s.mode;
-        let whole = whole::judge(bytes, mode, &input[j..]);
+        let origin = s.origin;
+        let whole = whole::judge(origin, bytes, mode, &input[j..]);
         let taken = whole.taken;
         if 0 < taken {
             let told = whole.told;
             let closed = State {
                 len: crate::FRESH,
                 mode: Mode::Outside,
+                origin,
             };
             return stepped(told, closed, j + taken);
         }

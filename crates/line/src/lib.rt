@@ -1,11 +1,12 @@
 // The line reader: fed one byte at a time, or a chunk up to the first byte that is answered, it tells of each frame and
-// each refusal at the call where it ends. Document 01, "The line"; document 02, No. 4.
+// each refusal at the call where it ends. Document 01, "The line"; document 02, No. 4 and No. 9.
 mod chunk;
 mod runs;
 mod whole;
 
 use answer::Refusal;
 use frame::Kind;
+use frame::Origin;
 use frame::Read;
 use frame::flags;
 ghost use mathlib.Core.Path.{_≡_};
@@ -48,11 +49,12 @@ pub enum Mode {
     Overlong,
 }
 
-// A line reader without its array: how many bytes of it are held, and the mode. A length of 118 or more counts as a
-// full array, so every value is a state.
+// A line reader without its array: how many bytes of it are held, the mode, and where its bytes come from, which no call
+// changes. A length of 118 or more counts as a full array, so every value is a state.
 pub struct State {
     pub len: usize,
     pub mode: Mode,
+    pub origin: Origin,
 }
 
 // Every value of the struct is a reader.
@@ -101,14 +103,15 @@ pub struct ChunkFed {
 }
 
 impl LineReader {
-    pub fn new() -> LineReader
-        ensures { λ r. ⌜ r ≡ newReader ⌝ }
+    pub fn new(origin: Origin) -> LineReader
+        ensures { λ r. ⌜ r ≡ newReader origin ⌝ }
     {
         LineReader {
             bytes: [0u8; 118],
             state: State {
                 len: FRESH,
                 mode: Mode::Outside,
+                origin,
             },
         }
     }
@@ -140,7 +143,7 @@ impl LineReader {
         }
     }
 
-    // Ends the input: a candidate that is open is truncated, and the reader is as new.
+    // Ends the input: a candidate that is open is truncated, and the reader is as a new one of its origin.
     pub fn finish(self) -> Stepped
         ensures { λ r. ⌜ StepIs r (finishOf self) ⌝ }
     {
@@ -156,11 +159,12 @@ pub fn step_in(bytes: &mut [u8; 118], state: State, b: u8) -> LentStep
     ensures { λ r. ⌜ LentStepIs (now (bytes .exit)) r (stepOf (lentReader (now (bytes .entry)) state) b) ⌝ }
 {
     let mode = state.mode;
+    let origin = state.origin;
     if b == flags::EXTENDED_START {
-        return restart(mode, Mode::InExtended);
+        return restart(origin, mode, Mode::InExtended);
     }
     if b == flags::STANDARD_START {
-        return restart(mode, Mode::InStandard);
+        return restart(origin, mode, Mode::InStandard);
     }
     if b == flags::STOP {
         return stop(bytes, state);
@@ -173,7 +177,8 @@ pub fn finish_in(state: State) -> LentStep
     ensures { λ r. ⌜ ((bytes : List ℕ) → LentStepIs bytes r (finishOf (lentReader bytes state))) ⌝ }
 {
     let mode = state.mode;
-    restart(mode, Mode::Outside)
+    let origin = state.origin;
+    restart(origin, mode, Mode::Outside)
 }
 
 // Feeds a chunk to a reader whose array is lent and whose state goes in and comes back, as `LineReader::feed` does, and
@@ -197,21 +202,24 @@ pub fn feed_lent(reader: &mut LineReader, chunk: &[u8]) -> ChunkAnswer
 }
 
 // A start flag, or the end of input: whatever is open is truncated.
-fn restart(mode: Mode, opens: Mode) -> LentStep
-    ensures { λ r. ⌜ ((bytes : List ℕ)
-        → LentStepIs bytes r (turn (truncatedIn rowing rowingBounds (modeSeen mode)) (reader bytes 0 opens))) ⌝ }
+fn restart(origin: Origin, mode: Mode, opens: Mode) -> LentStep
+    ensures { λ r. ⌜ ((bytes : List ℕ) → LentStepIs bytes r
+        (turn (truncatedIn (rowing origin) (rowingBounds origin) (modeSeen mode)) (reader origin bytes 0 opens))) ⌝ }
 {
     LentStep {
         told: truncated(mode),
         state: State {
             len: FRESH,
             mode: opens,
+            origin,
         },
     }
 }
 
+// Truncation is told alike at every origin.
 fn truncated(mode: Mode) -> Told
-    ensures { λ r. ⌜ toldMeans r ≡ summaryOf (truncatedIn rowing rowingBounds (modeSeen mode)) ⌝ }
+    ensures { λ r. ⌜ ((o : Origin)
+        → toldMeans r ≡ summaryOf (truncatedIn (rowing o) (rowingBounds o) (modeSeen mode))) ⌝ }
 {
     match mode {
         Mode::Outside => Told::Nothing,
@@ -227,21 +235,24 @@ fn stop(bytes: &mut [u8; 118], state: State) -> LentStep
         → LentStepIs (now (bytes .exit)) r (roleStep stops (lentReader (now (bytes .entry)) state) b)) ⌝ }
 {
     let mode = state.mode;
-    let told = terminated(bytes, state.len, mode);
+    let origin = state.origin;
+    let told = terminated(origin, bytes, state.len, mode);
     let after = Mode::Outside;
     LentStep {
         told,
         state: State {
             len: FRESH,
             mode: after,
+            origin,
         },
     }
 }
 
-fn terminated(bytes: &mut [u8; 118], len: usize, mode: Mode) -> Told
+fn terminated(origin: Origin, bytes: &mut [u8; 118], len: usize, mode: Mode) -> Told
     ensures { λ r. ⌜ toldMeans r ≡ summaryOf
-        (terminatedIn rowing rowingBounds (modeSeen mode) (now (bytes .entry)) len) ⌝ }
-    ensures { λ r. ⌜ now (bytes .exit) ≡ leftByStop rowing rowingBounds (modeSeen mode) (now (bytes .entry)) len ⌝ }
+        (terminatedIn (rowing origin) (rowingBounds origin) (modeSeen mode) (now (bytes .entry)) len) ⌝ }
+    ensures { λ r. ⌜ now (bytes .exit)
+        ≡ leftByStop (rowing origin) (rowingBounds origin) (modeSeen mode) (now (bytes .entry)) len ⌝ }
 {
     let kind = match mode {
         Mode::Outside => return Told::Nothing,
@@ -249,7 +260,7 @@ fn terminated(bytes: &mut [u8; 118], len: usize, mode: Mode) -> Told
         Mode::InExtended => Kind::Extended,
         Mode::Overlong => return Told::Refused(Refusal::TooLong),
     };
-    told_of(frame::judge_array(kind, bytes, len))
+    told_of(frame::judge_array(origin, kind, bytes, len))
 }
 
 fn told_of(read: Read) -> Told
@@ -268,33 +279,34 @@ fn grow(bytes: &mut [u8; 118], state: State, b: u8) -> LentStep
 {
     let len = state.len;
     let mode = state.mode;
+    let origin = state.origin;
     match mode {
-        Mode::Outside => unmoved(len, mode),
-        Mode::InStandard => with_byte(bytes, len, mode, b),
-        Mode::InExtended => with_byte(bytes, len, mode, b),
-        Mode::Overlong => unmoved(len, mode),
+        Mode::Outside => unmoved(origin, len, mode),
+        Mode::InStandard => with_byte(origin, bytes, len, mode, b),
+        Mode::InExtended => with_byte(origin, bytes, len, mode, b),
+        Mode::Overlong => unmoved(origin, len, mode),
     }
 }
 
-fn unmoved(len: usize, mode: Mode) -> LentStep
-    ensures { λ r. ⌜ ((bytes : List ℕ) → LentStepIs bytes r (turn nothing (reader bytes len mode))) ⌝ }
+fn unmoved(origin: Origin, len: usize, mode: Mode) -> LentStep
+    ensures { λ r. ⌜ ((bytes : List ℕ) → LentStepIs bytes r (turn nothing (reader origin bytes len mode))) ⌝ }
 {
     LentStep {
         told: Told::Nothing,
-        state: State { len, mode },
+        state: State { len, mode, origin },
     }
 }
 
 // One byte more in an open candidate.
-fn with_byte(bytes: &mut [u8; 118], len: usize, mode: Mode, b: u8) -> LentStep
+fn with_byte(origin: Origin, bytes: &mut [u8; 118], len: usize, mode: Mode, b: u8) -> LentStep
     ensures { λ r. ⌜ LentStepIs (now (bytes .exit)) r
-        (turn nothing (withByte (reader (now (bytes .entry)) len mode) b)) ⌝ }
+        (turn nothing (withByte (reader origin (now (bytes .entry)) len mode) b)) ⌝ }
 {
     if len < ROOM {
         bytes[len] = b;
-        return unmoved(len + 1, mode);
+        return unmoved(origin, len + 1, mode);
     }
-    unmoved(FRESH, Mode::Overlong)
+    unmoved(origin, FRESH, Mode::Overlong)
 }
 
 // The answer by value, from the one over a lent array and the array.

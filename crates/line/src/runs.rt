@@ -1,6 +1,7 @@
 // Runs of bytes that are no flags.
 use crate::Mode;
 use crate::State;
+use frame::Origin;
 use frame::flags;
 ghost use mathlib.Core.Path.{_≡_};
 ghost use mathlib.Core.Bool.{true};
@@ -27,20 +28,21 @@ pub(crate) fn consume(bytes: &mut [u8; 118], state: State, input: &[u8], from: u
 {
     let len = state.len;
     let mode = state.mode;
+    let origin = state.origin;
     let at = run_end(input, from);
     if at == from {
         return Consumed {
             at,
-            state: State { len, mode },
+            state: State { len, mode, origin },
         };
     }
     if is_held(mode) {
-        let held = hold(bytes, len, mode, &input[from..at]);
+        let held = hold(origin, bytes, len, mode, &input[from..at]);
         return Consumed { at, state: held };
     }
     Consumed {
         at,
-        state: State { len, mode },
+        state: State { len, mode, origin },
     }
 }
 
@@ -64,11 +66,11 @@ fn is_held(mode: Mode) -> bool
 }
 
 // Holds a run behind the bytes that are held. One that is longer than the room left makes the candidate over-long.
-fn hold(bytes: &mut [u8; 118], len: usize, mode: Mode, run: &[u8]) -> State
+fn hold(origin: Origin, bytes: &mut [u8; 118], len: usize, mode: Mode, run: &[u8]) -> State
     requires { ⌜ isHeld mode ≡ true ⌝ }
     requires { ⌜ 0 < length (now run) ⌝ }
     ensures { λ r. ⌜ lentReader (now (bytes .exit)) r
-        ≡ afterRun (reader (now (bytes .entry)) len mode) (now (run .entry)) ⌝ }
+        ≡ afterRun (reader origin (now (bytes .entry)) len mode) (now (run .entry)) ⌝ }
 {
     if len < crate::ROOM {
         let room = crate::ROOM - len;
@@ -77,6 +79,7 @@ fn hold(bytes: &mut [u8; 118], len: usize, mode: Mode, run: &[u8]) -> State
             return State {
                 len: held_with(len, run),
                 mode,
+                origin,
             };
         }
         lists::copy_short(&run[..room], bytes, len);
@@ -84,6 +87,7 @@ fn hold(bytes: &mut [u8; 118], len: usize, mode: Mode, run: &[u8]) -> State
     State {
         len: crate::FRESH,
         mode: Mode::Overlong,
+        origin,
     }
 }
 

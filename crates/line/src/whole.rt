@@ -2,6 +2,7 @@
 // copied.
 use crate::Mode;
 use crate::Told;
+use frame::Origin;
 use frame::Read;
 ghost use mathlib.Core.Path.{_≡_};
 ghost use Rattle.frame.specs.Answers.{readMeans};
@@ -18,12 +19,12 @@ pub(crate) struct Judged {
 
 // Judges the candidate that the input begins with, where none is open before it. Behind its contents the array gets the
 // bytes that stand between its flags, because that is what it holds where they came singly.
-pub(crate) fn judge(bytes: &mut [u8; 118], mode: Mode, input: &[u8]) -> Judged
-    ensures { λ r. ⌜ Judges (now (bytes .entry)) (now (input .entry)) (now (bytes .exit))
+pub(crate) fn judge(origin: Origin, bytes: &mut [u8; 118], mode: Mode, input: &[u8]) -> Judged
+    ensures { λ r. ⌜ Judges origin (now (bytes .entry)) (now (input .entry)) (now (bytes .exit))
         (leadingIn mode (now (input .entry))) r ⌝ }
 {
     match mode {
-        Mode::Outside => judge_leading(bytes, input),
+        Mode::Outside => judge_leading(origin, bytes, input),
         Mode::InStandard => none(),
         Mode::InExtended => none(),
         Mode::Overlong => none(),
@@ -32,11 +33,11 @@ pub(crate) fn judge(bytes: &mut [u8; 118], mode: Mode, input: &[u8]) -> Judged
 
 // A candidate that is too long for the array counts as none, and its bytes are fed like all others. It is no frame, so
 // reading it has changed nothing.
-fn judge_leading(bytes: &mut [u8; 118], input: &[u8]) -> Judged
-    ensures { λ r. ⌜ Judges (now (bytes .entry)) (now (input .entry)) (now (bytes .exit))
+fn judge_leading(origin: Origin, bytes: &mut [u8; 118], input: &[u8]) -> Judged
+    ensures { λ r. ⌜ Judges origin (now (bytes .entry)) (now (input .entry)) (now (bytes .exit))
         (wholeCount (now (input .entry))) r ⌝ }
 {
-    let leading = frame::read_leading(input, bytes);
+    let leading = frame::read_leading(origin, input, bytes);
     let read = leading.read;
     let taken = leading.taken;
     if taken == 0 {

@@ -9,6 +9,7 @@ use Rattle.lists.specs.Choice.{Exactly}
 use Rattle.framing.specs.Reference.{Role, starts, stops, plain, FlagFree}
 use Rattle.framing.specs.Demand3.{LeftOpen}
 use Rattle.frame.specs.Flags.{roleOf}
+use Rattle.frame.specs.declared.Origin.the-variants.{Trace}
 use Rattle.line.specs.Rowing.{rowing}
 use Rattle.text.specs.Strays.{strayAt, openAfter, strays, Strays, done, inside, stray}
 
@@ -54,10 +55,10 @@ free-more (x ∷ xs) b n e = (n .0, free-more xs b (n .1) e)
 
 -- ---- one byte more
 
-opens : (bytes : List ℕ) (b : ℕ) → roleOf b ≡ starts → LeftOpen rowing (bytes ++ b ∷ [])
+opens : (bytes : List ℕ) (b : ℕ) → roleOf b ≡ starts → LeftOpen (rowing Trace) (bytes ++ b ∷ [])
 opens bytes b e = record { before = bytes; flag = b; rest = []; splits = refl; starting = e; flag-free = tt }
 
-stays : (bytes : List ℕ) (b : ℕ) → roleOf b ≡ plain → LeftOpen rowing bytes → LeftOpen rowing (bytes ++ b ∷ [])
+stays : (bytes : List ℕ) (b : ℕ) → roleOf b ≡ plain → LeftOpen (rowing Trace) bytes → LeftOpen (rowing Trace) (bytes ++ b ∷ [])
 stays bytes b e o = record {
   before = o .before;
   flag = o .flag;
@@ -71,7 +72,7 @@ stays bytes b e o = record {
 -- it open
 by-rest : (bytes : List ℕ) (b : ℕ) (before : List ℕ) (flag : ℕ) (rest : List ℕ)
     → bytes ++ b ∷ [] ≡ before ++ flag ∷ rest → roleOf flag ≡ starts → FlagFree roleOf rest
-    → (roleOf b ≡ starts) ⊎ ((roleOf b ≡ plain) × LeftOpen rowing bytes)
+    → (roleOf b ≡ starts) ⊎ ((roleOf b ≡ plain) × LeftOpen (rowing Trace) bytes)
 by-rest bytes b before flag [] e st n =
     let same : b ≡ flag = sym (last-append 0 bytes b []) ∙ ap (last 0) e ∙ last-append 0 before flag [] in
     inl (ap roleOf same ∙ st)
@@ -92,15 +93,15 @@ by-rest bytes b before flag (r ∷ rest) e st n =
       },
     )
 
-by-last : (bytes : List ℕ) (b : ℕ) → LeftOpen rowing (bytes ++ b ∷ [])
-    → (roleOf b ≡ starts) ⊎ ((roleOf b ≡ plain) × LeftOpen rowing bytes)
+by-last : (bytes : List ℕ) (b : ℕ) → LeftOpen (rowing Trace) (bytes ++ b ∷ [])
+    → (roleOf b ≡ starts) ⊎ ((roleOf b ≡ plain) × LeftOpen (rowing Trace) bytes)
 by-last bytes b o = by-rest bytes b (o .before) (o .flag) (o .rest) (o .splits) (o .starting) (o .flag-free)
 
 -- ---- the Bool that the count keeps says whether a candidate is open
 
 abbrev SaysOpen : Bool → List ℕ → Type 0
-SaysOpen true bytes = LeftOpen rowing bytes
-SaysOpen false bytes = LeftOpen rowing bytes → ⊥
+SaysOpen true bytes = LeftOpen (rowing Trace) bytes
+SaysOpen false bytes = LeftOpen (rowing Trace) bytes → ⊥
 
 says-open : (o : Bool) (bytes : List ℕ) (b : ℕ) (ρ : Role) → roleOf b ≡ ρ → SaysOpen o bytes
     → SaysOpen (openAfter ρ o) (bytes ++ b ∷ [])
@@ -138,7 +139,7 @@ counted o before (b ∷ bytes) t =
     one-byte o before b bytes (strays (openAfter (roleOf b) o) bytes) (roleOf b) refl t
     (counted (openAfter (roleOf b) o) (before ++ b ∷ []) bytes (says-open o before b (roleOf b) refl t))
 
-none-open : LeftOpen rowing [] → ⊥
+none-open : LeftOpen (rowing Trace) [] → ⊥
 none-open o = none-at (o .before) (o .flag) (o .rest) (o .splits)
   where
     none-at : (before : List ℕ) (flag : ℕ) (rest : List ℕ) → [] ≡ before ++ flag ∷ rest → ⊥

@@ -8,6 +8,7 @@ use Prim.Native.Nat.{ℕ, suc, _+_}
 use Rattle.framing.specs.Reference.{Role, starts, stops, plain}
 use Rattle.framing.specs.Demand3.{LeftOpen}
 use Rattle.frame.specs.Flags.{roleOf}
+use Rattle.frame.specs.declared.Origin.the-variants.{Trace}
 use Rattle.line.specs.Rowing.{rowing}
 
 -- ---- as a count
@@ -36,7 +37,7 @@ strays is-open (b ∷ bytes) = strayAt (roleOf b) is-open + strays (openAfter (r
 -- A byte stands in a candidate where it is a start flag, or where the bytes before it leave a candidate open: they hold
 -- a start flag, and no flag after the last one.
 abbrev pub Inside : (before : List ℕ) → ℕ → Type 0
-Inside before b = (roleOf b ≡ starts) ⊎ LeftOpen rowing before
+Inside before b = (roleOf b ≡ starts) ⊎ LeftOpen (rowing Trace) before
 
 -- Of the bytes of a list, which come after others, so many stand in no candidate.
 pub data Strays : (before bytes : List ℕ) → ℕ → Type 0 where

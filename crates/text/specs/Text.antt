@@ -7,6 +7,7 @@ use Rattle.framing.specs.Demand3.{feed}
 use Rattle.answer.specs.Answer.{result, refused}
 use Rattle.frame.specs.Verdict.{Verdict}
 use Rattle.line.specs.Outcome.{Outcome, answersIn}
+use Rattle.frame.specs.declared.Origin.the-variants.{Trace}
 use Rattle.line.specs.Rowing.{rowing}
 use Rattle.text.specs.Lines.{line, totals}
 use Rattle.text.specs.Strays.{strays}
@@ -15,7 +16,7 @@ use Rattle.text.specs.Strays.{strays}
 
 -- The reference decoder's answers to a trace: to its bytes, and to the finish.
 abbrev pub answersTo : List ℕ → List Verdict
-answersTo trace = answersIn (Reference rowing (feed trace ++ finish ∷ []))
+answersTo trace = answersIn (Reference (rowing Trace) (feed trace ++ finish ∷ []))
 
 -- How many answers are frames, and how many are refusals.
 abbrev pub frames : List Verdict → ℕ

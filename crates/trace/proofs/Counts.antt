@@ -16,6 +16,7 @@ use Rattle.framing.specs.Bounded.{BoundedMode, inside, overlong, BoundedReader,
 use Rattle.answer.specs.Answer.{result, refused}
 use Rattle.frame.specs.Verdict.{Verdict}
 use Rattle.line.specs.Outcome.{Outcome, nothing, judged, answersIn}
+use Rattle.frame.specs.declared.Origin.{Origin}
 use Rattle.line.specs.Rowing.{rowing, rowingBounds}
 use Rattle.line.specs.Reader.{modeSeen, modeIn, roleStep, stepOf, finishOf, outcomeAt, nextAfter}
 use Rattle.frame.specs.Flags.{roleOf, kindOf}
@@ -61,18 +62,18 @@ by-capacity : (t : Bool) (kind : Kind) (full more : BoundedReader Kind) → full
 by-capacity true kind full more e f = ap (λ (m : BoundedMode Kind). isOpen (modeIn m)) f ∙ inside-open kind
 by-capacity false kind full more e f = ap (λ (m : BoundedMode Kind). isOpen (modeIn m)) e
 
-grown-open : (m : Mode) (bytes : List ℕ) (len b : ℕ)
-    → isOpen (modeIn (grownIn rowing rowingBounds (modeSeen m) bytes len b .mode)) ≡ isOpen m
-grown-open Outside bytes len b = refl
-grown-open InStandard bytes len b = by-capacity (ltb len 118) Standard _ _ refl refl
-grown-open InExtended bytes len b = by-capacity (ltb len 118) Extended _ _ refl refl
-grown-open Overlong bytes len b = refl
+grown-open : (o : Origin) (m : Mode) (bytes : List ℕ) (len b : ℕ)
+    → isOpen (modeIn (grownIn (rowing o) (rowingBounds o) (modeSeen m) bytes len b .mode)) ≡ isOpen m
+grown-open o Outside bytes len b = refl
+grown-open o InStandard bytes len b = by-capacity (ltb len 118) Standard _ _ refl refl
+grown-open o InExtended bytes len b = by-capacity (ltb len 118) Extended _ _ refl refl
+grown-open o Overlong bytes len b = refl
 
 open-at : (r : LineReader) (b : ℕ) (ρ : Role)
     → isOpen (roleStep ρ r b .next .state .mode) ≡ openAfter ρ (isOpen (r .state .mode))
 open-at r b starts = inside-open (kindOf b)
 open-at r b stops = refl
-open-at r b plain = grown-open (r .state .mode) (r .bytes) (r .state .len) b
+open-at r b plain = grown-open (r .state .origin) (r .state .mode) (r .bytes) (r .state .len) b
 
 pub open-is : (r : LineReader) (b : ℕ)
     → isOpen (stepOf r b .next .state .mode) ≡ openAfter (roleOf b) (isOpen (r .state .mode))

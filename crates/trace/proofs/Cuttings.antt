@@ -14,6 +14,7 @@ use Rattle.framing.specs.Demand3.{feed}
 use Rattle.answer.specs.Answer.{Answer, result}
 use Rattle.answer.proofs.Drafts.{written-first}
 use Rattle.line.specs.Outcome.{Outcome, answersIn}
+use Rattle.frame.specs.declared.Origin.the-variants.{Trace}
 use Rattle.line.specs.Rowing.{rowing}
 use Rattle.line.proofs.Follows.{reader-follows}
 use Rattle.text.specs.Lines.{totals}
@@ -74,8 +75,8 @@ pub new-text : (trace : List ℕ) → length trace ≤ longest
     → texts newListing trace ++ lastText (listingAfter newListing trace) ≡ text trace
 new-text trace h =
     all-text newListing trace (omega arith) (omega arith)
-    ∙ ap (λ (os : List Outcome). Rest 0 0 0 false os trace) (reader-follows .same (feed trace ++ finish ∷ []))
-    ∙ from-zero (Reference rowing (feed trace ++ finish ∷ [])) trace
+    ∙ ap (λ (os : List Outcome). Rest 0 0 0 false os trace) (reader-follows Trace .same (feed trace ++ finish ∷ []))
+    ∙ from-zero (Reference (rowing Trace) (feed trace ++ finish ∷ [])) trace
 
 same-result : (v w : List ℕ) → _≡_ {A = Answer (List ℕ)} (result v) (result w) → v ≡ w
 same-result v w e = cc

@@ -19,6 +19,7 @@ use Rattle.framing.specs.Bounded.{terminatedIn}
 use Rattle.frame.proofs.FlagLaws.{isStarts, role-tests}
 use Rattle.line.specs.Outcome.{summaryOf}
 use Rattle.line.specs.Feed.{isAnswer, ChunkTurn, chunkTurn, laterBy, feedOf, chunkLimit, cutChunk, chunkOf, ChunkStepIs}
+use Rattle.frame.specs.declared.Origin.{Origin}
 use Rattle.line.specs.Rowing.{rowing, rowingBounds}
 use Rattle.line.specs.Reader.{modeSeen, reader, roleStep, stepOf}
 use Rattle.line.proofs.FeedLaws.{plus-zero}
@@ -62,27 +63,27 @@ at-answer stops true bytes e = refl
 at-answer plain true bytes e = refl
 
 -- only a byte of an open candidate is answered, and its stop flag is
-answered-open : (m : Mode) (bytes : List ℕ) (len b : ℕ) (ρ : Role)
-    → isAnswer (roleStep ρ (reader bytes len m) b .answer) ≡ true → isOpen m ≡ true
-answered-open Outside bytes len b starts e = e
-answered-open Outside bytes len b stops e = e
-answered-open Outside bytes len b plain e = e
-answered-open InStandard bytes len b ρ e = refl
-answered-open InExtended bytes len b ρ e = refl
-answered-open Overlong bytes len b ρ e = refl
+answered-open : (o : Origin) (m : Mode) (bytes : List ℕ) (len b : ℕ) (ρ : Role)
+    → isAnswer (roleStep ρ (reader o bytes len m) b .answer) ≡ true → isOpen m ≡ true
+answered-open o Outside bytes len b starts e = e
+answered-open o Outside bytes len b stops e = e
+answered-open o Outside bytes len b plain e = e
+answered-open o InStandard bytes len b ρ e = refl
+answered-open o InExtended bytes len b ρ e = refl
+answered-open o Overlong bytes len b ρ e = refl
 
-terminated-answers : (m : Mode) (bytes : List ℕ) (len : ℕ) → isOpen m ≡ true
-    → isAnswer (terminatedIn rowing rowingBounds (modeSeen m) bytes len) ≡ true
-terminated-answers Outside bytes len e = absurd (true≢false (sym e))
-terminated-answers InStandard bytes len e = refl
-terminated-answers InExtended bytes len e = refl
-terminated-answers Overlong bytes len e = refl
+terminated-answers : (o : Origin) (m : Mode) (bytes : List ℕ) (len : ℕ) → isOpen m ≡ true
+    → isAnswer (terminatedIn (rowing o) (rowingBounds o) (modeSeen m) bytes len) ≡ true
+terminated-answers o Outside bytes len e = absurd (true≢false (sym e))
+terminated-answers o InStandard bytes len e = refl
+terminated-answers o InExtended bytes len e = refl
+terminated-answers o Overlong bytes len e = refl
 
 stop-answers : (r : LineReader) (b : ℕ) (ρ : Role) → isOpen (r .state .mode) ≡ true → ρ ≡ stops
     → isAnswer (roleStep ρ r b .answer) ≡ true
 stop-answers r b ρ h e =
     ap (λ (x : Role). isAnswer (roleStep x r b .answer)) e
-    ∙ terminated-answers (r .state .mode) (r .bytes) (r .state .len) h
+    ∙ terminated-answers (r .state .origin) (r .state .mode) (r .bytes) (r .state .len) h
 
 pub stray-count-is : (r : LineReader) (bytes : List ℕ)
     → strays (isOpen (r .state .mode)) (take (feedOf r bytes .taken) bytes)
@@ -101,7 +102,7 @@ stray-count-is r (b ∷ bytes) =
         ≡ strayCount (isOpen (r .state .mode)) (b ∷ bytes)
     by-answer true e f h =
         at-answer (roleOf b) (isOpen (r .state .mode)) (b ∷ bytes)
-        (answered-open (r .state .mode) (r .bytes) (r .state .len) b (roleOf b) e)
+        (answered-open (r .state .origin) (r .state .mode) (r .bytes) (r .state .len) b (roleOf b) e)
     by-answer false e f h =
         let m : 1 + f .taken ≡ suc (f .taken) = omega arith in
         rw m (by-role (roleOf b) (isOpen (r .state .mode)) b (take (f .taken) bytes) bytes (role-tests b .0)
@@ -119,12 +120,12 @@ none-passed : (r : LineReader) (rest : List ℕ) (n : ℕ) → n ≡ 0
     → feedOf r rest ≡ laterBy n (feedOf r (drop n rest))
 none-passed r rest n e = rw e (plus-zero (feedOf r rest))
 
-by-mode : (m : Mode) (bytes rest : List ℕ) (n : ℕ) → n ≡ strayCount (isOpen m) rest
-    → feedOf (reader bytes 0 m) rest ≡ laterBy n (feedOf (reader bytes 0 m) (drop n rest))
-by-mode Outside bytes rest n e = rw e (strays-passed bytes rest)
-by-mode InStandard bytes rest n e = none-passed (reader bytes 0 InStandard) rest n e
-by-mode InExtended bytes rest n e = none-passed (reader bytes 0 InExtended) rest n e
-by-mode Overlong bytes rest n e = none-passed (reader bytes 0 Overlong) rest n e
+by-mode : (o : Origin) (m : Mode) (bytes rest : List ℕ) (n : ℕ) → n ≡ strayCount (isOpen m) rest
+    → feedOf (reader o bytes 0 m) rest ≡ laterBy n (feedOf (reader o bytes 0 m) (drop n rest))
+by-mode o Outside bytes rest n e = rw e (strays-passed o bytes rest)
+by-mode o InStandard bytes rest n e = none-passed (reader o bytes 0 InStandard) rest n e
+by-mode o InExtended bytes rest n e = none-passed (reader o bytes 0 InExtended) rest n e
+by-mode o Overlong bytes rest n e = none-passed (reader o bytes 0 Overlong) rest n e
 
 module _ (r : LineReader) (rest : List ℕ) (k n : ℕ) (ek : k ≡ strayCount (isOpen (r .state .mode)) rest)
     (en : n ≡ passedOver (r .state .len) k) where
@@ -140,9 +141,10 @@ module _ (r : LineReader) (rest : List ℕ) (k n : ℕ) (ek : k ≡ strayCount (
       by-bool (eqb (r .state .len) 0)
       (λ y. let q : n ≡ k = simp y at en in
       let z : r .state .len ≡ 0 = eqb-true (r .state .len) 0 y in
-      let u : r ≡ reader (r .bytes) 0 (r .state .mode) =
-      ap (λ (len : ℕ). reader (r .bytes) len (r .state .mode)) z in
-      rw u (by-mode (r .state .mode) (r .bytes) rest n (q ∙ ek)))
+      let o = r .state .origin in
+      let u : r ≡ reader o (r .bytes) 0 (r .state .mode) =
+      ap (λ (len : ℕ). reader o (r .bytes) len (r .state .mode)) z in
+      rw u (by-mode o (r .state .mode) (r .bytes) rest n (q ∙ ek)))
       (λ y. let q : n ≡ 0 = simp y at en in none-passed r rest n q)
 
 -- the bytes after them are fed, as the code takes them

@@ -7,6 +7,7 @@ use lib.ListN.{length, take, drop}
 use lib.Dec.{ltb}
 use Rattle.lists.specs.Choice.{pick}
 use Rattle.lists.specs.Machine.{leftAfter}
+use Rattle.frame.specs.declared.Origin.the-variants.{Trace}
 use Rattle.line.specs.Reader.{newReader, stepOf, finishOf}
 use Rattle.frame.specs.Flags.{roleOf}
 use Rattle.line.specs.declared.Mode.{Mode}
@@ -32,7 +33,7 @@ abbrev pub add64 : ℕ → ℕ → ℕ
 add64 a b = (a + b) % 2 ^ 64
 
 abbrev pub newListing : Listing
-newListing = record { reader = newReader; frames = 0; refusals = 0; strays = 0 }
+newListing = record { reader = newReader Trace; frames = 0; refusals = 0; strays = 0 }
 
 -- The number of the next answer.
 abbrev pub numberAfter : (frames refusals : ℕ) → ℕ

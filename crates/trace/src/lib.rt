@@ -1,6 +1,7 @@
 // The listing of a trace: a line for each answer of the line reader, then the totals (document 01, "Listing").
 // The state is a value. A call takes a chunk of the trace and a lent output, and writes whole lines into it.
 use answer::Written;
+use frame::Origin;
 use frame::flags;
 use line::ChunkStep;
 use line::LineReader;
@@ -63,7 +64,7 @@ pub fn new() -> Listing
     ensures { λ r. ⌜ r ≡ newListing ⌝ }
 {
     Listing {
-        reader: LineReader::new(),
+        reader: LineReader::new(Origin::Trace),
         frames: 0,
         refusals: 0,
         strays: 0,

@@ -3,12 +3,13 @@ use crate::lines;
 use crate::print;
 use crate::words;
 use command::entries;
+use frame::Origin;
 use line::ChunkFed;
 use line::LineReader;
 
 // The reader is finished after each group of chunks.
-pub(crate) fn run_calls(calls: &[u8]) {
-    let mut reader = LineReader::new();
+pub(crate) fn run_calls(origin: Origin, calls: &[u8]) {
+    let mut reader = LineReader::new(origin);
     let n = words::parts(calls, b'/');
     let mut k = 0;
     while k < n {

@@ -3,6 +3,7 @@ use crate::print;
 use crate::wire;
 use crate::words;
 use command::entries;
+use frame::Origin;
 use line::LineReader;
 use line::State;
 use line::Stepped;
@@ -10,8 +11,8 @@ use line::Told;
 ghost use Prim.Native.Nat.{_<_, _≤_};
 
 // Both readers get each group of bytes, and a finish after it.
-pub(crate) fn run_calls(calls: &[u8]) {
-    let mut reader = LineReader::new();
+pub(crate) fn run_calls(origin: Origin, calls: &[u8]) {
+    let mut reader = LineReader::new(origin);
     let mut held = [0u8; 118];
     let mut state = reader.state;
     let n = words::parts(calls, b'/');

@@ -13,6 +13,7 @@ mod words;
 mod workouts;
 
 use command::entries;
+use frame::Origin;
 
 fn main() {
     let mut text = io::large_buffer();
@@ -48,9 +49,13 @@ fn run(operation: usize, arguments: &[u8]) {
     match operation {
         operations::DISTANCE => workouts::write(false, arguments),
         operations::TIME => workouts::write(true, arguments),
+        operations::DISTANCE_FRAME => workouts::write_frame(false, arguments),
+        operations::TIME_FRAME => workouts::write_frame(true, arguments),
         operations::LEASE => leases::run_calls(arguments),
-        operations::LINE => lines::run_calls(arguments),
-        operations::CHUNKS => chunks::run_calls(arguments),
+        operations::LINE => lines::run_calls(Origin::Trace, arguments),
+        operations::LIVE_LINE => lines::run_calls(Origin::Live, arguments),
+        operations::CHUNKS => chunks::run_calls(Origin::Trace, arguments),
+        operations::LIVE_CHUNKS => chunks::run_calls(Origin::Live, arguments),
         operations::NAMES => replies::print_names(),
         _ => run_on_bytes(operation, arguments),
     }
@@ -65,10 +70,13 @@ fn run_on_bytes(operation: usize, arguments: &[u8]) {
 
 fn run_bytes(operation: usize, bytes: &[u8]) {
     match operation {
-        operations::FRAME => wire::read(bytes),
+        operations::FRAME => wire::read(Origin::Trace, bytes),
+        operations::LIVE_FRAME => wire::read(Origin::Live, bytes),
         operations::CONTENTS => wire::print_contents(bytes),
-        operations::STANDARD => wire::print_again(print::STANDARD, 0, 0, bytes),
-        operations::STANDARD_LENGTH => wire::print_length(frame::standard_length(bytes)),
+        operations::STANDARD => wire::print_standard(Origin::Trace, bytes),
+        operations::LIVE_STANDARD => wire::print_standard(Origin::Live, bytes),
+        operations::STANDARD_LENGTH => wire::print_standard_length(Origin::Trace, bytes),
+        operations::LIVE_LENGTH => wire::print_standard_length(Origin::Live, bytes),
         operations::NUMBER => wire::print_number(bytes),
         _ => run_at(
             operation,
@@ -98,7 +106,7 @@ fn run_at(operation: usize, n: u8, bytes: &[u8]) {
 // The first two are.
 fn run_between(operation: usize, first: u8, second: u8, bytes: &[u8]) {
     match operation {
-        operations::EXTENDED => wire::print_again(print::EXTENDED, first, second, bytes),
+        operations::EXTENDED => wire::print_extended(first, second, bytes),
         operations::EXTENDED_LENGTH => {
             wire::print_length(frame::extended_length(first, second, bytes));
         }

@@ -37,19 +37,34 @@ pub(crate) const STANDARD_LENGTH: usize = 16;
 
 pub(crate) const EXTENDED_LENGTH: usize = 17;
 
-pub(crate) const HOLD: usize = 18;
+pub(crate) const LIVE_FRAME: usize = 18;
 
-pub(crate) const RELEASE: usize = 19;
+pub(crate) const LIVE_STANDARD: usize = 19;
 
-pub(crate) const STOP: usize = 20;
+pub(crate) const LIVE_LENGTH: usize = 20;
 
-pub(crate) const OWN_BYTES: usize = 21;
+pub(crate) const LIVE_LINE: usize = 21;
 
-pub(crate) const COUNT: usize = 22;
+pub(crate) const LIVE_CHUNKS: usize = 22;
+
+pub(crate) const DISTANCE_FRAME: usize = 23;
+
+pub(crate) const TIME_FRAME: usize = 24;
+
+pub(crate) const HOLD: usize = 25;
+
+pub(crate) const RELEASE: usize = 26;
+
+pub(crate) const STOP: usize = 27;
+
+pub(crate) const OWN_BYTES: usize = 28;
+
+pub(crate) const COUNT: usize = 29;
 
 pub(crate) fn named(name: &[u8]) -> usize {
     let names =
         b"frame contents standard extended number command inside step item status distance time lease line chunks \
-        names standard-length extended-length hold release stop bytes";
+        names standard-length extended-length live-frame live-standard live-length live-line live-chunks \
+        distance-frame time-frame hold release stop bytes";
     words::index_among(names, COUNT, name)
 }

@@ -33,7 +33,7 @@ fn print_status(status: Status) {
 // The reply written from what stands before its last item and that item, or from its status.
 fn print_again(contents: &[u8], status: Status, items: usize) {
     if items == 0 {
-        return wire::write(print::STATUS, status.to_byte(), 0, contents, contents);
+        return print_status_again(status);
     }
     let last = reply::nth_item(contents, items - 1);
     match last {
@@ -42,16 +42,18 @@ fn print_again(contents: &[u8], status: Status, items: usize) {
     }
 }
 
+fn print_status_again(status: Status) {
+    let mut room = io::buffer();
+    let written = reply::write_status(status.to_byte(), &mut room);
+    wire::print_written(written, &room);
+}
+
 // Two bytes of an item stand before its data.
 fn print_item_again(contents: &[u8], byte: u8, start: usize, len: usize) {
     let prior = entries::part(contents, 0, std::num::wrapping_sub_usize(start, 2));
-    wire::write(
-        print::ITEMS_END,
-        byte,
-        0,
-        prior,
-        entries::part(contents, start, len),
-    );
+    let mut room = io::buffer();
+    let written = reply::write_item(prior, byte, entries::part(contents, start, len), &mut room);
+    wire::print_written(written, &room);
 }
 
 // The byte of a status that is made of its parts.

@@ -5,28 +5,30 @@ use crate::replies;
 use crate::workouts;
 use answer::Written;
 use command::entries;
+use frame::Origin;
 use frame::Read;
 use frame::WireLength;
 
-// A frame that is read is written again from what was read.
-pub(crate) fn read(wire: &[u8]) {
+// A frame that is read is written again from what was read, to where it came from.
+pub(crate) fn read(origin: Origin, wire: &[u8]) {
     let mut room = io::buffer();
-    let found = frame::read_frame(wire, &mut room);
+    let found = frame::read_frame(origin, wire, &mut room);
     match found {
-        Read::Standard { len } => tell(print::STANDARD, 0, 0, entries::part(&room, 0, len)),
-        Read::Extended { to, from, len } => tell(
-            print::EXTENDED,
-            to,
-            from,
-            entries::part(&room, 0, len),
-        ),
+        Read::Standard { len } => tell_standard(origin, entries::part(&room, 0, len)),
+        Read::Extended { to, from, len } => tell_extended(to, from, entries::part(&room, 0, len)),
         Read::Refused(why) => print::refusal(print::KIND_REFUSED, why),
     }
 }
 
-fn tell(kind: usize, to: u8, from: u8, contents: &[u8]) {
-    print_frame(kind, to, from, contents);
-    print_again(kind, to, from, contents);
+fn tell_standard(origin: Origin, contents: &[u8]) {
+    print_frame(print::STANDARD, 0, 0, contents);
+    print_standard(origin, contents);
+    print_contents(contents);
+}
+
+fn tell_extended(to: u8, from: u8, contents: &[u8]) {
+    print_frame(print::EXTENDED, to, from, contents);
+    print_extended(to, from, contents);
     print_contents(contents);
 }
 
@@ -52,33 +54,23 @@ pub(crate) fn print_number(bytes: &[u8]) {
 
 // ---- writing
 
-// The frame that has these contents.
-pub(crate) fn print_again(kind: usize, to: u8, from: u8, contents: &[u8]) {
+// The standard frame that has these contents.
+pub(crate) fn print_standard(origin: Origin, contents: &[u8]) {
     print::say(print::WRITTEN, 0, 0, 0);
-    write(kind, to, from, contents, contents);
-}
-
-// What is written of a kind, which is a form's index.
-pub(crate) fn write(kind: usize, first: u8, second: u8, contents: &[u8], body: &[u8]) {
     let mut room = io::buffer();
-    let written = write_to(kind, first, second, contents, body, &mut room);
+    let written = frame::write_standard(origin, contents, &mut room);
     print_written(written, &room);
 }
 
-fn write_to(
-    kind: usize,
-    first: u8,
-    second: u8,
-    contents: &[u8],
-    body: &[u8],
-    out: &mut [u8],
-) -> Written {
-    match kind {
-        print::STANDARD => frame::write_standard(contents, out),
-        print::EXTENDED => frame::write_extended(first, second, contents, out),
-        print::STATUS => reply::write_status(first, out),
-        _ => reply::write_item(contents, first, body, out),
-    }
+pub(crate) fn print_extended(to: u8, from: u8, contents: &[u8]) {
+    print::say(print::WRITTEN, 0, 0, 0);
+    let mut room = io::buffer();
+    let written = frame::write_extended(to, from, contents, &mut room);
+    print_written(written, &room);
+}
+
+pub(crate) fn print_standard_length(origin: Origin, contents: &[u8]) {
+    print_length(frame::standard_length(origin, contents));
 }
 
 // How many bytes a frame takes on the wire, or its refusal.

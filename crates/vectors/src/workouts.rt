@@ -4,6 +4,7 @@ use crate::wire;
 use crate::words;
 use answer::Written;
 use command::entries;
+use frame::Origin;
 use workout::Goal;
 use workout::Hundredths;
 use workout::Metres;
@@ -42,7 +43,7 @@ fn print_numbers(workout: Workout) {
     }
 }
 
-// A workout's contents, and the standard frame that has them where that is asked for.
+// A workout's contents and, where that is asked for, the standard frame of a trace that has them.
 fn print_again(workout: Workout, framed: bool) {
     let mut room = io::buffer();
     let written = workout::write_workout(workout, &mut room);
@@ -54,24 +55,36 @@ fn print_again(workout: Workout, framed: bool) {
 
 fn print_framed(written: Written, contents: &[u8]) {
     match written {
-        Written::Length(n) => wire::print_again(
-            print::STANDARD,
-            0,
-            0,
-            entries::part(contents, 0, n),
-        ),
+        Written::Length(n) => wire::print_standard(Origin::Trace, entries::part(contents, 0, n)),
         Written::Refused(_) => {}
     }
 }
 
-// The numbers of an example fit their fields.
 pub(crate) fn write(is_time: bool, arguments: &[u8]) {
-    let goal = (words::number(words::nth(arguments, b' ', 0)) % 0x100000000) as u32;
-    let split = (words::number(words::nth(arguments, b' ', 1)) % 0x100000000) as u32;
-    let watts = (words::number(words::nth(arguments, b' ', 2)) % 0x10000) as u16;
-    let goal = goal_of(is_time, goal, split);
     print::say(print::CONTENTS, 0, 0, 0);
-    print_again(Workout { goal, watts }, true)
+    print_again(workout_of(is_time, arguments), true)
+}
+
+// A workout in an extended frame to an address, which stands before its numbers.
+pub(crate) fn write_frame(is_time: bool, arguments: &[u8]) {
+    let address = number_at(arguments, 0);
+    let workout = workout_of(is_time, words::after(arguments, b' ', 1));
+    print::say(print::WRITTEN, 0, 0, 0);
+    let mut room = io::buffer();
+    let written = workout::write_workout_frame(address, workout, &mut room);
+    wire::print_written(written, &room);
+}
+
+// The workout of three words: its goal's number, the split and the power.
+fn workout_of(is_time: bool, arguments: &[u8]) -> Workout {
+    let goal = goal_of(is_time, number_at(arguments, 0), number_at(arguments, 1));
+    let watts = (number_at(arguments, 2) % 0x10000) as u16;
+    Workout { goal, watts }
+}
+
+// The number that the n-th word is. The numbers of an example fit their fields.
+fn number_at(arguments: &[u8], n: usize) -> u32 {
+    (words::number(words::nth(arguments, b' ', n)) % 0x100000000) as u32
 }
 
 fn goal_of(is_time: bool, goal: u32, split: u32) -> Goal {

@@ -1,17 +1,20 @@
 -- What follows for any reading and any writing call, over plain values.
-use Prim.Native.Nat.{ℕ}
+use Prim.Native.Nat.{ℕ, _≤_}
 use mathlib.Core.Path.{_≡_, sym, ap, _∙_}
 use mathlib.Core.List.{List}
-use lib.ListN.{take}
+use native.Mathlib.Omega.{arith}
+use lib.ListN.{length, take}
 use Rattle.lists.specs.Choice.{Exactly}
 use Rattle.lists.proofs.Cases.{exactly}
 use Rattle.answer.specs.Answer.{Answer, result}
+use Rattle.answer.proofs.Drafts.{written-first}
 use Rattle.workout.specs.Limits.{Limits, pm3Limits}
 use Rattle.workout.specs.Workout.{Programmed, Sendable}
-use Rattle.workout.specs.Answers.{workoutAnswer}
-use Rattle.workout.specs.Contracts.{ReadsWorkout, WritesWorkout}
+use Rattle.workout.specs.Answers.{workoutAnswer, workoutFrameDraft}
+use Rattle.workout.specs.Contracts.{ReadsWorkout, WritesWorkout, WritesWorkoutFrame}
 use Rattle.workout.specs.Conditions.{WithinLimits, Readable, WorkoutJudged}
 use Rattle.workout.specs.Encoding.{Encoded}
+use Rattle.workout.proofs.FrameLaws.{frame-short, frame-is}
 use Rattle.workout.proofs.Table.{read-by-table, read-exactly, written-within}
 use Rattle.workout.proofs.EncodingLaws.{encoded-read, read-encoded}
 use Rattle.workout.proofs.RoundTrip.{written-workout-reads-back, pm3-sendable}
@@ -43,3 +46,10 @@ pub pm3-writes-read-back : (w : Programmed) (out last : List ℕ) (n : ℕ) (a :
 pm3-writes-read-back w out last n a k =
     writes-read-back pm3Limits w out last n a
     (pm3-sendable w (written-within pm3Limits w out n (sym (k .writes .0)))) k
+
+-- A frame that a call wrote has at most 54 bytes.
+pub frame-writes-short : (limits : Limits) (to : ℕ) (w : Programmed) (out last : List ℕ) (n : ℕ)
+    → WritesWorkoutFrame limits to w out (result n) last → n ≤ 54
+frame-writes-short limits to w out last n k =
+    let f = written-first (workoutFrameDraft limits to w) out n (sym (k .writes .0)) in
+    omega (arith, f .2, ap length (frame-is limits to w (f .0) (f .1) .1), frame-short to w)

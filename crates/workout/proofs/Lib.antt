@@ -2,9 +2,11 @@ pub mod SameLaws
 pub mod LimitLaws
 pub mod ReadLaws
 pub mod WriteLaws
+pub mod FrameLaws
 pub mod Table
 pub mod RoundTrip
 pub mod EncodingLaws
 pub mod CallLaws
 pub mod Calls
+pub mod FrameBack
 pub mod Examples

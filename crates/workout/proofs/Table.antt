@@ -1,34 +1,40 @@
 -- Which answer is given exactly when: document 01's table of refusals for workouts.
 use Prim.Native.Nat.{ℕ}
 use mathlib.Core.Path.{_≡_, refl, sym, ap, ap₂, _∙_, subst}
-use mathlib.Core.Logic.{inl, inr}
+use mathlib.Core.Logic.{_⊎_, inl, inr}
 use mathlib.Core.Bool.{true, false, true≢false}
 use mathlib.Core.List.{List, _++_}
+use native.Mathlib.Nat.{zero-add}
 use native.Mathlib.Omega.{arith}
 use lib.Dec.{leb, eqb}
 use lib.ListN.{length, getD, drop}
 use lib.Seq.{take-all}
 use borrow.Author.Tests.{leb-true, leb-false, le-leb, eqb-true, eq-eqb}
-use Rattle.answer.specs.Draft.{draftAnswer, Writes}
-use Rattle.answer.proofs.Drafts.{writes-refusal, writes-no-room, written-first}
+use Rattle.answer.specs.Draft.{Draft, draftAnswer, Writes}
+use Rattle.answer.proofs.Drafts.{writes-refusal, writes-no-room, writes-done, written-first}
 use Rattle.answer.specs.Answer.{result, refused, Answer}
 use Rattle.lists.specs.Choice.{Exactly}
 use Rattle.lists.proofs.Cases.{by-bool, both-true, both-exactly}
+use Rattle.lists.proofs.Tests.{within-yes, within-true}
+use Rattle.frame.specs.Address.{inRange}
+use Rattle.frame.specs.Frame.{wireOf}
 use Rattle.workout.specs.Limits.{Limits}
 use Rattle.workout.specs.Workout.{Programmed, distance, time, commandOf, layout, withinLimits}
-use Rattle.workout.specs.Workout.{workoutBytes}
+use Rattle.workout.specs.Workout.{workoutBytes, workoutFrame}
 use Rattle.workout.specs.Form.{goalKindFor, goalKindIn, sameBytes, bytesAt, laidOut, unitKnown, clockRight}
 use Rattle.workout.specs.Form.{workoutAs, hasForm, inLimits}
-use Rattle.workout.specs.Answers.{workoutAnswer, workoutDraft}
+use Rattle.workout.specs.Answers.{workoutAnswer, workoutDraft, workoutFrameDraft}
 use Rattle.workout.specs.Conditions.{UnitKnown, Formed, WithinLimits, ClockRight, Limited, Readable}
 use Rattle.workout.specs.Conditions.{WorkoutJudged, formless, overLimit, readable, WorkoutWritten, outside}
-use Rattle.workout.specs.Conditions.{noRoom, fits}
+use Rattle.workout.specs.Conditions.{noRoom, fits, WorkoutFrameWritten, badAddress, outsideLimits}
+use Rattle.workout.specs.Conditions.{noRoomForFrame, frameFits}
 use Rattle.workout.specs.declared.layout.GoalKind.{GoalKind}
 use Rattle.workout.specs.declared.layout.GoalKind.the-variants.{Distance, Time}
 use Rattle.workout.proofs.SameLaws.{same-refl, same-true}
 use Rattle.workout.proofs.LimitLaws.{within-goal, goal-within}
 use Rattle.workout.proofs.ReadLaws.{bytes-at-part}
 use Rattle.workout.proofs.WriteLaws.{contents-length, draft-outside, draft-inside, draft-is, write-done}
+use Rattle.workout.proofs.FrameLaws.{frame-bad-address, frame-outside, frame-inside}
 
 -- ---- the form
 
@@ -104,6 +110,10 @@ unfolding withinLimits
 limits-within limits (distance goal split watts) l = goal-within (limits .distance) (limits .splits) 1 goal split l
 limits-within limits (time goal split watts) l = goal-within (limits .time) (limits .splits) 100 goal split l
 
+-- where a limit is not kept
+limits-outside : (limits : Limits) (w : Programmed) → (WithinLimits limits w → ⊥) → withinLimits limits w ≡ false
+limits-outside limits w n = by-bool (withinLimits limits w) (λ y. absurd (n (within-limits limits w y))) (λ y. y)
+
 clock-right : (kind : GoalKind) (c : List ℕ) → clockRight kind (getD c 3 0) (getD c 4 0) ≡ true → ClockRight kind c
 clock-right Distance c e = tt
 clock-right Time c e = let p = both-true (leb (getD c 3 0) 59) _ e in (leb-true _ _ (p .0), leb-true _ _ (p .1))
@@ -177,13 +187,24 @@ module _ (limits : Limits) (c : List ℕ) where
 
 -- ---- the table of writing
 
+-- A table whose lines are what a draft's writer does, with a line for every output, says exactly what it does.
+lines-exactly : (d : Draft) (out : List ℕ) (Line : Answer ℕ → List ℕ → Type 0)
+    → ((a : Answer ℕ) (last : List ℕ) → Line a last → Writes d out a last)
+    → ((a : Answer ℕ) × (last : List ℕ) × Line a last)
+    → (a : Answer ℕ) (last : List ℕ) → Exactly (Writes d out a last) (Line a last)
+lines-exactly d out Line line some a last = (
+  (λ p. let q = line (some .0) (some .1) (some .2) in
+      subst (λ (l : List ℕ). Line a l) (q .1 ∙ sym (p .1))
+      (subst (λ (x : Answer ℕ). Line x (some .1)) (q .0 ∙ sym (p .0)) (some .2))),
+  line a last,
+)
+
 module _ (limits : Limits) (w : Programmed) (out : List ℕ) where
   -- what the table says is answered and left
   line-write : (a : Answer ℕ) (last : List ℕ) → WorkoutWritten limits w out a last
       → Writes (workoutDraft limits w) out a last
   line-write a last (outside n) =
-      writes-refusal (workoutDraft limits w) 12 out (draft-outside limits w
-      (by-bool (withinLimits limits w) (λ y. absurd (n (within-limits limits w y))) (λ y. y)))
+      writes-refusal (workoutDraft limits w) 12 out (draft-outside limits w (limits-outside limits w n))
   line-write a last (noRoom l h) =
       writes-no-room (workoutDraft limits w) (workoutBytes w) out (draft-inside limits w (limits-within limits w l))
       (omega (arith, h, contents-length w))
@@ -204,13 +225,7 @@ module _ (limits : Limits) (w : Programmed) (out : List ℕ) where
   -- Every answer to writing, with the output afterwards, is given exactly when the table gives it.
   pub written-by-table : (a : Answer ℕ) (last : List ℕ)
       → Exactly (Writes (workoutDraft limits w) out a last) (WorkoutWritten limits w out a last)
-  written-by-table a last = (
-    (λ p. let s = some-write in
-        let q = line-write (s .0) (s .1) (s .2) in
-        subst (λ (l : List ℕ). WorkoutWritten limits w out a l) (q .1 ∙ sym (p .1))
-        (subst (λ (x : Answer ℕ). WorkoutWritten limits w out x (s .1)) (q .0 ∙ sym (p .0)) (s .2))),
-    line-write a last,
-  )
+  written-by-table = lines-exactly (workoutDraft limits w) out (WorkoutWritten limits w out) line-write some-write
 
   -- A call that writes is answered, and leaves its output, exactly as the table says.
   pub writes-exactly : (a b : Answer ℕ) (last left : List ℕ) → Writes (workoutDraft limits w) out a last
@@ -221,3 +236,60 @@ module _ (limits : Limits) (w : Programmed) (out : List ℕ) where
   pub written-within : (n : ℕ) → draftAnswer (workoutDraft limits w) (length out) ≡ result n
       → withinLimits limits w ≡ true
   written-within n e = let f = written-first (workoutDraft limits w) out n e in draft-is limits w (f .0) (f .1) .0
+
+-- ---- the table of writing in a frame
+
+module _ (limits : Limits) (to : ℕ) (w : Programmed) (out : List ℕ) where
+  abbrev wire : List ℕ
+  wire = wireOf (workoutFrame to w)
+
+  -- what the table says is answered and left
+  line-frame : (a : Answer ℕ) (last : List ℕ) → WorkoutFrameWritten limits to w out a last
+      → Writes (workoutFrameDraft limits to w) out a last
+  line-frame a last (badAddress n) =
+      writes-refusal (workoutFrameDraft limits to w) 9 out
+      (frame-bad-address limits to w
+      (by-bool (inRange to) (λ y. absurd (n (within-true 0x01 0xFC to y))) (λ y. y)))
+  line-frame a last (outsideLimits h k n) =
+      writes-refusal (workoutFrameDraft limits to w) 12 out
+      (frame-outside limits to w (within-yes 0x01 0xFC to h k) (limits-outside limits w n))
+  line-frame a last (noRoomForFrame h k l r) =
+      writes-no-room (workoutFrameDraft limits to w) wire out
+      (frame-inside limits to w (within-yes 0x01 0xFC to h k) (limits-within limits w l)) r
+  line-frame a last (frameFits h k l r) =
+      writes-done (workoutFrameDraft limits to w) wire out (wire ++ drop (length wire) out)
+      (frame-inside limits to w (within-yes 0x01 0xFC to h k) (limits-within limits w l)) r
+      (ap (λ (n : ℕ). wire ++ drop n out) (sym (zero-add (length wire))))
+
+  -- every call has a line of the table
+  some-frame : (a : Answer ℕ) × (last : List ℕ) × WorkoutFrameWritten limits to w out a last
+  some-frame =
+      by-bool (inRange to)
+      (λ r. let (h, k) = within-true 0x01 0xFC to r in
+      by-bool (withinLimits limits w)
+      (λ y. let l = within-limits limits w y in
+      by-bool (leb (length wire) (length out))
+      (λ f. (result (length wire), wire ++ drop (length wire) out, frameFits h k l (leb-true _ _ f)))
+      (λ f. (refused 1, out, noRoomForFrame h k l (leb-false _ _ f))))
+      (λ y. (refused 12, out, outsideLimits h k (λ l. true≢false (sym (limits-within limits w l) ∙ y)))))
+      (λ r. (refused 9, out, badAddress (λ (h, k). true≢false (sym (within-yes 0x01 0xFC to h k) ∙ r))))
+
+  -- A call that writes a workout in a frame is answered, and leaves its output, exactly as the table says.
+  pub frame-writes-exactly : (a b : Answer ℕ) (last left : List ℕ) → Writes (workoutFrameDraft limits to w) out a last
+      → Exactly ((a ≡ b) × (last ≡ left)) (WorkoutFrameWritten limits to w out b left)
+  frame-writes-exactly a b last left p =
+      both-exactly p
+      (lines-exactly (workoutFrameDraft limits to w) out (WorkoutFrameWritten limits to w out) line-frame some-frame
+      b left)
+
+  -- The table has no refusals but 9, 12 and 1.
+  pub frame-refusals : (n : ℕ) (last : List ℕ) → WorkoutFrameWritten limits to w out (refused n) last
+      → (n ≡ 9) ⊎ (n ≡ 12) ⊎ (n ≡ 1)
+  frame-refusals n last t = numbered (refused n) last t refl
+    where
+      numbered : (a : Answer ℕ) (last : List ℕ) → WorkoutFrameWritten limits to w out a last → a ≡ refused n
+          → (n ≡ 9) ⊎ (n ≡ 12) ⊎ (n ≡ 1)
+      numbered a last (badAddress m) e = let q : n ≡ 9 = cc in inl q
+      numbered a last (outsideLimits h k m) e = let q : n ≡ 12 = cc in inr (inl q)
+      numbered a last (noRoomForFrame h k l r) e = let q : n ≡ 1 = cc in inr (inr q)
+      numbered a last (frameFits h k l r) e = let z : _≡_ {A = ℕ} 0 1 = cc in absurd (omega arith)

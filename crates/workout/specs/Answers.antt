@@ -3,9 +3,11 @@
 use Prim.Native.Nat.{ℕ}
 use mathlib.Core.List.{List}
 use Rattle.lists.specs.Choice.{pick}
-use Rattle.answer.specs.Answer.{Answer, result, refused}
+use Rattle.answer.specs.Answer.{Answer, result, refused, through}
 use Rattle.answer.specs.Draft.{Draft}
 use Rattle.answer.specs.Refusals.{numberOf}
+use Rattle.frame.specs.Address.{inRange}
+use Rattle.frame.specs.Frame.{wireOf, extended}
 use Rattle.workout.specs.Limits.{Limits}
 use Rattle.workout.specs.Workout.{Programmed, programmed, withinLimits, workoutBytes}
 use Rattle.workout.specs.Form.{hasForm, inLimits, workoutIn}
@@ -23,3 +25,9 @@ workoutAnswer limits c = pick (hasForm c) (pick (inLimits limits c) (result (wor
 -- The contents of a workout, or refusal 12.
 unfoldable pub workoutDraft : Limits → Programmed → Draft
 workoutDraft limits w = pick (withinLimits limits w) (result (workoutBytes w)) (refused 12)
+
+-- The wire bytes of the extended frame from 00 to an address whose contents are a workout, or a refusal: 9 where the
+-- address is not 01 to FC, then the workout's own.
+unfoldable pub workoutFrameDraft : Limits → ℕ → Programmed → Draft
+workoutFrameDraft limits to w =
+    pick (inRange to) (through (λ c. wireOf (extended to 0x00 c)) (workoutDraft limits w)) (refused 9)

@@ -7,8 +7,9 @@ use mathlib.Core.Logic.{_⊎_}
 use mathlib.Core.List.{List, [], _∷_, _++_}
 use lib.ListN.{length, getD, drop}
 use Rattle.answer.specs.Answer.{result, refused, Answer}
+use Rattle.frame.specs.Frame.{wireOf}
 use Rattle.workout.specs.Limits.{GoalLimits, Limits, ceilDiv}
-use Rattle.workout.specs.Workout.{Programmed, distance, time, commandOf, identifierOf, workoutBytes}
+use Rattle.workout.specs.Workout.{Programmed, distance, time, commandOf, identifierOf, workoutBytes, workoutFrame}
 use Rattle.workout.specs.Form.{bytesAt, workoutAs}
 use Rattle.workout.specs.declared.layout.GoalKind.{GoalKind}
 use Rattle.workout.specs.declared.layout.GoalKind.the-variants.{Distance, Time}
@@ -75,3 +76,17 @@ pub data WorkoutWritten (limits : Limits) (w : Programmed) (out : List ℕ) : An
   noRoom : WithinLimits limits w → length out < 23 → WorkoutWritten limits w out (refused 1) out
   fits : WithinLimits limits w → 23 ≤ length out
       → WorkoutWritten limits w out (result 23) (workoutBytes w ++ drop 23 out)
+
+-- Document 02's No. 9: what writing a workout in a frame to an address is answered, and the output afterwards. The
+-- address comes first, then the limits, and the output's room is asked for last. The frame's bytes stand first in the
+-- output, and all after them is as it was; a refusal changes nothing.
+pub data WorkoutFrameWritten (limits : Limits) (to : ℕ) (w : Programmed) (out : List ℕ)
+    : Answer ℕ → List ℕ → Type 0 where
+  badAddress : ((0x01 ≤ to) × (to ≤ 0xFC) → ⊥) → WorkoutFrameWritten limits to w out (refused 9) out
+  outsideLimits : 0x01 ≤ to → to ≤ 0xFC → (WithinLimits limits w → ⊥)
+      → WorkoutFrameWritten limits to w out (refused 12) out
+  noRoomForFrame : 0x01 ≤ to → to ≤ 0xFC → WithinLimits limits w → length out < length (wireOf (workoutFrame to w))
+      → WorkoutFrameWritten limits to w out (refused 1) out
+  frameFits : 0x01 ≤ to → to ≤ 0xFC → WithinLimits limits w → length (wireOf (workoutFrame to w)) ≤ length out
+      → WorkoutFrameWritten limits to w out (result (length (wireOf (workoutFrame to w))))
+      (wireOf (workoutFrame to w) ++ drop (length (wireOf (workoutFrame to w))) out)

@@ -6,6 +6,7 @@ use mathlib.Core.List.{List, [], _∷_, _++_}
 use lib.Dec.{leb, eqb}
 use Rattle.lists.specs.Choice.{pick}
 use Rattle.numbers.specs.Number.{bytesOf}
+use Rattle.frame.specs.Frame.{Frame, extended}
 use Rattle.workout.specs.Limits.{Limits, withinGoal}
 use Rattle.workout.specs.declared.Workout.{Workout}
 use Rattle.workout.specs.declared.Goal.{Goal}
@@ -70,6 +71,10 @@ timeBytes seconds = bytesOf 1 (seconds / 3600) ++ (seconds / 60 % 60 ∷ seconds
 unfoldable pub workoutBytes : Programmed → List ℕ
 workoutBytes (distance goal split watts) = layout OfDistance (distanceBytes goal) (bytesOf 4 split) (bytesOf 2 watts)
 workoutBytes (time goal split watts) = layout OfTime (timeBytes goal) (bytesOf 4 split) (bytesOf 2 watts)
+
+-- The frame that a workout goes out in, from 00 to an address: document 02, No. 9.
+abbrev pub workoutFrame : ℕ → Programmed → Frame
+workoutFrame to w = extended to 0x00 (workoutBytes w)
 
 -- ---- what the bytes can hold
 

@@ -1,10 +1,11 @@
-// Programmed workouts: read from a frame's contents, and written.
-// Document 01, "Workout card".
+// Programmed workouts: read from a frame's contents, and written as contents or as a whole frame.
+// Document 01, "Workout card"; the frame: document 02, No. 9.
 mod layout;
 mod limits;
 
 use answer::Refusal;
 use answer::Written;
+use frame::address;
 use layout::GoalBytes;
 use layout::GoalKind;
 use limits::Limits;
@@ -15,11 +16,14 @@ ghost use Rattle.answer.specs.Draft.{draftAnswer, draftOut, writtenMeans};
 ghost use Rattle.numbers.specs.Number.{Bytes};
 ghost use Rattle.workout.specs.Limits.{pm3Limits};
 ghost use Rattle.workout.specs.Workout.{Programmed, programmed, workoutBytes};
-ghost use Rattle.workout.specs.Answers.{workoutMeans, workoutAnswer, workoutDraft};
+ghost use Rattle.workout.specs.Answers.{workoutMeans, workoutAnswer, workoutDraft, workoutFrameDraft};
 ghost use Rattle.workout.specs.Private.{limitsOf, distanceRead, timeRead, limitedRead, Divisible};
 
 // The most minutes and the most seconds that a time goal has beside its hours.
 const CLOCK_LIMIT: u8 = 59;
+
+// The host's address, which the frame of a workout names as its sender.
+const HOST: u8 = 0x00;
 
 pub struct Metres(pub u32);
 
@@ -62,6 +66,17 @@ pub fn write_workout(workout: Workout, out: &mut [u8]) -> Written
     ensures { λ r. ⌜ workout .watts < 2 ^ 16 ⌝ }
 {
     write_within(limits::PM3, workout, out)
+}
+
+// Writes the extended frame from 00 to an address whose contents are a workout. Refusals 9, 12 and 1.
+pub fn write_workout_frame(address: u32, workout: Workout, out: &mut [u8]) -> Written
+    ensures { λ r. ⌜ writtenMeans r ≡ draftAnswer (workoutFrameDraft pm3Limits address (programmed workout))
+        (length (now (out .entry))) ⌝ }
+    ensures { λ r. ⌜ now (out .exit) ≡ draftOut (workoutFrameDraft pm3Limits address (programmed workout))
+        (now (out .entry)) ⌝ }
+    ensures { λ r. ⌜ workout .watts < 2 ^ 16 ⌝ }
+{
+    write_frame_within(limits::PM3, address, workout, out)
 }
 
 // The form of all bytes is looked at before any limit.
@@ -167,6 +182,25 @@ fn write_within(limits: Limits, workout: Workout, out: &mut [u8]) -> Written
     let contents = contents_of(workout);
     bytes::copy(&contents, out);
     Written::Length(layout::LEN)
+}
+
+// The address is looked at before any limit. The frame of a workout is within the longest that is allowed, so that the
+// frame's writer refuses it only where it has no room.
+fn write_frame_within(limits: Limits, address: u32, workout: Workout, out: &mut [u8]) -> Written
+    requires { ⌜ Divisible (limitsOf limits) ⌝ }
+    ensures { λ r. ⌜ writtenMeans r ≡ draftAnswer (workoutFrameDraft (limitsOf limits) address (programmed workout))
+        (length (now (out .entry))) ⌝ }
+    ensures { λ r. ⌜ now (out .exit) ≡ draftOut (workoutFrameDraft (limitsOf limits) address (programmed workout))
+        (now (out .entry)) ⌝ }
+{
+    if !address::in_range(address) {
+        return Written::Refused(Refusal::BadAddress);
+    }
+    if !limits::within_limits(limits, workout) {
+        return Written::Refused(Refusal::OutOfLimits);
+    }
+    let contents = contents_of(workout);
+    frame::write_extended(address as u8, HOST, &contents, out)
 }
 
 fn contents_of(workout: Workout) -> [u8; 23]

@@ -28,7 +28,8 @@ use std::process::{Command, Stdio};
 use std::time::Instant;
 
 use common::Xorshift;
-use plain::{frame, listing};
+use plain::frame::{self, Origin};
+use plain::listing;
 use table::Table;
 
 const TRACE_LEN: usize = 128 << 20;
@@ -170,7 +171,7 @@ fn extend_by_frame(trace: &mut Vec<u8>, random: &mut Xorshift) {
             .collect(),
     };
     let written = match random.below(2) {
-        0 => frame::write_standard(&contents, &mut wire),
+        0 => frame::write_standard(Origin::Trace, &contents, &mut wire),
         _ => frame::write_extended(random.below(256) as u8, 0x00, &contents, &mut wire),
     };
     let written = written.expect("the frame is short enough");

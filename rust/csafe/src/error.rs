@@ -3,7 +3,7 @@ use core::fmt;
 /// Why a call was refused: a variant for each number of the table of refusals.
 ///
 /// The section "Errors" of each function lists what it can give, in order: the first that holds is given. The
-/// functions of this crate give 1 to 6, 9 to 12, 14 and 18. The others are those of the command, reply and workout
+/// functions of this crate give 1 to 6, 9 to 12, 14, 17 and 18. The others are those of the command, reply and workout
 /// readers, and stand here so that one table serves a portal's logs.
 ///
 /// A static library of another version may answer a number that stands for nothing here. Any function tells that as
@@ -12,7 +12,7 @@ use core::fmt;
 /// ```
 /// use csafe::{frame, Error};
 ///
-/// let wire = [0xF1, 0x24, 0x02, 0x03, 0x00, 0x24, 0xF2];
+/// let wire = [0xF0, 0x05, 0x00, 0x24, 0x02, 0x03, 0x00, 0x24, 0xF2];
 /// match frame::read(&wire, &mut [0; frame::CONTENTS_LIMIT]) {
 ///     Ok(frame) => panic!("{frame:?}"),
 ///     Err(Error::BadChecksum) => {}
@@ -56,6 +56,9 @@ pub enum Error {
     ZeroToken = 14,
     /// There is no n-th command or item.
     Absent = 15,
+    /// A standard frame was read or was to be written on a live line. It has no addresses, so it names no sender. The
+    /// functions of [`trace`](crate::trace) take it.
+    Unnamed = 17,
     /// The lent lease table is not 2,048 bytes long.
     BadTable = 18,
     /// The static library answered a number that no refusal of this version has.
@@ -87,6 +90,7 @@ impl Error {
             Error::NotWorkout => 13,
             Error::ZeroToken => 14,
             Error::Absent => 15,
+            Error::Unnamed => 17,
             Error::BadTable => 18,
             Error::Unknown { number } => number,
         }
@@ -129,6 +133,7 @@ impl Error {
             13 => Error::NotWorkout,
             14 => Error::ZeroToken,
             15 => Error::Absent,
+            17 => Error::Unnamed,
             18 => Error::BadTable,
             _ => Error::Unknown { number },
         }
@@ -159,6 +164,7 @@ impl fmt::Display for Error {
             Error::NotWorkout => "the contents are not a programmed workout",
             Error::ZeroToken => "the token is 0",
             Error::Absent => "there is no n-th command or item",
+            Error::Unnamed => "a standard frame names no sender, so a live line takes none",
             Error::BadTable => "the lent lease table is not 2,048 bytes long",
             Error::Unknown { number } => {
                 return write!(
@@ -186,7 +192,7 @@ mod tests {
             let error = Error::from_number(number).expect("a refusal");
             assert_eq!(error.number(), number);
             let named = !matches!(error, Error::Unknown { .. });
-            assert_eq!(named, matches!(number, 1..=15 | 18), "number {number}");
+            assert_eq!(named, matches!(number, 1..=15 | 17 | 18), "number {number}");
         }
     }
 
@@ -201,7 +207,7 @@ mod tests {
 
     #[test]
     fn an_unknown_number_is_shown() {
-        let unknown = Error::from_number(17).expect("a refusal");
-        assert!(unknown.to_string().contains("answered 17,"));
+        let unknown = Error::from_number(16).expect("a refusal");
+        assert!(unknown.to_string().contains("answered 16,"));
     }
 }

@@ -19,8 +19,14 @@ mod exported {
         pub fn csafe_read(wire: *const u8, wire_len: usize, out: *mut u8, out_len: usize) -> u64;
         pub fn csafe_feed(bytes: *mut u8, state: *mut u64, input: *const u8, input_len: usize, taken: *mut u64) -> u64;
         pub fn csafe_finish(state: *mut u64) -> u64;
+        pub fn csafe_trace_write_standard(contents: *const u8, contents_len: usize, out: *mut u8, out_len: usize) -> u64;
+        pub fn csafe_trace_standard_length(contents: *const u8, contents_len: usize) -> u64;
+        pub fn csafe_trace_read(wire: *const u8, wire_len: usize, out: *mut u8, out_len: usize) -> u64;
+        pub fn csafe_trace_feed(bytes: *mut u8, state: *mut u64, input: *const u8, input_len: usize, taken: *mut u64) -> u64;
         pub fn csafe_write_distance_workout(metres: u32, split_metres: u32, watts: u16, out: *mut u8, out_len: usize) -> u64;
         pub fn csafe_write_time_workout(seconds: u32, split_hundredths: u32, watts: u16, out: *mut u8, out_len: usize) -> u64;
+        pub fn csafe_write_distance_workout_frame(address: u32, metres: u32, split_metres: u32, watts: u16, out: *mut u8, out_len: usize) -> u64;
+        pub fn csafe_write_time_workout_frame(address: u32, seconds: u32, split_hundredths: u32, watts: u16, out: *mut u8, out_len: usize) -> u64;
         pub fn csafe_hold(table: *mut u8, table_len: usize, address: u32, token: u64) -> u64;
         pub fn csafe_release(table: *mut u8, table_len: usize, address: u32, token: u64) -> u64;
         pub fn csafe_stop(table: *const u8, table_len: usize, address: u32, token: u64, out: *mut u8, out_len: usize) -> u64;
@@ -161,6 +167,53 @@ pub(crate) fn finish(state: &mut u64) -> Answer {
 }
 
 #[inline]
+pub(crate) fn trace_write_standard(contents: &[u8], out: &mut [u8]) -> Answer {
+    // SAFETY: as for `write_standard`.
+    Answer(unsafe {
+        exported::csafe_trace_write_standard(
+            contents.as_ptr(),
+            contents.len(),
+            out.as_mut_ptr(),
+            out.len(),
+        )
+    })
+}
+
+#[inline]
+pub(crate) fn trace_standard_length(contents: &[u8]) -> Answer {
+    // SAFETY: as for `standard_length`.
+    Answer(unsafe { exported::csafe_trace_standard_length(contents.as_ptr(), contents.len()) })
+}
+
+#[inline]
+pub(crate) fn trace_read(wire: &[u8], out: &mut [u8]) -> Answer {
+    // SAFETY: as for `write_standard`.
+    Answer(unsafe {
+        exported::csafe_trace_read(wire.as_ptr(), wire.len(), out.as_mut_ptr(), out.len())
+    })
+}
+
+#[inline]
+pub(crate) fn trace_feed(
+    bytes: &mut [u8; HELD_LEN],
+    state: &mut u64,
+    input: &[u8],
+) -> (usize, Answer) {
+    let mut taken = 0;
+    // SAFETY: as for `feed`.
+    let answer = Answer(unsafe {
+        exported::csafe_trace_feed(
+            bytes.as_mut_ptr(),
+            state,
+            input.as_ptr(),
+            input.len(),
+            &mut taken,
+        )
+    });
+    (taken as usize, answer)
+}
+
+#[inline]
 pub(crate) fn write_distance(metres: u32, split: u32, watts: u16, out: &mut [u8]) -> Answer {
     // SAFETY: the pointer comes with the length of its slice, which is borrowed exclusively; any numbers are taken.
     Answer(unsafe {
@@ -173,6 +226,48 @@ pub(crate) fn write_time(seconds: u32, split: u32, watts: u16, out: &mut [u8]) -
     // SAFETY: as for `write_distance`.
     Answer(unsafe {
         exported::csafe_write_time_workout(seconds, split, watts, out.as_mut_ptr(), out.len())
+    })
+}
+
+#[inline]
+pub(crate) fn write_distance_frame(
+    address: u32,
+    metres: u32,
+    split: u32,
+    watts: u16,
+    out: &mut [u8],
+) -> Answer {
+    // SAFETY: as for `write_distance`.
+    Answer(unsafe {
+        exported::csafe_write_distance_workout_frame(
+            address,
+            metres,
+            split,
+            watts,
+            out.as_mut_ptr(),
+            out.len(),
+        )
+    })
+}
+
+#[inline]
+pub(crate) fn write_time_frame(
+    address: u32,
+    seconds: u32,
+    split: u32,
+    watts: u16,
+    out: &mut [u8],
+) -> Answer {
+    // SAFETY: as for `write_distance`.
+    Answer(unsafe {
+        exported::csafe_write_time_workout_frame(
+            address,
+            seconds,
+            split,
+            watts,
+            out.as_mut_ptr(),
+            out.len(),
+        )
     })
 }
 
@@ -206,6 +301,8 @@ pub(crate) fn stop(table: &[u8], address: u32, token: u64, out: &mut [u8]) -> An
 
 #[cfg(test)]
 mod tests {
+    use plain::workout::{self, Goal, Workout};
+
     use super::*;
 
     #[test]
@@ -239,15 +336,15 @@ mod tests {
     #[test]
     fn frame_answers_are_whole_numbers_of_the_layout() {
         let out = &mut [0; 128];
-        assert_eq!(write_standard(&[0xF1], out).0, 6 << 32);
-        assert_eq!(write_standard(&[0; 118], out).0, 2);
+        assert_eq!(write_standard(&[0xF1], out).0, 17);
+        assert_eq!(write_standard(&[0; 118], out).0, 17);
         assert_eq!(write_extended(0xFF, 0xFD, &[], out).0, 5 << 32);
         assert_eq!(write_extended(0xFF, 0xFD, &[], &mut out[..4]).0, 1);
-        assert_eq!(standard_length(&[0xF1]).0, 6 << 32);
-        assert_eq!(standard_length(&[0; 118]).0, 2);
+        assert_eq!(standard_length(&[0xF1]).0, 17);
+        assert_eq!(standard_length(&[0; 118]).0, 17);
         assert_eq!(extended_length(0xFF, 0xFD, &[]).0, 5 << 32);
         assert_eq!(extended_length(0xFF, 0xFD, &[0; 116]).0, 2);
-        assert_eq!(read(&[0xF1, 0x41, 0x41, 0xF2], out).0, 1 << 32);
+        assert_eq!(read(&[0xF1, 0x41, 0x41, 0xF2], out).0, 17);
         let extended = [0xF0, 0xFF, 0xFD, 0x41, 0x41, 0xF2];
         assert_eq!(read(&extended, out).0, 0x0000_0001_FDFF_0100);
         assert_eq!(read(&extended, &mut []).0, 1);
@@ -261,7 +358,7 @@ mod tests {
             let (taken, answer) = feed(bytes, state, input);
             (taken, answer.0, *state)
         };
-        assert_eq!(feed(&[0xF1, 0x00, 0xF2]), (3, 0, 0));
+        assert_eq!(feed(&[0xF1, 0x00, 0xF2]), (3, 17, 0));
         assert_eq!(feed(&[]), (0, 0x200, 0));
         assert_eq!(feed(&[0x41, 0xF2]), (2, 0x200, 0));
         assert_eq!(feed(&[0xF0, 0xFF, 0xFD]), (3, 0x200, 4 * 2 + 2));
@@ -280,12 +377,80 @@ mod tests {
     }
 
     #[test]
+    fn trace_answers_are_whole_numbers_of_the_layout() {
+        let out = &mut [0; 128];
+        assert_eq!(trace_write_standard(&[0xF1], out).0, 6 << 32);
+        assert_eq!(trace_write_standard(&[0; 118], out).0, 2);
+        assert_eq!(trace_write_standard(&[0xF1], &mut out[..5]).0, 1);
+        assert_eq!(trace_standard_length(&[0xF1]).0, 6 << 32);
+        assert_eq!(trace_standard_length(&[0; 118]).0, 2);
+        let standard = [0xF1, 0x41, 0x41, 0xF2];
+        assert_eq!(trace_read(&standard, out).0, 1 << 32);
+        assert_eq!(trace_read(&standard, &mut []).0, 1);
+        let extended = [0xF0, 0xFF, 0xFD, 0x41, 0x41, 0xF2];
+        assert_eq!(trace_read(&extended, out).0, 0x0000_0001_FDFF_0100);
+        let (bytes, state) = (&mut [0; HELD_LEN], &mut 0);
+        let mut feed = |input: &[u8]| {
+            let (taken, answer) = trace_feed(bytes, state, input);
+            (taken, answer.0, *state)
+        };
+        assert_eq!(feed(&[0xF1, 0x00, 0xF2]), (3, 0, 0));
+        assert_eq!(feed(&[0xF1, 0x41]), (2, 0x200, 4 + 1));
+        assert_eq!(feed(&[0x41, 0xF2, 0x41]), (2, 1 << 32, 0));
+        assert_eq!(feed(&[0x41; 65_537]), (65_536, 0x200, 0));
+    }
+
+    #[test]
     fn workout_answers_are_whole_numbers_of_the_layout() {
         let out = &mut [0; 23];
         assert_eq!(write_distance(2_000, 500, 200, out).0, 23 << 32);
         assert_eq!(write_distance(99, 99, 200, out).0, 12);
         assert_eq!(write_time(1_200, 24_000, 100, out).0, 23 << 32);
         assert_eq!(write_time(1_200, 24_000, 100, &mut []).0, 1);
+        let wire = &mut [0; 28];
+        let whole = write_distance_frame(0x05, 2_000, 500, 200, wire);
+        assert_eq!(whole.0, 28 << 32);
+        assert_eq!(write_distance_frame(0x105, 2_000, 500, 200, wire).0, 9);
+        assert_eq!(write_distance_frame(0x05, 99, 99, 200, wire).0, 12);
+        let whole = write_time_frame(0x05, 1_200, 24_000, 100, wire);
+        assert_eq!(whole.0, 28 << 32);
+        assert_eq!(write_time_frame(0x05, 1_200, 24_000, 100, out).0, 1);
+    }
+
+    /// What the independent implementation answers to a workout in a frame, as a number of the layout.
+    fn framed_by_plain(address: u32, goal: Goal, watts: u16, out: &mut [u8]) -> u64 {
+        match workout::write_frame(address, Workout { goal, watts }, out) {
+            Ok(len) => (len as u64) << 32,
+            Err(number) => number.into(),
+        }
+    }
+
+    /// Addresses that are no bytes reach these functions from C alone, so they are compared here.
+    #[test]
+    fn workouts_are_framed_alike_for_any_number_as_an_address() {
+        let beyond = [0x105, 0x1FC, 0x1_0005, 0x8000_0005, 0xFFFF_FF05, u32::MAX];
+        let mut refused = 0;
+        for address in (0..=300).chain(beyond) {
+            for (number, split) in [(2_000, 0x01F0), (600, 0x4EF0), (99, 99)] {
+                let (metres, seconds, watts) = (number, number, 0xF0F3);
+                for room in 0..=60 {
+                    let (mut ours, mut theirs) = ([0xA5; 60], [0xA5; 60]);
+                    let answer =
+                        write_distance_frame(address, metres, split, watts, &mut ours[..room]);
+                    let goal = Goal::Distance { metres, split };
+                    let expected = framed_by_plain(address, goal, watts, &mut theirs[..room]);
+                    assert_eq!((answer.0, ours), (expected, theirs), "{address:#X}");
+                    refused += usize::from(answer.0 == 9);
+                    let answer =
+                        write_time_frame(address, seconds, split, watts, &mut ours[..room]);
+                    let goal = Goal::Time { seconds, split };
+                    let expected = framed_by_plain(address, goal, watts, &mut theirs[..room]);
+                    assert_eq!((answer.0, ours), (expected, theirs), "{address:#X}");
+                }
+            }
+        }
+        // Address 0, the 48 from 253 to 300, and those beyond.
+        assert_eq!(refused, (1 + 48 + beyond.len()) * 3 * 61);
     }
 
     #[test]

@@ -1,4 +1,7 @@
-//! CSAFE frames: measured, written, and read from a slice that holds exactly one.
+//! CSAFE frames of a live line: measured, written, and read from a slice that holds exactly one.
+//!
+//! A live line has extended frames alone. A standard frame names no sender, so it is refused as [`Error::Unnamed`];
+//! [`trace`](crate::trace) has the functions for standard frames of a stored trace.
 
 use core::fmt;
 use core::hash::{Hash, Hasher};
@@ -14,7 +17,7 @@ pub const CONTENTS_LIMIT: usize = 117;
 /// What a frame is apart from its contents.
 #[derive(Clone, Copy, Debug, PartialEq, Eq, Hash)]
 pub enum Kind {
-    /// A frame without addresses.
+    /// A frame without addresses, which only a trace has.
     Standard,
     /// A frame with addresses, which may be any. The checksum does not cover them.
     Extended {
@@ -41,8 +44,9 @@ impl Frame<'_> {
     ///
     /// In this order, as [`write_standard`] and [`write_extended`]:
     ///
-    /// 1. [`Error::TooLong`]: the frame would be over [`WIRE_LIMIT`] on the wire.
-    /// 2. [`Error::NoRoom`]: the output is shorter than the frame.
+    /// 1. [`Error::Unnamed`]: it is a standard frame.
+    /// 2. [`Error::TooLong`]: the frame would be over [`WIRE_LIMIT`] on the wire.
+    /// 3. [`Error::NoRoom`]: the output is shorter than the frame.
     ///
     /// ```
     /// use csafe::frame::{self, Frame, Kind};
@@ -65,7 +69,10 @@ impl Frame<'_> {
     ///
     /// # Errors
     ///
-    /// [`Error::TooLong`]: the frame would be over [`WIRE_LIMIT`] on the wire.
+    /// In this order:
+    ///
+    /// 1. [`Error::Unnamed`]: it is a standard frame.
+    /// 2. [`Error::TooLong`]: the frame would be over [`WIRE_LIMIT`] on the wire.
     ///
     /// ```
     /// use csafe::frame::{Frame, Kind};
@@ -76,8 +83,10 @@ impl Frame<'_> {
     /// assert_eq!(frame.write(&mut wire), Ok(wire.len()));
     /// assert_eq!(wire, [0xF0, 0x05, 0xF3, 0x01, 0x80, 0x80, 0xF2]);
     ///
-    /// let long = Frame { kind: Kind::Standard, contents: &[0; 118] };
+    /// let long = Frame { contents: &[0; 118], ..frame };
     /// assert_eq!(long.length(), Err(Error::TooLong));
+    /// let standard = Frame { kind: Kind::Standard, ..frame };
+    /// assert_eq!(standard.length(), Err(Error::Unnamed));
     /// # Ok::<(), Error>(())
     /// ```
     #[inline]
@@ -165,22 +174,25 @@ impl fmt::Debug for OwnedFrame {
     }
 }
 
-/// Writes a standard frame first in the output and answers its length on the wire.
+/// Refuses to write a standard frame, whatever its contents. The output stays as it was.
+///
+/// A standard frame names no sender, so none goes out on a live line. A program that asks for one is told so by this
+/// function; what it has to send goes through [`write_extended`].
+/// [`trace::write_standard`](crate::trace::write_standard) writes one into a stored trace.
 ///
 /// # Errors
 ///
-/// In this order:
-///
-/// 1. [`Error::TooLong`]: the frame would be over [`WIRE_LIMIT`] on the wire.
-/// 2. [`Error::NoRoom`]: the output is shorter than the frame.
+/// [`Error::Unnamed`]: always.
 ///
 /// ```
-/// use csafe::frame;
+/// use csafe::{frame, Error};
 ///
 /// let mut wire = [0; 8];
-/// let len = frame::write_standard(&[0xF1], &mut wire)?;
-/// assert_eq!(wire[..len], [0xF1, 0xF3, 0x01, 0xF3, 0x01, 0xF2]);
-/// # Ok::<(), csafe::Error>(())
+/// assert_eq!(frame::write_standard(&[0x80], &mut wire), Err(Error::Unnamed));
+///
+/// let len = frame::write_extended(0x05, 0x00, &[0x80], &mut wire)?;
+/// assert_eq!(wire[..len], [0xF0, 0x05, 0x00, 0x80, 0x80, 0xF2]);
+/// # Ok::<(), Error>(())
 /// ```
 #[inline]
 pub fn write_standard(contents: &[u8], out: &mut [u8]) -> Result<usize, Error> {
@@ -214,21 +226,19 @@ pub fn write_extended(to: u8, from: u8, contents: &[u8], out: &mut [u8]) -> Resu
         .len())
 }
 
-/// How many bytes a standard frame takes on the wire, which is the room that [`write_standard`] needs.
+/// Refuses to tell the length of a standard frame, whatever its contents, because [`write_standard`] writes none. A
+/// program that asks for it is told why before it has made an output.
+/// [`trace::standard_length`](crate::trace::standard_length) tells the length in a stored trace.
 ///
 /// # Errors
 ///
-/// [`Error::TooLong`]: the frame would be over [`WIRE_LIMIT`] on the wire.
+/// [`Error::Unnamed`]: always.
 ///
 /// ```
 /// use csafe::{frame, Error};
 ///
-/// let mut wire = vec![0; frame::standard_length(&[0xF1])?];
-/// frame::write_standard(&[0xF1], &mut wire)?;
-/// assert_eq!(wire, [0xF1, 0xF3, 0x01, 0xF3, 0x01, 0xF2]);
-///
-/// assert_eq!(frame::standard_length(&[0; 118]), Err(Error::TooLong));
-/// # Ok::<(), Error>(())
+/// assert_eq!(frame::standard_length(&[0x80]), Err(Error::Unnamed));
+/// assert_eq!(frame::extended_length(0x05, 0x00, &[0x80]), Ok(6));
 /// ```
 #[inline]
 pub fn standard_length(contents: &[u8]) -> Result<usize, Error> {
@@ -270,18 +280,25 @@ pub fn extended_length(to: u8, from: u8, contents: &[u8]) -> Result<usize, Error
 /// 3. [`Error::BadEscape`]: F3 is not followed by 00 to 03.
 /// 4. [`Error::TooShort`]: a checksum or an address is missing.
 /// 5. [`Error::BadChecksum`]: the checksum is not the one that the contents have.
-/// 6. [`Error::NoRoom`]: the output is shorter than the contents.
+/// 6. [`Error::Unnamed`]: it is a standard frame. [`trace::read`](crate::trace::read) takes it.
+/// 7. [`Error::NoRoom`]: the output is shorter than the contents.
 ///
 /// ```
 /// use csafe::frame::{self, Kind};
 /// use csafe::Error;
 ///
 /// let mut out = [0; frame::CONTENTS_LIMIT];
-/// let frame = frame::read(&[0xF1, 0x24, 0x02, 0x03, 0x00, 0x25, 0xF2], &mut out)?;
-/// assert_eq!(frame.kind, Kind::Standard);
+/// let frame = frame::read(&[0xF0, 0x00, 0x05, 0x24, 0x02, 0x03, 0x00, 0x25, 0xF2], &mut out)?;
+/// assert_eq!(frame.kind, Kind::Extended { to: 0x00, from: 0x05 });
 /// assert_eq!(frame.contents, [0x24, 0x02, 0x03, 0x00]);
 ///
-/// assert_eq!(frame::read(&[0xF1, 0xF3, 0x04, 0xF2], &mut out), Err(Error::BadEscape));
+/// assert_eq!(frame::read(&[0xF0, 0x00, 0x05, 0xF3, 0x04, 0xF2], &mut out), Err(Error::BadEscape));
+///
+/// // A standard frame that is damaged is refused for its damage, and a sound one because it names no sender.
+/// let mut standard = [0xF1, 0x24, 0x02, 0x03, 0x00, 0x24, 0xF2];
+/// assert_eq!(frame::read(&standard, &mut out), Err(Error::BadChecksum));
+/// standard[5] = 0x25;
+/// assert_eq!(frame::read(&standard, &mut out), Err(Error::Unnamed));
 /// # Ok::<(), Error>(())
 /// ```
 #[inline]

@@ -8,8 +8,11 @@
 //!
 //! - [`frame`] tells how long a frame is on the wire, writes it, and reads one from a slice.
 //! - [`mod@line`] reads the frames of a live line, in whatever chunks its bytes arrive.
-//! - [`workout`] writes a programmed workout.
+//! - [`trace`] does both for stored traces, in which standard frames are read as they stand.
+//! - [`workout`] writes a programmed workout, and the frame that takes it to a machine.
 //! - [`lease`] keeps who holds which machine, and writes the frame that stops it for the holder alone.
+//!
+//! A standard frame names no sender. On a live line it is refused as [`Error::Unnamed`], in reading and in writing.
 //!
 //! A frame's checksum does not cover its addresses, so an accepted frame says nothing sure about who sent it.
 //!
@@ -45,7 +48,7 @@
 //!
 //! // A stray byte, a frame cut short, and two frames of the machine, as they happen to arrive.
 //! let chunks: [&[u8]; 4] = [
-//!     &[0x55, 0xF1, 0x76],
+//!     &[0x55, 0xF0, 0x00],
 //!     &[0xF0, 0x00, 0x05, 0x81],
 //!     &[0x81, 0xF2, 0xF0, 0x00, 0x05, 0x01, 0xF3],
 //!     &[0x02, 0xF3, 0x03, 0xF2],
@@ -78,6 +81,7 @@ mod ffi;
 pub mod frame;
 pub mod lease;
 pub mod line;
+pub mod trace;
 pub mod workout;
 
 pub use error::Error;

@@ -1,6 +1,5 @@
-//! Programmed workouts: the contents of the frame that sets one up.
+//! Programmed workouts: the contents that set one up, and the frame that takes them to a machine.
 
-use crate::frame::{Frame, Kind};
 use crate::{ffi, Error};
 
 /// The length of a workout's contents.
@@ -48,7 +47,7 @@ pub enum Goal {
 /// A workout. Its numbers may be any; writing it refuses those outside the limits that stand with [`Goal`].
 ///
 /// ```
-/// use csafe::frame::{self, Kind};
+/// use csafe::frame;
 /// use csafe::workout::{Goal, Hundredths, Metres, Seconds};
 /// use csafe::{Error, Workout};
 ///
@@ -63,7 +62,7 @@ pub enum Goal {
 ///     watts: 100,
 /// };
 /// let mut wire = [0; frame::WIRE_LIMIT];
-/// let len = timed.write_frame(Kind::Extended { to: 0x05, from: 0x00 }, &mut wire)?;
+/// let len = timed.write_frame(0x05, &mut wire)?;
 /// assert_eq!(wire[..8], [0xF0, 0x05, 0x00, 0x20, 0x03, 0x00, 0x14, 0x00]);
 /// assert_eq!(len, 28);
 ///
@@ -114,18 +113,27 @@ impl Workout {
         Ok(contents)
     }
 
-    /// Writes a frame of this kind with the workout's contents first in the output and answers its length on the
-    /// wire. It is [`to_contents`](Workout::to_contents) and then [`Frame::write`]; any addresses are taken.
+    /// Writes the extended frame with the workout's contents that goes from the host, 00, to this address. It stands
+    /// first in the output, and its length on the wire is answered.
     ///
     /// # Errors
     ///
     /// In this order:
     ///
-    /// 1. [`Error::OutOfLimits`]: the goal, the split or the number of splits is outside its limits.
-    /// 2. [`Error::NoRoom`]: the output is shorter than the frame.
+    /// 1. [`Error::BadAddress`]: the address is not one of 01 to FC.
+    /// 2. [`Error::OutOfLimits`]: the goal, the split or the number of splits is outside its limits.
+    /// 3. [`Error::NoRoom`]: the output is shorter than the frame.
     #[inline]
-    pub fn write_frame(&self, kind: Kind, out: &mut [u8]) -> Result<usize, Error> {
-        let contents = &self.to_contents()?;
-        Frame { kind, contents }.write(out)
+    pub fn write_frame(&self, address: u8, out: &mut [u8]) -> Result<usize, Error> {
+        let (address, watts) = (address.into(), self.watts);
+        let answer = match self.goal {
+            Goal::Distance { distance, split } => {
+                ffi::write_distance_frame(address, distance.0, split.0, watts, out)
+            }
+            Goal::Time { time, split } => {
+                ffi::write_time_frame(address, time.0, split.0, watts, out)
+            }
+        };
+        Ok(answer.accepted()?.len())
     }
 }

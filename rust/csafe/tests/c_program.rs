@@ -8,25 +8,24 @@ const HEADER: &str = include_str!("../csafe.h");
 const PROGRAM: &str = include_str!("portal.c");
 
 const EXPECTED: &str = "\
-write_standard: 0 ok to=00 from=00 len=7 F1 24 02 03 00 25 F2
-write_standard: 2 too long to=00 from=00 len=0
-write_standard: 1 no room to=00 from=00 len=0
+write_standard: 17 unnamed to=00 from=00 len=0
+write_standard: 17 unnamed to=00 from=00 len=0
 write_extended: 0 ok to=00 from=00 len=10 F0 F3 01 05 24 02 03 00 25 F2
 write_extended: 2 too long to=00 from=00 len=0
 write_extended: 1 no room to=00 from=00 len=0
-standard_length: 0 ok to=00 from=00 len=7
-write_standard: 0 ok to=00 from=00 len=7 F1 24 02 F3 02 D4 F2
-standard_length: 2 too long to=00 from=00 len=0
 extended_length: 0 ok to=00 from=00 len=10
 write_extended: 0 ok to=00 from=00 len=10 F0 05 F3 01 24 02 F3 02 D4 F2
 extended_length: 2 too long to=00 from=00 len=0
-read: 0 ok to=00 from=00 len=4 24 02 03 00
+standard_length: 17 unnamed to=00 from=00 len=0
+standard_length: 17 unnamed to=00 from=00 len=0
 read: 0 ok extended to=F1 from=05 len=1 41
 read: 6 truncated to=00 from=00 len=0
 read: 2 too long to=00 from=00 len=0
 read: 3 bad escape to=00 from=00 len=0
 read: 4 too short to=00 from=00 len=0
 read: 5 bad checksum to=00 from=00 len=0
+read: 17 unnamed to=00 from=00 len=0
+read: 17 unnamed to=00 from=00 len=0
 read: 1 no room to=00 from=00 len=0
 feed: 6 truncated to=00 from=00 len=0
 taken 5, state 2
@@ -40,6 +39,8 @@ feed: 4 too short to=00 from=00 len=0
 taken 2, state 0
 feed: 5 bad checksum to=00 from=00 len=0
 taken 4, state 0
+feed: 17 unnamed to=00 from=00 len=0
+taken 4, state 0
 feed: 0 ok nothing to=00 from=00 len=0
 taken 1, state 1
 feed: 2 too long to=00 from=00 len=0
@@ -48,11 +49,57 @@ feed: 0 ok nothing to=00 from=00 len=0
 taken 3, state 5
 finish: 6 truncated to=00 from=00 len=0
 finish: 0 ok nothing to=00 from=00 len=0
+feed: 17 unnamed to=00 from=00 len=0
+taken 4, state 0
 feed: 0 ok nothing to=00 from=00 len=0
-taken 65536, state 9
-feed: 0 ok to=00 from=00 len=1 41
+taken 65536, state 18
+feed: 0 ok extended to=00 from=05 len=1 41
 taken 1, state 0
 feed: 0 ok nothing to=00 from=00 len=0
+taken 1, state 0
+trace_standard_length: 0 ok to=00 from=00 len=7
+trace_standard_length: 2 too long to=00 from=00 len=0
+trace_write_standard: 0 ok to=00 from=00 len=7 F1 24 02 F3 02 D4 F2
+trace_write_standard: 2 too long to=00 from=00 len=0
+trace_write_standard: 1 no room to=00 from=00 len=0
+trace_read: 0 ok extended to=F1 from=05 len=1 41
+trace_read: 6 truncated to=00 from=00 len=0
+trace_read: 2 too long to=00 from=00 len=0
+trace_read: 3 bad escape to=00 from=00 len=0
+trace_read: 4 too short to=00 from=00 len=0
+trace_read: 5 bad checksum to=00 from=00 len=0
+trace_read: 0 ok to=00 from=00 len=4 24 02 03 00
+trace_read: 1 no room to=00 from=00 len=0
+trace_read: 1 no room to=00 from=00 len=0
+trace_feed: 6 truncated to=00 from=00 len=0
+taken 5, state 2
+trace_feed: 0 ok extended to=F1 from=05 len=1 41
+taken 6, state 0
+trace_feed: 0 ok nothing to=00 from=00 len=0
+taken 2, state 5
+trace_feed: 3 bad escape to=00 from=00 len=0
+taken 2, state 0
+trace_feed: 4 too short to=00 from=00 len=0
+taken 2, state 0
+trace_feed: 5 bad checksum to=00 from=00 len=0
+taken 4, state 0
+trace_feed: 0 ok to=00 from=00 len=1 41
+taken 4, state 0
+trace_feed: 0 ok nothing to=00 from=00 len=0
+taken 1, state 1
+trace_feed: 2 too long to=00 from=00 len=0
+taken 120, state 0
+trace_feed: 0 ok nothing to=00 from=00 len=0
+taken 3, state 5
+finish: 6 truncated to=00 from=00 len=0
+finish: 0 ok nothing to=00 from=00 len=0
+trace_feed: 0 ok to=00 from=00 len=1 41
+taken 4, state 0
+trace_feed: 0 ok nothing to=00 from=00 len=0
+taken 65536, state 18
+trace_feed: 0 ok extended to=00 from=05 len=1 41
+taken 1, state 0
+trace_feed: 0 ok nothing to=00 from=00 len=0
 taken 1, state 0
 write_distance_workout: 0 ok to=00 from=00 len=23 21 03 D1 07 24 1A 07 05 05 80 F4 01 00 00 34 03 C8 00 58 24 02 00 00
 write_distance_workout: 12 out of limits to=00 from=00 len=0
@@ -60,6 +107,14 @@ write_distance_workout: 1 no room to=00 from=00 len=0
 write_time_workout: 0 ok to=00 from=00 len=23 20 03 00 14 00 1A 07 05 05 00 C0 5D 00 00 34 03 64 00 58 24 02 00 00
 write_time_workout: 12 out of limits to=00 from=00 len=0
 write_time_workout: 1 no room to=00 from=00 len=0
+write_distance_workout_frame: 0 ok to=00 from=00 len=29 F0 F3 01 00 21 03 D1 07 24 1A 07 05 05 80 F4 01 00 00 34 03 C8 00 58 24 02 00 00 39 F2
+write_distance_workout_frame: 9 bad address to=00 from=00 len=0
+write_distance_workout_frame: 12 out of limits to=00 from=00 len=0
+write_distance_workout_frame: 1 no room to=00 from=00 len=0
+write_time_workout_frame: 0 ok to=00 from=00 len=28 F0 05 00 20 03 00 14 00 1A 07 05 05 00 C0 5D 00 00 34 03 64 00 58 24 02 00 00 9A F2
+write_time_workout_frame: 9 bad address to=00 from=00 len=0
+write_time_workout_frame: 12 out of limits to=00 from=00 len=0
+write_time_workout_frame: 1 no room to=00 from=00 len=0
 hold: 0 ok to=00 from=00 len=0
 hold: 18 bad table to=00 from=00 len=0
 hold: 9 bad address to=00 from=00 len=0
@@ -89,8 +144,8 @@ fn functions(source: &str) -> BTreeSet<&str> {
 #[test]
 fn the_program_calls_every_function_of_the_header() {
     let declared = functions(HEADER);
-    // Twelve of the archive, and five that take an answer apart.
-    assert_eq!(declared.len(), 17);
+    // Eighteen of the archive, and five that take an answer apart.
+    assert_eq!(declared.len(), 23);
     assert_eq!(functions(PROGRAM), declared);
 }
 

@@ -1,7 +1,13 @@
-/* Calls each function of csafe.h with a result and with each of its refusals, and prints the answers. */
+/*
+ * Calls each function of csafe.h with each of its refusals, and with a result where it has one, and prints the answers.
+ * What reads frames is called for a live line and for a trace on the same bytes.
+ */
 #include "csafe.h"
 
 #include <stdio.h>
+
+/* Where bytes come from. */
+enum origin { LIVE, TRACE };
 
 static const char *name_of(uint8_t number)
 {
@@ -18,6 +24,7 @@ static const char *name_of(uint8_t number)
     case CSAFE_NOT_HOLDER: return "not holder";
     case CSAFE_OUT_OF_LIMITS: return "out of limits";
     case CSAFE_ZERO_TOKEN: return "zero token";
+    case CSAFE_UNNAMED: return "unnamed";
     case CSAFE_BAD_TABLE: return "bad table";
     default: return "unknown";
     }
@@ -62,9 +69,8 @@ static void write_frames(void)
     uint8_t wire[CSAFE_WIRE_LIMIT];
     uint64_t answer = csafe_write_standard(contents, sizeof contents, wire, sizeof wire);
     print_answer("write_standard", answer, wire);
-    answer = csafe_write_standard(long_contents, sizeof long_contents, wire, sizeof wire);
+    answer = csafe_write_standard(long_contents, sizeof long_contents, wire, 0);
     print_answer("write_standard", answer, wire);
-    print_answer("write_standard", csafe_write_standard(contents, sizeof contents, wire, 6), wire);
     answer = csafe_write_extended(0xF1, 0x05, contents, sizeof contents, wire, sizeof wire);
     print_answer("write_extended", answer, wire);
     answer = csafe_write_extended(0xF1, 0x05, long_contents, sizeof long_contents, wire, sizeof wire);
@@ -79,79 +85,106 @@ static void measure_frames(void)
     static const uint8_t long_contents[CSAFE_CONTENTS_LIMIT + 1] = {0};
     const size_t len = sizeof contents;
     uint8_t wire[CSAFE_WIRE_LIMIT];
-    uint64_t answer = csafe_standard_length(contents, len);
-    print_length("standard_length", answer);
-    print_answer("write_standard", csafe_write_standard(contents, len, wire, csafe_length(answer)), wire);
-    print_length("standard_length", csafe_standard_length(long_contents, sizeof long_contents));
-    answer = csafe_extended_length(0x05, 0xF1, contents, len);
+    uint64_t answer = csafe_extended_length(0x05, 0xF1, contents, len);
     print_length("extended_length", answer);
     print_answer("write_extended", csafe_write_extended(0x05, 0xF1, contents, len, wire, csafe_length(answer)), wire);
     print_length("extended_length", csafe_extended_length(0x05, 0xF1, long_contents, sizeof long_contents));
+    print_length("standard_length", csafe_standard_length(contents, len));
+    print_length("standard_length", csafe_standard_length(long_contents, sizeof long_contents));
 }
 
-static void read_and_print(const uint8_t *wire, size_t wire_len, size_t room)
+static void read_and_print(enum origin origin, const uint8_t *wire, size_t wire_len, size_t room)
 {
     uint8_t contents[CSAFE_CONTENTS_LIMIT];
-    print_answer("read", csafe_read(wire, wire_len, contents, room), contents);
+    if (origin == TRACE) {
+        print_answer("trace_read", csafe_trace_read(wire, wire_len, contents, room), contents);
+    } else {
+        print_answer("read", csafe_read(wire, wire_len, contents, room), contents);
+    }
 }
 
-static void read_frames(void)
+static void read_frames(enum origin origin)
 {
     static const uint8_t standard[] = {0xF1, 0x24, 0x02, 0x03, 0x00, 0x25, 0xF2};
     static const uint8_t extended[] = {0xF0, 0xF3, 0x01, 0x05, 0x41, 0x41, 0xF2};
-    static const uint8_t bad_escape[] = {0xF1, 0xF3, 0x04, 0xF2};
+    static const uint8_t bad_escape[] = {0xF0, 0x05, 0x00, 0xF3, 0x04, 0xF2};
     static const uint8_t too_short[] = {0xF0, 0x05, 0x00, 0xF2};
     static const uint8_t bad_checksum[] = {0xF1, 0x24, 0x02, 0x03, 0x00, 0x24, 0xF2};
     uint8_t too_long[CSAFE_WIRE_LIMIT + 1] = {0};
     too_long[0] = 0xF1;
     too_long[CSAFE_WIRE_LIMIT] = 0xF2;
-    read_and_print(standard, sizeof standard, CSAFE_CONTENTS_LIMIT);
-    read_and_print(extended, sizeof extended, CSAFE_CONTENTS_LIMIT);
-    read_and_print(standard, sizeof standard - 1, CSAFE_CONTENTS_LIMIT);
-    read_and_print(too_long, sizeof too_long, CSAFE_CONTENTS_LIMIT);
-    read_and_print(bad_escape, sizeof bad_escape, CSAFE_CONTENTS_LIMIT);
-    read_and_print(too_short, sizeof too_short, CSAFE_CONTENTS_LIMIT);
-    read_and_print(bad_checksum, sizeof bad_checksum, CSAFE_CONTENTS_LIMIT);
-    read_and_print(standard, sizeof standard, 3);
+    read_and_print(origin, extended, sizeof extended, CSAFE_CONTENTS_LIMIT);
+    read_and_print(origin, standard, sizeof standard - 1, CSAFE_CONTENTS_LIMIT);
+    read_and_print(origin, too_long, sizeof too_long, CSAFE_CONTENTS_LIMIT);
+    read_and_print(origin, bad_escape, sizeof bad_escape, CSAFE_CONTENTS_LIMIT);
+    read_and_print(origin, too_short, sizeof too_short, CSAFE_CONTENTS_LIMIT);
+    read_and_print(origin, bad_checksum, sizeof bad_checksum, CSAFE_CONTENTS_LIMIT);
+    read_and_print(origin, standard, sizeof standard, CSAFE_CONTENTS_LIMIT);
+    read_and_print(origin, standard, sizeof standard, 3);
+    read_and_print(origin, extended, sizeof extended, 0);
 }
 
-static void feed_and_print(uint8_t *bytes, uint64_t *state, const uint8_t *input, size_t input_len)
+static void feed_and_print(enum origin origin, uint8_t *bytes, uint64_t *state, const uint8_t *input, size_t input_len)
 {
     uint64_t taken = 0;
     for (size_t at = 0; at < input_len; at += (size_t)taken) {
-        uint64_t answer = csafe_feed(bytes, state, input + at, input_len - at, &taken);
-        print_answer("feed", answer, bytes);
+        if (origin == TRACE) {
+            print_answer("trace_feed", csafe_trace_feed(bytes, state, input + at, input_len - at, &taken), bytes);
+        } else {
+            print_answer("feed", csafe_feed(bytes, state, input + at, input_len - at, &taken), bytes);
+        }
         printf("taken %u, state %u\n", (unsigned)taken, (unsigned)*state);
     }
 }
 
 /* The stop flag stands right after the bytes that the first call takes. */
-static void feed_a_long_chunk(void)
+static void feed_a_long_chunk(enum origin origin)
 {
     static uint8_t chunk[CSAFE_CHUNK_LIMIT + 2];
     uint8_t bytes[CSAFE_LINE_LEN] = {0};
     uint64_t state = 0;
-    chunk[CSAFE_CHUNK_LIMIT - 3] = 0xF1;
+    chunk[CSAFE_CHUNK_LIMIT - 5] = 0xF0;
+    chunk[CSAFE_CHUNK_LIMIT - 4] = 0x00;
+    chunk[CSAFE_CHUNK_LIMIT - 3] = 0x05;
     chunk[CSAFE_CHUNK_LIMIT - 2] = 0x41;
     chunk[CSAFE_CHUNK_LIMIT - 1] = 0x41;
     chunk[CSAFE_CHUNK_LIMIT] = 0xF2;
-    feed_and_print(bytes, &state, chunk, sizeof chunk);
+    feed_and_print(origin, bytes, &state, chunk, sizeof chunk);
 }
 
-static void read_line(void)
+/* A reader that was finished is fed a standard frame again. */
+static void read_line(enum origin origin)
 {
     static const uint8_t first[] = {0x55, 0xF1, 0x76, 0x04, 0xF0, 0xF3, 0x01, 0x05, 0x41, 0x41, 0xF2, 0xF1, 0xF3};
-    static const uint8_t second[] = {0x04, 0xF2, 0xF1, 0xF2, 0xF1, 0x41, 0x42, 0xF2, 0xF1};
+    static const uint8_t standard[] = {0xF1, 0x41, 0x41, 0xF2};
+    static const uint8_t second[] = {0x04, 0xF2, 0xF1, 0xF2, 0xF1, 0x41, 0x42, 0xF2, 0xF1, 0x41, 0x41, 0xF2, 0xF1};
     uint8_t too_long[CSAFE_LINE_LEN + 2] = {0};
     uint8_t bytes[CSAFE_LINE_LEN] = {0};
     uint64_t state = 0;
     too_long[CSAFE_LINE_LEN + 1] = 0xF2;
-    feed_and_print(bytes, &state, first, sizeof first);
-    feed_and_print(bytes, &state, second, sizeof second);
-    feed_and_print(bytes, &state, too_long, sizeof too_long);
-    feed_and_print(bytes, &state, first, 3);
+    feed_and_print(origin, bytes, &state, first, sizeof first);
+    feed_and_print(origin, bytes, &state, second, sizeof second);
+    feed_and_print(origin, bytes, &state, too_long, sizeof too_long);
+    feed_and_print(origin, bytes, &state, first, 3);
     print_answer("finish", csafe_finish(&state), bytes);
     print_answer("finish", csafe_finish(&state), bytes);
+    feed_and_print(origin, bytes, &state, standard, sizeof standard);
+}
+
+static void write_trace_frames(void)
+{
+    static const uint8_t contents[] = {0x24, 0x02, 0xF2};
+    static const uint8_t long_contents[CSAFE_CONTENTS_LIMIT + 1] = {0};
+    const size_t len = sizeof contents;
+    uint8_t wire[CSAFE_WIRE_LIMIT];
+    uint64_t answer = csafe_trace_standard_length(contents, len);
+    const size_t wire_len = csafe_length(answer);
+    print_length("trace_standard_length", answer);
+    print_length("trace_standard_length", csafe_trace_standard_length(long_contents, sizeof long_contents));
+    print_answer("trace_write_standard", csafe_trace_write_standard(contents, len, wire, wire_len), wire);
+    answer = csafe_trace_write_standard(long_contents, sizeof long_contents, wire, 0);
+    print_answer("trace_write_standard", answer, wire);
+    print_answer("trace_write_standard", csafe_trace_write_standard(contents, len, wire, wire_len - 1), wire);
 }
 
 static void workouts(void)
@@ -163,6 +196,22 @@ static void workouts(void)
     print_answer("write_time_workout", csafe_write_time_workout(1200, 24000, 100, out, sizeof out), out);
     print_answer("write_time_workout", csafe_write_time_workout(1200, 3999, 100, out, sizeof out), out);
     print_answer("write_time_workout", csafe_write_time_workout(1200, 24000, 100, out, 22), out);
+}
+
+static void workout_frames(void)
+{
+    uint8_t out[CSAFE_WIRE_LIMIT];
+    const size_t len = sizeof out;
+    const char *distance = "write_distance_workout_frame";
+    const char *time = "write_time_workout_frame";
+    print_answer(distance, csafe_write_distance_workout_frame(0xF1, 2001, 500, 200, out, len), out);
+    print_answer(distance, csafe_write_distance_workout_frame(0x105, 99, 500, 200, out, 0), out);
+    print_answer(distance, csafe_write_distance_workout_frame(0x05, 99, 500, 200, out, 0), out);
+    print_answer(distance, csafe_write_distance_workout_frame(0x05, 2001, 500, 200, out, 27), out);
+    print_answer(time, csafe_write_time_workout_frame(0x05, 1200, 24000, 100, out, 28), out);
+    print_answer(time, csafe_write_time_workout_frame(0xFD, 1200, 3999, 100, out, 0), out);
+    print_answer(time, csafe_write_time_workout_frame(0xFC, 1200, 3999, 100, out, 0), out);
+    print_answer(time, csafe_write_time_workout_frame(0xFC, 1200, 24000, 100, out, 27), out);
 }
 
 static void leases(void)
@@ -190,10 +239,15 @@ int main(void)
 {
     write_frames();
     measure_frames();
-    read_frames();
-    read_line();
-    feed_a_long_chunk();
+    read_frames(LIVE);
+    read_line(LIVE);
+    feed_a_long_chunk(LIVE);
+    write_trace_frames();
+    read_frames(TRACE);
+    read_line(TRACE);
+    feed_a_long_chunk(TRACE);
     workouts();
+    workout_frames();
     leases();
     return 0;
 }

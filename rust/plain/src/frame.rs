@@ -13,6 +13,16 @@ pub(crate) const BODY_MAX: usize = WIRE_MAX - 2;
 /// Contents of the longest standard frame without escapes.
 pub(crate) const CONTENTS_MAX: usize = BODY_MAX - 1;
 
+pub(crate) const HOST: u8 = 0x00;
+
+/// Where a frame comes from or goes to. A standard frame names no sender, so it
+/// is refused on a live line, and read and written as it stands in a trace.
+#[derive(Clone, Copy, Debug, PartialEq, Eq)]
+pub enum Origin {
+    Live,
+    Trace,
+}
+
 /// A frame that was read; its contents are the first `len` bytes of the output.
 #[derive(Clone, Copy, Debug, PartialEq, Eq)]
 pub enum Read {
@@ -22,8 +32,9 @@ pub enum Read {
 
 /// Writes a standard frame and returns its length on the wire.
 ///
-/// Refusals, in this order: 2, 1.
-pub fn write_standard(contents: &[u8], out: &mut [u8]) -> Result<usize, u8> {
+/// Refusals, in this order: 17 on a live line, 2, 1.
+pub fn write_standard(origin: Origin, contents: &[u8], out: &mut [u8]) -> Result<usize, u8> {
+    check_standard(origin)?;
     write(START_STANDARD, &[], contents, out)
 }
 
@@ -36,8 +47,9 @@ pub fn write_extended(to: u8, from: u8, contents: &[u8], out: &mut [u8]) -> Resu
 
 /// The length of a standard frame on the wire.
 ///
-/// Refusal: 2.
-pub fn standard_length(contents: &[u8]) -> Result<usize, u8> {
+/// Refusals, in this order: 17 on a live line, 2.
+pub fn standard_length(origin: Origin, contents: &[u8]) -> Result<usize, u8> {
+    check_standard(origin)?;
     measured(&[], contents).map(|frame| frame.len)
 }
 
@@ -51,8 +63,8 @@ pub fn extended_length(to: u8, from: u8, contents: &[u8]) -> Result<usize, u8> {
 /// Reads a slice that must be one frame and nothing else, and puts the contents
 /// into `out`.
 ///
-/// Refusals, in this order: 6, 2, 3, 4, 5, 1.
-pub fn read(wire: &[u8], out: &mut [u8]) -> Result<Read, u8> {
+/// Refusals, in this order: 6, 2, 3, 4, 5, 17 on a live line, 1.
+pub fn read(origin: Origin, wire: &[u8], out: &mut [u8]) -> Result<Read, u8> {
     let [start @ (START_STANDARD | START_EXTENDED), body @ .., STOP] = wire else {
         return Err(refusal::TRUNCATED);
     };
@@ -73,11 +85,21 @@ pub fn read(wire: &[u8], out: &mut [u8]) -> Result<Read, u8> {
     } else {
         body
     };
-    let (frame, contents) = judge(*start, unstuffed)?;
+    let (frame, contents) = judge(origin, *start, unstuffed)?;
     out.get_mut(..contents.len())
         .ok_or(refusal::NO_ROOM)?
         .copy_from_slice(contents);
     Ok(frame)
+}
+
+/// The address as that of a machine or a console.
+///
+/// Refusal: 9.
+pub(crate) fn machine(address: u32) -> Result<u8, u8> {
+    match u8::try_from(address) {
+        Ok(machine @ 0x01..=0xFC) => Ok(machine),
+        _ => Err(refusal::ADDRESS),
+    }
 }
 
 /// Whether `byte` starts or stops a frame.
@@ -113,8 +135,9 @@ pub(crate) fn unstuff(body: &mut [u8]) -> Result<usize, u8> {
     Ok(to)
 }
 
-/// Judges the unstuffed bytes between the flags: length, then checksum.
-pub(crate) fn judge(start: u8, unstuffed: &[u8]) -> Result<(Read, &[u8]), u8> {
+/// Judges the unstuffed bytes between the flags: length, then checksum, then
+/// whether the origin takes a frame of this kind.
+pub(crate) fn judge(origin: Origin, start: u8, unstuffed: &[u8]) -> Result<(Read, &[u8]), u8> {
     let (frame, contents, sum) = match (start, unstuffed) {
         (START_STANDARD, [contents @ .., sum]) => {
             let len = contents.len();
@@ -129,7 +152,18 @@ pub(crate) fn judge(start: u8, unstuffed: &[u8]) -> Result<(Read, &[u8]), u8> {
     if checksum(contents) != sum {
         return Err(refusal::SUM);
     }
+    if start == START_STANDARD {
+        check_standard(origin)?;
+    }
     Ok((frame, contents))
+}
+
+/// Refuses a standard frame on a live line.
+fn check_standard(origin: Origin) -> Result<(), u8> {
+    match origin {
+        Origin::Live => Err(refusal::UNNAMED),
+        Origin::Trace => Ok(()),
+    }
 }
 
 fn write(start: u8, addresses: &[u8], contents: &[u8], out: &mut [u8]) -> Result<usize, u8> {

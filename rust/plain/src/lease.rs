@@ -3,14 +3,13 @@
 //! The table is lent as 2,048 bytes, a 64-bit token for each of 256 addresses,
 //! lowest byte first; token 0 marks a free address.
 
-use crate::frame;
+use crate::frame::{self, HOST};
 use crate::refusal;
 
 const TABLE_LEN: usize = 256 * TOKEN_LEN;
 const TOKEN_LEN: usize = 8;
 const FREE: [u8; TOKEN_LEN] = [0; TOKEN_LEN];
 
-const HOST: u8 = 0x00;
 /// Set the screen state to terminate the workout.
 const TERMINATE: [u8; 6] = [0x76, 0x04, 0x13, 0x02, 0x01, 0x02];
 
@@ -55,10 +54,7 @@ fn machine(table: &[u8], address: u32) -> Result<u8, u8> {
     if table.len() != TABLE_LEN {
         return Err(refusal::TABLE_SIZE);
     }
-    match u8::try_from(address) {
-        Ok(machine @ 0x01..=0xFC) => Ok(machine),
-        _ => Err(refusal::ADDRESS),
-    }
+    frame::machine(address)
 }
 
 /// Token 0 never holds, although a free address has 0 in the table.

@@ -1,7 +1,8 @@
 //! The independent implementation that the proved library is compared with:
-//! CSAFE frames of rowing machines measured, written and read, a reader for a live line,
-//! the commands, replies and workouts inside, the lease table for stops, and a
-//! listing of recorded traces.
+//! CSAFE frames of rowing machines measured, written and read, a line reader, the
+//! commands, replies and workouts inside, the lease table for stops, and a listing of
+//! recorded traces. Frames and the line reader are of a live line or of a trace,
+//! which an [`Origin`](frame::Origin) says.
 //!
 //! Every refusal is one of the numbers in [`refusal`].
 

@@ -1,8 +1,8 @@
-//! A reader for a live line, fed byte by byte or by chunks of bytes.
+//! A reader for a live line or a trace, fed byte by byte or by chunks of bytes.
 
 use std::ops::Range;
 
-use crate::frame::{self, BODY_MAX, START_EXTENDED, START_STANDARD, STOP};
+use crate::frame::{self, Origin, BODY_MAX, START_EXTENDED, START_STANDARD, STOP};
 use crate::refusal;
 
 /// The most bytes that are taken of one chunk.
@@ -34,6 +34,8 @@ enum Mode {
 /// stand between two flags.
 #[derive(Clone, Debug)]
 pub struct Line {
+    /// It stays the same, after a finish too.
+    origin: Origin,
     body: [u8; BODY_MAX],
     len: usize,
     mode: Mode,
@@ -41,8 +43,9 @@ pub struct Line {
 }
 
 impl Line {
-    pub fn new() -> Self {
+    pub fn new(origin: Origin) -> Self {
         Line {
+            origin,
             body: [0; BODY_MAX],
             len: 0,
             mode: Mode::Outside,
@@ -82,7 +85,7 @@ impl Line {
         (chunk.len(), Answer::Nothing)
     }
 
-    /// Ends the input; the reader can be used again as a new one.
+    /// Ends the input; the reader can be used again as a new one of its origin.
     pub fn finish(&mut self) -> Answer {
         let answer = self.truncation();
         self.mode = Mode::Outside;
@@ -134,7 +137,7 @@ impl Line {
 
     fn judge(&mut self, start: u8) -> Result<frame::Read, u8> {
         let len = frame::unstuff(&mut self.body[..self.len])?;
-        let (frame, contents) = frame::judge(start, &self.body[..len])?;
+        let (frame, contents) = frame::judge(self.origin, start, &self.body[..len])?;
         // The contents stand right before the checksum, the last byte.
         self.contents = len - 1 - contents.len()..len - 1;
         Ok(frame)
@@ -147,12 +150,6 @@ impl Line {
         } else {
             Answer::Nothing
         }
-    }
-}
-
-impl Default for Line {
-    fn default() -> Self {
-        Line::new()
     }
 }
 

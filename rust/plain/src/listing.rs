@@ -3,7 +3,7 @@
 use std::io::{self, Read, Write};
 
 use crate::command;
-use crate::frame::{self, STOP};
+use crate::frame::{self, Origin, STOP};
 use crate::line::{first_flag, Answer, Line};
 
 /// The most bytes of a trace that are taken.
@@ -48,7 +48,7 @@ impl<'a, W: Write> Listing<'a, W> {
         Listing {
             output,
             text: Vec::with_capacity(CHUNK + TEXT_LINE_MAX),
-            line: Line::new(),
+            line: Line::new(Origin::Trace),
             frames: 0,
             refused: 0,
             stray: 0,

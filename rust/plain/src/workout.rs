@@ -1,5 +1,7 @@
-//! The contents that program a fixed distance or fixed time workout.
+//! The contents that program a fixed distance or fixed time workout, and the
+//! frame that takes them to a machine.
 
+use crate::frame::{self, HOST};
 use crate::refusal;
 
 const SET_TIME: u8 = 0x20;
@@ -10,6 +12,7 @@ const UNIT_KILOMETRES: u8 = 0x21;
 const UNIT_METRES: u8 = 0x24;
 
 const SPLITS_MAX: u32 = 30;
+const CONTENTS_LEN: usize = 23;
 
 /// What is rowed. The split of a distance is in metres, that of a time in
 /// hundredths of a second.
@@ -76,6 +79,17 @@ pub fn write(workout: Workout, out: &mut [u8]) -> Result<usize, u8> {
         .ok_or(refusal::NO_ROOM)?
         .copy_from_slice(&contents);
     Ok(contents.len())
+}
+
+/// Writes an extended frame from the host to this address with the workout as its
+/// contents, and returns its length on the wire.
+///
+/// Refusals, in this order: 9, 12, 1.
+pub fn write_frame(address: u32, workout: Workout, out: &mut [u8]) -> Result<usize, u8> {
+    let machine = frame::machine(address)?;
+    let mut contents = [0; CONTENTS_LEN];
+    write(workout, &mut contents)?;
+    frame::write_extended(machine, HOST, &contents, out)
 }
 
 /// Checks the limits. The number of splits, rounded up, is at most 30 exactly

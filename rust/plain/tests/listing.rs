@@ -8,7 +8,8 @@ use std::fs;
 use std::path::PathBuf;
 use std::process::{Command, Stdio};
 
-use plain::{frame, listing};
+use plain::frame::{self, Origin};
+use plain::listing;
 
 /// How many bytes the proved program reads, and writes, at once.
 const BUFFER: usize = 65_536;
@@ -31,7 +32,7 @@ fn stored(name: &str) -> PathBuf {
 
 fn standard(contents: &[u8]) -> Vec<u8> {
     let mut wire = [0; WIRE_ROOM];
-    let len = frame::write_standard(contents, &mut wire).unwrap();
+    let len = frame::write_standard(Origin::Trace, contents, &mut wire).unwrap();
     wire[..len].to_vec()
 }
 

@@ -3,7 +3,7 @@
 mod examples;
 
 use plain::command::{self, Cursor, Found};
-use plain::frame::{self, Read};
+use plain::frame::{self, Origin, Read};
 use plain::line::{Answer, Line, CHUNK_MAX};
 use plain::reply::{self, Status};
 use plain::workout::{self, Goal, Workout};
@@ -42,34 +42,45 @@ fn written(write: impl Fn(&mut [u8]) -> Result<usize, u8>) -> Result<String, u8>
 }
 
 /// Writes a frame; checks that its length is the one that is told.
-fn write_frame(frame: Read, contents: &[u8]) -> Result<String, u8> {
+fn write_frame(origin: Origin, frame: Read, contents: &[u8]) -> Result<String, u8> {
     let wire = written(|out| match frame {
-        Read::Standard { .. } => frame::write_standard(contents, out),
+        Read::Standard { .. } => frame::write_standard(origin, contents, out),
         Read::Extended { to, from, .. } => frame::write_extended(to, from, contents, out),
     });
     let len = match frame {
-        Read::Standard { .. } => frame::standard_length(contents),
+        Read::Standard { .. } => frame::standard_length(origin, contents),
         Read::Extended { to, from, .. } => frame::extended_length(to, from, contents),
     };
     assert_eq!(len, wire.clone().map(|wire| bytes(&wire).len()));
     wire
 }
 
+/// Writes a standard frame into a trace.
+fn write_standard(contents: &[u8]) -> Result<String, u8> {
+    let len = contents.len();
+    write_frame(Origin::Trace, Read::Standard { len }, contents)
+}
+
+/// Reads a frame of a trace.
+fn read_frame(wire: &[u8]) -> Result<(Read, Vec<u8>), u8> {
+    read_frame_from(Origin::Trace, wire)
+}
+
 /// Reads a frame; checks what is left untouched, and that an accepted frame is
 /// written again with the same bytes.
-fn read_frame(wire: &[u8]) -> Result<(Read, Vec<u8>), u8> {
+fn read_frame_from(origin: Origin, wire: &[u8]) -> Result<(Read, Vec<u8>), u8> {
     let mut out = [MARK; 200];
-    let result = frame::read(wire, &mut out);
+    let result = frame::read(origin, wire, &mut out);
     let len = match result {
         Ok(Read::Standard { len } | Read::Extended { len, .. }) => len,
         Err(_) => 0,
     };
     assert!(out[len..].iter().all(|&byte| byte == MARK));
     let frame = result?;
-    assert_eq!(write_frame(frame, &out[..len]), Ok(hex(wire)));
+    assert_eq!(write_frame(origin, frame, &out[..len]), Ok(hex(wire)));
     if len > 0 {
         let mut short = vec![MARK; len - 1];
-        assert_eq!(frame::read(wire, &mut short), Err(1));
+        assert_eq!(frame::read(origin, wire, &mut short), Err(1));
         assert!(short.iter().all(|&byte| byte == MARK));
     }
     Ok((frame, out[..len].to_vec()))
@@ -90,9 +101,14 @@ fn list_text(trace: &[u8]) -> String {
     String::from_utf8(text).unwrap()
 }
 
-/// The answers that are not nothing, with the place of the byte, and the finish.
+/// The answers to a trace that are not nothing, with the place of the byte, and the
+/// finish.
 fn line_answers(trace: &[u8]) -> Vec<(usize, Answer)> {
-    let mut line = Line::new();
+    line_answers_from(Origin::Trace, trace)
+}
+
+fn line_answers_from(origin: Origin, trace: &[u8]) -> Vec<(usize, Answer)> {
+    let mut line = Line::new(origin);
     let mut answers: Vec<Answer> = trace.iter().map(|&byte| line.feed(byte)).collect();
     answers.push(line.finish());
     let told = answers.into_iter().enumerate();
@@ -130,11 +146,11 @@ fn bench_frames_read() {
 
 #[test]
 fn bench_frames_written() {
-    let stuffed = written(|out| frame::write_standard(&[0xF1], out));
+    let stuffed = write_standard(&[0xF1]);
     assert_eq!(stuffed.as_deref(), Ok("F1 F3 01 F3 01 F2"));
-    let longest = written(|out| frame::write_standard(&[0; 117], out)).unwrap();
+    let longest = write_standard(&[0; 117]).unwrap();
     assert_eq!(bytes(&longest).len(), 120);
-    let longer = written(|out| frame::write_standard(&[0; 118], out));
+    let longer = write_standard(&[0; 118]);
     assert_eq!(longer, Err(2));
 }
 
@@ -181,7 +197,7 @@ fn bench_workouts() {
     let example = write(distance(2_000, 500)).unwrap();
     let expected = "21 03 02 00 21 1A 07 05 05 80 F4 01 00 00 34 03 C8 00 58 24 02 00 00";
     assert_eq!(example, expected);
-    let wire = written(|out| frame::write_standard(&bytes(&example), out)).unwrap();
+    let wire = write_standard(&bytes(&example)).unwrap();
     assert!(wire.ends_with("E8 F2"));
     let metres = write(distance(2_001, 500)).unwrap();
     assert!(metres.starts_with("21 03 D1 07 24 "));
@@ -237,7 +253,7 @@ fn example_frames() {
             Err(code) => format!("refused {code}"),
         };
         assert_eq!(told, *verdict, "{name}");
-        let mut line = Line::new();
+        let mut line = Line::new(Origin::Trace);
         let (stop, before) = wire.split_last().unwrap();
         assert!(before
             .iter()
@@ -420,7 +436,7 @@ fn listing_marks_stops() {
     ];
     for (contents, stop) in cases {
         let contents = bytes(contents);
-        let wire = written(|out| frame::write_standard(&contents, out)).unwrap();
+        let wire = write_standard(&contents).unwrap();
         let len = contents.len();
         let text = format!("n=1 kind=std len={len} stop={stop}\nframes=1 refused=0 loose=0\n");
         assert_eq!(list_text(&bytes(&wire)), text);
@@ -459,17 +475,21 @@ fn frame_refusals_in_order() {
     assert_eq!(read_frame(&bytes(&flagged)), Err(6));
     assert_eq!(read_frame(&bytes("F0 05 F3 04 F2")), Err(3));
     assert_eq!(read_frame(&bytes("F0 05 F3 00 F2")), Err(4));
-    assert_eq!(frame::read(&bytes("F1 05 04 F2"), &mut []), Err(5));
-    assert_eq!(frame::read(&bytes("F1 05 05 F2"), &mut []), Err(1));
-    assert_eq!(frame::write_standard(&[0; 118], &mut []), Err(2));
-    assert_eq!(frame::write_standard(&[], &mut [0; 2]), Err(1));
+    let read = |wire| frame::read(Origin::Trace, &bytes(wire), &mut []);
+    assert_eq!(read("F1 05 04 F2"), Err(5));
+    assert_eq!(read("F1 05 05 F2"), Err(1));
+    let write = |contents: &[u8], room| {
+        frame::write_standard(Origin::Trace, contents, &mut vec![MARK; room])
+    };
+    assert_eq!(write(&[0; 118], 0), Err(2));
+    assert_eq!(write(&[], 2), Err(1));
 }
 
 #[test]
 fn frame_length_counts_addresses_and_escapes() {
     let extended = |to, contents: &[u8]| {
         let (from, len) = (0x00, contents.len());
-        let wire = write_frame(Read::Extended { to, from, len }, contents);
+        let wire = write_frame(Origin::Live, Read::Extended { to, from, len }, contents);
         wire.map(|wire| bytes(&wire).len())
     };
     assert_eq!(extended(0x05, &[0; 115]), Ok(120));
@@ -477,10 +497,7 @@ fn frame_length_counts_addresses_and_escapes() {
     assert_eq!(extended(0xF2, &[0; 114]), Ok(120));
     assert_eq!(extended(0xF2, &[0; 115]), Err(2));
     // An even number of equal bytes has checksum 00, an odd one that byte.
-    let standard = |len| {
-        let wire = write_frame(Read::Standard { len }, &vec![0xF3; len]);
-        wire.map(|wire| bytes(&wire).len())
-    };
+    let standard = |len| write_standard(&vec![0xF3; len]).map(|wire| bytes(&wire).len());
     assert_eq!(standard(58), Ok(119));
     assert_eq!(standard(59), Err(2));
     assert_eq!(standard(57), Ok(118));
@@ -498,14 +515,18 @@ fn lengths_are_told() {
     ];
     for (contents, standard, extended) in cases {
         let contents = bytes(contents);
-        assert_eq!(frame::standard_length(&contents), standard);
+        assert_eq!(frame::standard_length(Origin::Trace, &contents), standard);
         assert_eq!(frame::extended_length(0x05, 0xF1, &contents), extended);
     }
-    assert_eq!(frame::standard_length(&[0; 117]), Ok(120));
+    assert_eq!(frame::standard_length(Origin::Trace, &[0; 117]), Ok(120));
     assert_eq!(frame::extended_length(0xF0, 0xF3, &[0; 113]), Ok(120));
     for len in [118, 255, 256, 4_096, 65_536] {
         let contents = vec![0; len];
-        assert_eq!(frame::standard_length(&contents), Err(2), "{len}");
+        assert_eq!(
+            frame::standard_length(Origin::Trace, &contents),
+            Err(2),
+            "{len}"
+        );
         assert_eq!(frame::extended_length(0, 0, &contents), Err(2), "{len}");
     }
 }
@@ -527,7 +548,7 @@ fn lengths_count_every_escape() {
             for byte in 0xEF..=0xF4 {
                 let mut contents = vec![0x00; len];
                 contents[place] = byte;
-                let standard = frame::standard_length(&contents);
+                let standard = frame::standard_length(Origin::Trace, &contents);
                 assert_eq!(standard, counted(&[], &contents), "{byte:02X} of {len}");
                 let extended = frame::extended_length(byte, 0x00, &contents);
                 let expected = counted(&[byte, 0x00], &contents);
@@ -543,7 +564,7 @@ fn lengths_of_all_addresses_and_checksums() {
         for other in 0..=0xFF {
             let extended = frame::extended_length(byte, other, &[0; 114]);
             assert_eq!(extended, counted(&[byte, other], &[0; 114]));
-            let standard = frame::standard_length(&[byte, other]);
+            let standard = frame::standard_length(Origin::Trace, &[byte, other]);
             assert_eq!(standard, counted(&[], &[byte, other]));
         }
     }
@@ -573,7 +594,7 @@ fn line_finds_flags_before_escapes() {
 }
 
 /// The rule for the line, on whole candidates kept without limit.
-fn rule(open: &mut Option<Vec<u8>>, call: Option<u8>) -> Answer {
+fn rule(origin: Origin, open: &mut Option<Vec<u8>>, call: Option<u8>) -> Answer {
     match call {
         None | Some(0xF0 | 0xF1) => {
             let truncated = open.is_some();
@@ -592,7 +613,7 @@ fn rule(open: &mut Option<Vec<u8>>, call: Option<u8>) -> Answer {
             if byte != 0xF2 {
                 return Answer::Nothing;
             }
-            let judged = frame::read(candidate, &mut [0; 200]);
+            let judged = frame::read(origin, candidate, &mut [0; 200]);
             *open = None;
             judged.map_or_else(Answer::Refused, Answer::Frame)
         }
@@ -601,8 +622,17 @@ fn rule(open: &mut Option<Vec<u8>>, call: Option<u8>) -> Answer {
 
 #[test]
 fn line_follows_its_rule() {
+    let unnamed = [Origin::Live, Origin::Trace].map(unnamed_by_rule);
+    assert!(unnamed[0] > 1_000, "{unnamed:?}");
+    assert_eq!(unnamed[1], 0);
+}
+
+/// Makes many calls, each of which has to be answered by the rule, and counts the
+/// answers that are 17.
+fn unnamed_by_rule(origin: Origin) -> usize {
     const BYTES: [u8; 8] = [0xF0, 0xF1, 0xF2, 0xF2, 0xF3, 0x00, 0x01, 0x55];
-    let (mut line, mut open) = (Line::new(), None);
+    let (mut line, mut open) = (Line::new(origin), None);
+    let mut unnamed = 0;
     let mut random = 1u64;
     for _ in 0..500_000 {
         random = random
@@ -614,8 +644,10 @@ fn line_follows_its_rule() {
             Some(byte) => line.feed(byte),
             None => line.finish(),
         };
-        assert_eq!(answer, rule(&mut open, call));
+        assert_eq!(answer, rule(origin, &mut open, call));
+        unnamed += usize::from(answer == Answer::Refused(17));
     }
+    unnamed
 }
 
 #[test]
@@ -634,7 +666,7 @@ fn a_chunk_is_taken_up_to_its_answer() {
         ("F1 41 42 F2 55", 4, Answer::Refused(5)),
         ("55", 1, Answer::Nothing),
     ];
-    let mut line = Line::new();
+    let mut line = Line::new(Origin::Trace);
     for (chunk, taken, answer) in cases {
         assert_eq!(line.feed_chunk(&bytes(chunk)), (taken, answer), "{chunk}");
     }
@@ -655,10 +687,153 @@ fn a_chunk_is_cut_to_its_first_65_536_bytes() {
     for (stop, first, second) in cases {
         let mut chunk = vec![0x55; 65_539];
         chunk[stop - 2..=stop].copy_from_slice(&[0xF1, 0x00, 0xF2]);
-        let mut line = Line::new();
+        let mut line = Line::new(Origin::Trace);
         assert_eq!(line.feed_chunk(&chunk), first, "{stop}");
         assert_eq!(line.feed_chunk(&chunk[first.0..]), second, "{stop}");
     }
+}
+
+/// The verdict on a frame of a live line, by that on the same frame of a trace.
+fn live_verdict(read: Result<(Read, Vec<u8>), u8>) -> Result<(Read, Vec<u8>), u8> {
+    match read {
+        Ok((Read::Standard { .. }, _)) => Err(17),
+        other => other,
+    }
+}
+
+#[test]
+fn live_examples_are_as_in_a_trace_but_for_standard_frames() {
+    let mut unnamed = 0;
+    for (name, wire, verdict) in examples::FRAMES {
+        let wire = bytes(wire);
+        let live = read_frame_from(Origin::Live, &wire);
+        assert_eq!(live, live_verdict(read_frame(&wire)), "{name}");
+        assert_eq!(live == Err(17), verdict.starts_with("std"), "{name}");
+        let answer = live.map_or_else(Answer::Refused, |(frame, _)| Answer::Frame(frame));
+        let answers = line_answers_from(Origin::Live, &wire);
+        assert_eq!(answers, [(wire.len() - 1, answer)], "{name}");
+        unnamed += usize::from(answer == Answer::Refused(17));
+    }
+    assert!(unnamed > 20, "{unnamed} frames are refused with 17");
+}
+
+#[test]
+fn live_reading_refuses_a_sound_standard_frame_with_17() {
+    let long = format!("F1 {} F2", "00 ".repeat(119));
+    let longest = format!("F1 {} F2", "00 ".repeat(118));
+    let (to, from, len) = (0x05, 0x00, 1);
+    let extended = Answer::Frame(Read::Extended { to, from, len });
+    let cases = [
+        (long.as_str(), Answer::Refused(2)),
+        ("F1 F3 04 F2", Answer::Refused(3)),
+        ("F1 F3 F2", Answer::Refused(3)),
+        ("F1 F2", Answer::Refused(4)),
+        ("F1 24 02 03 00 24 F2", Answer::Refused(5)),
+        ("F1 24 02 03 00 25 F2", Answer::Refused(17)),
+        ("F1 F3 01 F3 01 F2", Answer::Refused(17)),
+        ("F1 00 F2", Answer::Refused(17)),
+        (longest.as_str(), Answer::Refused(17)),
+        ("F0 05 00 41 41 F2", extended),
+        ("F0 05 00 F2", Answer::Refused(4)),
+        ("F0 05 00 41 42 F2", Answer::Refused(5)),
+    ];
+    for (wire, answer) in cases {
+        let wire = bytes(wire);
+        let read = read_frame_from(Origin::Live, &wire).map(|(frame, _)| frame);
+        assert_eq!(read.map_or_else(Answer::Refused, Answer::Frame), answer);
+        let answers = line_answers_from(Origin::Live, &wire);
+        assert_eq!(answers, [(wire.len() - 1, answer)]);
+    }
+    let unterminated = read_frame_from(Origin::Live, &bytes("F1 24 02 03 00 25"));
+    assert_eq!(unterminated, Err(6));
+}
+
+#[test]
+fn live_reading_refuses_with_17_before_1() {
+    let standard = bytes("F1 24 02 03 00 25 F2");
+    let extended = bytes("F0 05 00 24 02 03 00 25 F2");
+    for room in 0..4 {
+        let mut out = vec![MARK; room];
+        assert_eq!(frame::read(Origin::Live, &standard, &mut out), Err(17));
+        assert_eq!(frame::read(Origin::Trace, &standard, &mut out), Err(1));
+        assert_eq!(frame::read(Origin::Live, &extended, &mut out), Err(1));
+        assert_eq!(out, vec![MARK; room]);
+    }
+}
+
+#[test]
+fn live_writing_refuses_a_standard_frame_with_17_first() {
+    for contents in [&[][..], &[0x80], &[0; 117], &[0; 118], &[0; 4_096]] {
+        let frame = Read::Standard {
+            len: contents.len(),
+        };
+        assert_eq!(write_frame(Origin::Live, frame, contents), Err(17));
+        let none = frame::write_standard(Origin::Live, contents, &mut []);
+        assert_eq!(none, Err(17));
+    }
+}
+
+#[test]
+fn a_finish_keeps_the_origin() {
+    let standard = bytes("F1 24 02 03 00 25 F2");
+    let frame = Answer::Frame(Read::Standard { len: 4 });
+    for (origin, answer) in [(Origin::Live, Answer::Refused(17)), (Origin::Trace, frame)] {
+        let mut line = Line::new(origin);
+        assert_eq!(line.finish(), Answer::Nothing);
+        for (open, finished) in [("55", Answer::Nothing), ("F1 24", Answer::Refused(6))] {
+            assert_eq!(line.feed_chunk(&standard), (7, answer));
+            assert_eq!(line.feed_chunk(&bytes(open)).1, Answer::Nothing);
+            assert_eq!(line.finish(), finished);
+        }
+        assert_eq!(line.feed_chunk(&standard), (7, answer));
+    }
+}
+
+#[test]
+fn a_refusal_with_17_hands_out_no_contents() {
+    let mut line = Line::new(Origin::Live);
+    let (to, from, len) = (0x05, 0x00, 1);
+    let extended = Answer::Frame(Read::Extended { to, from, len });
+    assert_eq!(line.feed_chunk(&bytes("F0 05 00 41 41 F2")), (6, extended));
+    assert_eq!(line.contents(), [0x41]);
+    let refused = line.feed_chunk(&bytes("F1 42 42 F2"));
+    assert_eq!(refused, (4, Answer::Refused(17)));
+    assert_eq!(line.contents(), []);
+}
+
+#[test]
+fn workouts_go_out_in_extended_frames_from_the_host() {
+    let write = |address, workout| written(|out| workout::write_frame(address, workout, out));
+    let contents = "21 03 02 00 21 1A 07 05 05 80 F4 01 00 00 34 03 C8 00 58 24 02 00 00";
+    let example = write(0x05, distance(2_000, 500)).unwrap();
+    assert_eq!(example, format!("F0 05 00 {contents} E8 F2"));
+    let escaped = write(0xF1, distance(2_000, 500)).unwrap();
+    assert_eq!(escaped, format!("F0 F3 01 00 {contents} E8 F2"));
+    for address in 0x01..=0xFC {
+        let wire = bytes(&write(address, time(1_200, 24_000)).unwrap());
+        let (frame, contents) = read_frame_from(Origin::Live, &wire).unwrap();
+        let to = address as u8;
+        let (from, len) = (0x00, 23);
+        assert_eq!(frame, Read::Extended { to, from, len });
+        assert_eq!(workout::read(&contents), Ok(time(1_200, 24_000)));
+    }
+}
+
+#[test]
+fn workout_frames_are_refused_in_order() {
+    let (kept, beyond) = (distance(2_000, 500), distance(99, 99));
+    for address in [0x00, 0xFD, 0xFE, 0xFF, 0x100, 0x105, u32::MAX] {
+        assert_eq!(workout::write_frame(address, kept, &mut [0; 64]), Err(9));
+        assert_eq!(workout::write_frame(address, beyond, &mut []), Err(9));
+    }
+    assert_eq!(workout::write_frame(0x05, beyond, &mut []), Err(12));
+    assert_eq!(workout::write_frame(0x05, kept, &mut []), Err(1));
+    // The address and both bytes of the power are escaped, which takes a byte more for each.
+    let watts = 0xF3F2;
+    let stuffed = Workout { watts, ..kept };
+    let plain = written(|out| workout::write_frame(0x05, kept, out)).unwrap();
+    let escaped = written(|out| workout::write_frame(0xF0, stuffed, out)).unwrap();
+    assert_eq!([plain, escaped].map(|wire| bytes(&wire).len()), [28, 31]);
 }
 
 fn found(byte: u8, start: usize, len: usize) -> Result<Found, u8> {

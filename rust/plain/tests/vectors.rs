@@ -1,7 +1,7 @@
 //! The worked examples that `crates/vectors` runs too: the stored answers are
 //! those of the program here, they are the examples of the source documents and no
-//! other but document 01's, and each answer says what those documents' tables
-//! have. To store the answers:
+//! other but those of documents 01 and 02, and each answer says what the source
+//! documents' tables have. To store the answers:
 //!
 //!     cargo run -p plain --bin vectors < ../crates/vectors/stdin > ../crates/vectors/stdout
 
@@ -113,15 +113,103 @@ fn lengths_are_those_of_what_is_written() {
     let mut count = 0;
     for (name, example) in by_name(&examples) {
         let (operation, arguments) = example.split_once(' ').unwrap_or((example, ""));
-        if !matches!(operation, "standard" | "extended") {
-            continue;
-        }
-        let length = printed(&format!("{name} {operation}-length {arguments}"));
+        let length_operation = match operation {
+            "standard" => "standard-length",
+            "live-standard" => "live-length",
+            "extended" => "extended-length",
+            _ => continue,
+        };
+        let length = printed(&format!("{name} {length_operation} {arguments}"));
         let expected = length_of(value(answers[name], "written="));
         assert_eq!(length, format!("{name} length={expected}\n"));
         count += 1;
     }
     assert!(count >= 6, "{count} frames are written");
+}
+
+/// What a live example asks for in a trace.
+fn in_a_trace(example: &str) -> Option<String> {
+    let example = example.strip_prefix("live-")?;
+    Some(match example.strip_prefix("length") {
+        Some(contents) => format!("standard-length{contents}"),
+        None => example.to_string(),
+    })
+}
+
+#[test]
+fn live_examples_with_the_name_of_another_have_its_bytes() {
+    let examples = text("stdin");
+    let examples = by_name(&examples);
+    let mut count = 0;
+    for (name, example) in &examples {
+        let trace = name.strip_prefix("live-");
+        let Some(trace) = trace.and_then(|name| examples.get(name)) else {
+            continue;
+        };
+        assert_eq!(in_a_trace(example).as_deref(), Some(*trace), "{name}");
+        count += 1;
+    }
+    assert!(count >= 40, "{count} examples are in a trace too");
+}
+
+#[test]
+fn live_frames_are_those_of_a_trace_but_for_standard_ones() {
+    let (examples, answers) = (text("stdin"), text("stdout"));
+    let answers = by_name(&answers);
+    let (mut unnamed, mut others) = (0, 0);
+    for (name, example) in by_name(&examples) {
+        let live = example.strip_prefix("live-");
+        let Some(frame) = live.filter(|example| example.starts_with("frame")) else {
+            continue;
+        };
+        let trace = printed(&format!("{name} {frame}"));
+        if trace.contains(" kind=std ") {
+            assert_eq!(answers[name], "kind=refused code=17", "{name}");
+            unnamed += 1;
+        } else {
+            assert_eq!(format!("{name} {}\n", answers[name]), trace);
+            others += 1;
+        }
+    }
+    assert!(unnamed >= 10 && others >= 20, "{unnamed} and {others}");
+}
+
+/// The answer to a workout's frame, from the contents that are written for it and
+/// the extended frame from 00 that has them.
+fn framed(address: u32, workout: &str) -> String {
+    if !(0x01..=0xFC).contains(&address) {
+        return "refused:9".to_string();
+    }
+    let contents = printed(&format!("it {workout}"));
+    let contents = value(contents.trim_end(), "contents=");
+    if contents.starts_with("refused:") {
+        return contents.to_string();
+    }
+    let pairs: Vec<&str> = (0..contents.len() / 2)
+        .map(|n| &contents[2 * n..][..2])
+        .collect();
+    let wire = printed(&format!("it extended {address:02X} 00 {}", pairs.join(" ")));
+    value(wire.trim_end(), "written=").to_string()
+}
+
+#[test]
+fn workout_frames_have_the_contents_that_are_written() {
+    let (examples, answers) = (text("stdin"), text("stdout"));
+    let answers = by_name(&answers);
+    let mut count = 0;
+    for (name, example) in by_name(&examples) {
+        let words: Vec<&str> = example.split(' ').collect();
+        let goal = match words[0] {
+            "distance-frame" => "distance",
+            "time-frame" => "time",
+            _ => continue,
+        };
+        let workout = format!("{goal} {}", words[2..].join(" "));
+        let written = framed(words[1].parse().unwrap(), &workout);
+        assert_eq!(value(answers[name], "written="), written, "{name}");
+        count += 1;
+    }
+    assert!(count >= 20, "{count} workouts are framed");
 }
 
 #[test]

@@ -2,6 +2,7 @@ use Prim.Native.Nat.{ℕ}
 use mathlib.Core.Path.{sym, subst}
 use Rattle.answer.specs.Answer.{Answer}
 use Rattle.frame.specs.Frame.{extended}
+use Rattle.frame.specs.declared.Origin.the-variants.{Live}
 use Rattle.exports.specs.Packed.{Tells}
 use Rattle.exports.specs.Answers.{writeFields, WriteShort}
 use Rattle.exports.proofs.AnswerLaws.{length-short}
@@ -15,7 +16,7 @@ extended-length-requires c κs = search needs
 of-length-requires : tie.Need-of-length-requires
 of-length-requires c κs =
     let a = c .before .before .args in
-    subst WriteShort (sym (c .extended-length .ensures)) (length-short (extended (a .to) (a .from) (a .contents .now)))
+    subst WriteShort (sym (c .extended-length .ensures)) (length-short Live (extended (a .to) (a .from) (a .contents .now)))
 
 returns : tie.Need-returns
 returns c =

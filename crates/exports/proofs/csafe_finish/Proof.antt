@@ -1,4 +1,5 @@
 use native.Mathlib.Omega.{arith}
+use Rattle.frame.specs.declared.Origin.the-variants.{Live}
 use borrow.Author.Needs.{needs}
 use Rattle.exports.proofs.LineAnswerLaws.{finish-len, finish-fits, finished-as}
 use Rattle.exports.proofs.csafe_finish.Statement.{statement}
@@ -21,7 +22,7 @@ of-told-requires c κs =
 returns : tie.Need-returns
 returns c =
     let f = c .before .before .before in
-    finished-as (f .before .state-in .result) _ (f .finish-in .ensures) _
+    finished-as (f .before .state-in .result) _ (f .finish-in .ensures) Live _
     (f .before .before .before .args .state .now) _ (f .before .state-in .ensures)
     (c .before .pack-state .ensures) (c .of-told .ensures)
 

@@ -6,6 +6,7 @@ use lib.Seq.{length-take-le}
 use Rattle.lists.proofs.Lists.{take-lesser}
 use Rattle.frame.specs.Flags.{candidateOf}
 use Rattle.frame.specs.Verdict.{verdict}
+use Rattle.frame.specs.Origin.{admit}
 use Rattle.frame.specs.Answers.{judgeAnswer, leftIn}
 use Rattle.frame.proofs.ContentsLaws.{left-part}
 use borrow.Author.Needs.{needs}
@@ -40,10 +41,12 @@ returns c =
     let t = j .before .before in
     let a = t .before .before .args in
     let n = t .lesser .result in (
-      j .judge-whole .ensures .0 ∙ ap (λ (l : List ℕ). judgeAnswer (verdict (candidateOf (a .kind) l))) (part t .0),
-      left-part _ (a .s .now) _ n (part t .1) (j .judge-whole .kept .1 .0 ∙ length-take-le n (a .s .now) (part t .1))
+      j .judge-whole .ensures .0
+          ∙ ap (λ (l : List ℕ). judgeAnswer (admit (a .origin) (verdict (candidateOf (a .kind) l)))) (part t .0),
+      left-part _ (a .s .now) _ n (part t .1)
+          (j .judge-whole .kept .1 .1 .0 ∙ length-take-le n (a .s .now) (part t .1))
           (j .judge-whole .ensures .1)
-          ∙ ap (λ (l : List ℕ). leftIn (verdict (candidateOf (a .kind) l)) (a .s .now)) (part t .0),
+          ∙ ap (λ (l : List ℕ). leftIn (admit (a .origin) (verdict (candidateOf (a .kind) l))) (a .s .now)) (part t .0),
     )
 
 pub judge-first-spec : {M : Type 1} → statement M

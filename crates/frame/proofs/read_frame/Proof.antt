@@ -7,9 +7,11 @@ use lib.ListN.{length, take, drop}
 use borrow.Author.Tests.{not-true, not-false}
 use Rattle.frame.specs.Private.{isBounded, judgeWhole, Unescaped}
 use Rattle.frame.specs.Verdict.{Verdict, verdict}
+use Rattle.frame.specs.Origin.{admit}
 use Rattle.frame.specs.Answers.{readAnswer, readOut}
 use Rattle.frame.proofs.VerdictLaws.{bounded-no, bounded-long, bounded-judged, plain-whole, answer-refused}
 use Rattle.frame.proofs.VerdictLaws.{looked-clear}
+use Rattle.frame.proofs.OriginLaws.{admit-refused}
 use borrow.Author.Needs.{needs}
 use Rattle.frame.proofs.read_frame.Statement.{statement}
 use Rattle.frame.proofs.read_frame.Tie as tie
@@ -44,7 +46,9 @@ is-bounded-requires : tie.Need-is-bounded-requires
 is-bounded-requires c κs = search needs
 
 returns : tie.Need-returns
-returns c = answer-refused _ 6 _ (bounded-no _ (sym (c .before .is-bounded .ensures) ∙ not-true _ (c .if1 .taken)))
+returns c =
+    answer-refused _ 6 _ (admit-refused (c .before .before .before .before .args .origin) _ 6
+    (bounded-no _ (sym (c .before .is-bounded .ensures) ∙ not-true _ (c .if1 .taken))))
 
 shared-slice-read-start : tie.Need-shared-slice-read-start
 shared-slice-read-start c = let m = bounded-long (W (c .before)) (bounded (c .before)) in omega arith
@@ -82,8 +86,8 @@ returns-2 c =
     let l = r .before .before .before in
     let k = l .before .before .before in
     let out = St k .args .out .now in
-    let same = plain-whole (B k) _ (unescaped l (r .before .before .if3 .taken)) (k .kind-of .result)
-    ∙ judged k in (
+    let same = ap (admit (St k .args .origin))
+    (plain-whole (B k) _ (unescaped l (r .before .before .if3 .taken)) (k .kind-of .result) ∙ judged k) in (
       r .read-plain .ensures .0 ∙ ap (λ (v : Verdict). readAnswer v (length out)) same,
       r .read-plain .ensures .1 ∙ ap (λ (v : Verdict). readOut v out) same,
     )
@@ -98,9 +102,10 @@ returns-3 : tie.Need-returns-3
 returns-3 c =
     let r = c .before .before in
     let k = r .before .before .before .before in
-    let out = St k .args .out .now in (
-      r .read-stuffed .ensures .0 ∙ ap (λ (v : Verdict). readAnswer v (length out)) (judged k),
-      r .read-stuffed .ensures .1 ∙ ap (λ (v : Verdict). readOut v out) (judged k),
+    let out = St k .args .out .now in
+    let same = ap (admit (St k .args .origin)) (judged k) in (
+      r .read-stuffed .ensures .0 ∙ ap (λ (v : Verdict). readAnswer v (length out)) same,
+      r .read-stuffed .ensures .1 ∙ ap (λ (v : Verdict). readOut v out) same,
     )
 
 pub read-frame-spec : {M : Type 1} → statement M

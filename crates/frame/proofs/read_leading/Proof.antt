@@ -8,10 +8,12 @@ use borrow.Author.Tests.{not-true, not-false}
 use Rattle.lists.proofs.Lists.{rest-part}
 use Rattle.frame.specs.Flags.{isStart}
 use Rattle.frame.specs.Verdict.{Verdict, verdict}
+use Rattle.frame.specs.Origin.{admit}
 use Rattle.frame.specs.Answers.{readAnswer, readOut}
 use Rattle.frame.specs.Leading.{openCount}
 use Rattle.frame.specs.Private.{openVerdict}
 use Rattle.frame.proofs.VerdictLaws.{answer-refused}
+use Rattle.frame.proofs.OriginLaws.{admit-refused}
 use Rattle.frame.proofs.LeadingLaws.{start-some, leading-none, leading-some, open-verdict}
 use borrow.Author.Needs.{needs}
 use Rattle.frame.proofs.read_leading.Statement.{statement}
@@ -36,8 +38,8 @@ returns c =
     let out = p .args .out .now in
     let k = leading-none s (sym (c .before .before .starts .ensures) ∙ not-true _ (c .before .if1 .taken)) in
     let z = c .no-leading .ensures .1 in
-    let a = answer-refused (verdict (take (c .no-leading .result .taken) s)) 6 out
-    (ap (λ (n : ℕ). verdict (take n s)) z ∙ k .1) in
+    let a = answer-refused (admit (p .args .origin) (verdict (take (c .no-leading .result .taken) s))) 6 out
+    (admit-refused (p .args .origin) _ 6 (ap (λ (n : ℕ). verdict (take n s)) z ∙ k .1)) in
     (z ∙ k .0, (c .no-leading .ensures .0 ∙ a .0, a .1))
 
 shared-slice-read-kind-of : tie.Need-shared-slice-read-kind-of
@@ -71,10 +73,9 @@ returns-2 c =
     let rest : take (length s - 1) (drop 1 s) ≡ drop 1 s =
     rest-part s 1 in
     let taken : r .read-open .result .taken ≡ openCount (drop 1 s) = r .read-open .ensures .0 ∙ ap openCount rest in
-    let same : openVerdict (k .kind-of .result) (take (length s - 1) (drop 1 s))
-    ≡ verdict (take (r .read-open .result .taken) s) =
-    ap₂ openVerdict (k .kind-of .ensures) rest ∙ open-verdict s (starts t)
-    ∙ ap (λ (n : ℕ). verdict (take n s)) (sym taken) in (
+    let same = ap (admit (t .before .before .before .before .args .origin))
+    (ap₂ openVerdict (k .kind-of .ensures) rest ∙ open-verdict s (starts t)
+    ∙ ap (λ (n : ℕ). verdict (take n s)) (sym taken)) in (
       taken ∙ leading-some s (starts t),
       (
         r .read-open .ensures .1 .0 ∙ ap (λ (v : Verdict). readAnswer v (length out)) same,

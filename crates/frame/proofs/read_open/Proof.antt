@@ -7,9 +7,11 @@ use lib.ListN.{length}
 use lib.Seq.{length-take-le}
 use borrow.Author.Tests.{not-true, not-false}
 use Rattle.frame.specs.Verdict.{Verdict}
+use Rattle.frame.specs.Origin.{admit}
 use Rattle.frame.specs.Answers.{readAnswer, readOut}
 use Rattle.frame.specs.Leading.{isStopAt}
 use Rattle.frame.proofs.VerdictLaws.{plain-whole, answer-refused}
+use Rattle.frame.proofs.OriginLaws.{admit-refused}
 use Rattle.frame.proofs.LeadingLaws.{open-plain, open-inside, open-none, open-some}
 use borrow.Author.Needs.{needs}
 use Rattle.frame.proofs.read_open.Statement.{statement}
@@ -43,7 +45,7 @@ returns c =
     let p = f .before .before .before .before in
     let e = sym (c .before .before .is-stop-at .ensures) ∙ not-true _ (c .before .if1 .taken) in
     let k = open-none (p .args .kind) (p .args .rest .now) _ (f .first-flag .ensures) e in
-    let a = answer-refused _ 6 (p .args .out .now) (k .1) in
+    let a = answer-refused _ 6 (p .args .out .now) (admit-refused (p .args .origin) _ 6 (k .1)) in
     (c .no-leading .ensures .1 ∙ sym (k .0), (c .no-leading .ensures .0 ∙ a .0, a .1))
 
 add-taken : tie.Need-add-taken
@@ -71,8 +73,9 @@ returns-2 c =
     let p = f .before .before .before .before in
     let out = p .args .out .now in
     let k = open-some (p .args .kind) (Rest t) _ (f .first-flag .ensures) (stops t) in
-    let same = plain-whole _ _ (open-plain (Rest t) _ _ _ (f .before .plain-run .ensures .0) (f .before .plain-run .ensures .1)
-    (stops t) (a .before .before .if2 .taken) (a .before .if3 .taken)) (p .args .kind) ∙ k .1 in (
+    let clear = open-plain (Rest t) _ _ _ (f .before .plain-run .ensures .0) (f .before .plain-run .ensures .1) (stops t)
+    (a .before .before .if2 .taken) (a .before .if3 .taken) in
+    let same = ap (admit (p .args .origin)) (plain-whole _ _ clear (p .args .kind) ∙ k .1) in (
       k .0,
       (
         r .read-plain .ensures .0 ∙ ap (λ (v : Verdict). readAnswer v (length out)) same,
@@ -93,11 +96,12 @@ returns-3 c =
     let f = t .before .before in
     let p = f .before .before .before .before in
     let out = p .args .out .now in
-    let k = open-some (p .args .kind) (Rest t) _ (f .first-flag .ensures) (stops t) in (
+    let k = open-some (p .args .kind) (Rest t) _ (f .first-flag .ensures) (stops t) in
+    let same = ap (admit (p .args .origin)) (k .1) in (
       k .0,
       (
-        r .read-stuffed .ensures .0 ∙ ap (λ (v : Verdict). readAnswer v (length out)) (k .1),
-        r .read-stuffed .ensures .1 ∙ ap (λ (v : Verdict). readOut v out) (k .1),
+        r .read-stuffed .ensures .0 ∙ ap (λ (v : Verdict). readAnswer v (length out)) same,
+        r .read-stuffed .ensures .1 ∙ ap (λ (v : Verdict). readOut v out) same,
       ),
     )
 

@@ -1,26 +1,33 @@
-use mathlib.Core.Path.{_≡_, ap, _∙_, subst}
+use mathlib.Core.Path.{_≡_, sym, ap, _∙_, subst}
 use Prim.Native.Nat.{ℕ, _+_, _-_, _≤_}
 use native.Mathlib.Omega.{arith}
 use lib.ListN.{length, take, drop, length-drop}
 use lib.Seq.{length-take-le}
 use Rattle.lists.specs.Splice.{copied}
 use Rattle.lists.proofs.Splices.{copied-fits}
+use Rattle.frame.specs.Verdict.{Verdict, judge}
+use Rattle.frame.specs.Origin.{admit}
 use Rattle.frame.specs.Private.{Examines, SoundAt}
 use Rattle.frame.specs.declared.candidate.Examined.{Examined}
+use Rattle.frame.proofs.OriginLaws.{found-at}
 use Rattle.frame.proofs.VerdictLaws.{answer-refused, plain-rest}
 use Rattle.frame.proofs.ContentsLaws.{rest-length, read-no-room, read-first, copied-plain}
 use borrow.Author.Needs.{needs}
 use Rattle.frame.proofs.read_plain.Statement.{statement}
 use Rattle.frame.proofs.read_plain.Tie as tie
 
-abbrev St : tie.After-examine-plain → tie.Start
-St e = e .before .before .before
+abbrev St : tie.After-admit → tie.Start
+St e = e .before .before .before .before
 
-found : (e : tie.After-examine-plain) (x : Examined) → e .examine-plain .result ≡ x
-    → Examines (St e .args .kind) (St e .args .body .now) x
-found e x q = subst (Examines (St e .args .kind) (St e .args .body .now)) q (e .examine-plain .ensures)
+abbrev verdict-at : tie.After-admit → Verdict
+verdict-at e = admit (St e .args .origin) (judge (St e .args .kind) (St e .args .body .now))
 
-abbrev E : tie.After-known-told2 → tie.After-examine-plain
+found : (e : tie.After-admit) (x : Examined) → e .admit .result ≡ x → Examines (verdict-at e) (St e .args .body .now) x
+found e x q =
+    subst (Examines (verdict-at e) (St e .args .body .now)) (sym (e .admit .ensures) ∙ q)
+    (found-at (St e .args .origin) _ _ (e .before .examine-plain .result) (e .before .examine-plain .ensures))
+
+abbrev E : tie.After-known-told2 → tie.After-admit
 E k = k .before .before .before
 
 abbrev start : tie.After-known-told2 → ℕ
@@ -30,7 +37,7 @@ abbrev len : tie.After-known-told2 → ℕ
 len k = k .before .found2 .given .0 .1 .1 .0
 
 sound : (k : tie.After-known-told2)
-    → SoundAt (St (E k) .args .kind) (St (E k) .args .body .now) (k .before .found2 .given .0 .0) (start k) (len k)
+    → SoundAt (verdict-at (E k)) (St (E k) .args .body .now) (k .before .found2 .given .0 .0) (start k) (len k)
 sound k = found (E k) _ (k .before .found2 .given .1)
 
 -- the contents and the checksum, as they are
@@ -42,6 +49,9 @@ inside k = omega (arith, rest k, length-drop (start k) (St (E k) .args .body .no
 
 examine-plain-requires : tie.Need-examine-plain-requires
 examine-plain-requires c κs = search needs
+
+admit-requires : tie.Need-admit-requires
+admit-requires c κs = search needs
 
 enum-known-found : tie.Need-enum-known-found
 enum-known-found c = search needs
@@ -101,6 +111,7 @@ read-plain-spec =
     tie.close
     (tie.spec
     examine-plain-requires
+    admit-requires
     enum-known-found
     enum-known-found-2
     returns

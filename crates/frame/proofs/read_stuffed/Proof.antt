@@ -1,4 +1,4 @@
-use mathlib.Core.Path.{_≡_, ap, _∙_, subst}
+use mathlib.Core.Path.{_≡_, sym, ap, _∙_, subst}
 use Prim.Native.Nat.{ℕ, _-_}
 use native.Mathlib.Omega.{arith}
 use mathlib.Core.Bool.{false}
@@ -6,34 +6,35 @@ use mathlib.Core.List.{List, _++_}
 use lib.ListN.{length, take, drop, length-drop}
 use lib.Seq.{take-all}
 use Rattle.frame.specs.Stuffing.{unstuff}
-use Rattle.frame.specs.Private.{frameOf, judgeWhole, ExaminesWhole, SoundAt, unstuffedBytes}
+use Rattle.frame.specs.Verdict.{Verdict}
+use Rattle.frame.specs.Origin.{admit}
+use Rattle.frame.specs.Private.{judgeWhole, Examines, SoundAt, unstuffedBytes}
 use Rattle.frame.specs.declared.candidate.Examined.{Examined}
-use Rattle.answer.specs.Answer.{result}
-use Rattle.frame.proofs.VerdictLaws.{whole-judged, answer-refused}
+use Rattle.frame.proofs.OriginLaws.{found-at}
+use Rattle.frame.proofs.VerdictLaws.{answer-refused}
 use Rattle.frame.proofs.ContentsLaws.{rest-length, read-no-room, read-first}
 use borrow.Author.Needs.{needs}
 use Rattle.frame.proofs.read_stuffed.Statement.{statement}
 use Rattle.frame.proofs.read_stuffed.Tie as tie
 
-abbrev St : tie.After-examine-stuffed → tie.Start
-St e = e .before .before .before
+abbrev St : tie.After-admit → tie.Start
+St e = e .before .before .before .before
 
-found : (e : tie.After-examine-stuffed) (x : Examined) → e .examine-stuffed .result ≡ x
-    → ExaminesWhole (St e .args .kind) (St e .args .body .now) x
-found e x q = subst (ExaminesWhole (St e .args .kind) (St e .args .body .now)) q (e .examine-stuffed .ensures)
+abbrev verdict-at : tie.After-admit → Verdict
+verdict-at e = admit (St e .args .origin) (judgeWhole (St e .args .kind) (St e .args .body .now))
 
-abbrev E : tie.After-known-told2 → tie.After-examine-stuffed
+found : (e : tie.After-admit) (x : Examined) → e .admit .result ≡ x → Examines (verdict-at e) (St e .args .body .now) x
+found e x q =
+    subst (Examines (verdict-at e) (St e .args .body .now)) (sym (e .admit .ensures) ∙ q)
+    (found-at (St e .args .origin) _ _ (e .before .examine-stuffed .result) (e .before .examine-stuffed .ensures))
+
+abbrev E : tie.After-known-told2 → tie.After-admit
 E k = k .before .before .before
 
 sound : (k : tie.After-known-told2)
-    → SoundAt (St (E k) .args .kind) (St (E k) .args .body .now) (k .before .found2 .given .0 .0)
+    → SoundAt (verdict-at (E k)) (St (E k) .args .body .now) (k .before .found2 .given .0 .0)
     (k .before .found2 .given .0 .1 .0) (k .before .found2 .given .0 .1 .1 .0)
-sound k = found (E k) _ (k .before .found2 .given .1) .1
-
-accepts : (k : tie.After-known-told2)
-    → judgeWhole (St (E k) .args .kind) (St (E k) .args .body .now)
-    ≡ result (frameOf (k .before .found2 .given .0 .0) (sound k .contents))
-accepts k = whole-judged _ _ (found (E k) _ (k .before .found2 .given .1) .0) ∙ sound k .judged
+sound k = found (E k) _ (k .before .found2 .given .1)
 
 -- the part from the contents on
 rest : (k : tie.After-known-told2)
@@ -48,6 +49,9 @@ rest k =
 examine-stuffed-requires : tie.Need-examine-stuffed-requires
 examine-stuffed-requires c κs = search needs
 
+admit-requires : tie.Need-admit-requires
+admit-requires c κs = search needs
+
 enum-known-found : tie.Need-enum-known-found
 enum-known-found c = search needs
 
@@ -56,7 +60,9 @@ enum-known-found-2 c = search needs
 
 returns : tie.Need-returns
 returns c =
-    let k = c .before in read-no-room (sound k) _ (St (E k) .args .out .now) (accepts k) (c .if1 .taken)
+    let k = c .before in
+    let s = sound k in
+    read-no-room s _ (St (E k) .args .out .now) (s .judged) (c .if1 .taken)
 
 sub-copy-contents : tie.Need-sub-copy-contents
 sub-copy-contents c = let s = sound (c .before) in omega (arith, s .inside)
@@ -90,7 +96,8 @@ returns-3 : tie.Need-returns-3
 returns-3 c =
     let k = c .before .before .before .before .before .before .before in
     let out = St (E k) .args .out .now in
-    let put = read-first (sound k) _ out _ (accepts k) (c .before .before .before .before .before .before .if1 .left)
+    let s = sound k in
+    let put = read-first s _ out _ (s .judged) (c .before .before .before .before .before .before .if1 .left)
     (c .before .before .before .copy-contents .ensures
     ∙ ap (λ (l : List ℕ). take (k .before .found2 .given .0 .1 .1 .0) (unstuffedBytes (unstuff false l))
     ++ drop (k .before .found2 .given .0 .1 .1 .0) out) (rest k)) in
@@ -101,6 +108,7 @@ read-stuffed-spec =
     tie.close
     (tie.spec
     examine-stuffed-requires
+    admit-requires
     enum-known-found
     enum-known-found-2
     returns

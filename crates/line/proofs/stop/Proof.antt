@@ -15,7 +15,7 @@ returns c =
     let t : tie.After-terminated = search needs in
     λ b. record {
       told-is = t .terminated .ensures .0;
-      next-is = ap (λ (l : List ℕ). reader l 0 Outside) (t .terminated .ensures .1);
+      next-is = ap (λ (l : List ℕ). reader (t .before .before .args .state .origin) l 0 Outside) (t .terminated .ensures .1);
     }
 
 pub stop-spec : {M : Type 1} → statement M

@@ -2,6 +2,8 @@
 
 use std::ops::RangeInclusive;
 
+use plain::frame::Origin;
+
 use crate::common::Xorshift;
 use crate::sides::{Ours, Side};
 
@@ -35,6 +37,16 @@ const MACHINES: RangeInclusive<u32> = 0x01..=0xFC;
 pub enum Kind {
     Standard,
     Extended,
+}
+
+impl Kind {
+    /// Where frames of this kind are measured: a live line has no standard ones.
+    pub fn origin(self) -> Origin {
+        match self {
+            Kind::Standard => Origin::Trace,
+            Kind::Extended => Origin::Live,
+        }
+    }
 }
 
 /// The addresses of every extended frame.

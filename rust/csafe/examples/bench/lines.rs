@@ -1,4 +1,7 @@
-//! The rows of lines. Plain Rust is measured by the chunk, as ours is, and byte by byte.
+//! The rows of lines. Plain Rust is measured by the chunk, as ours is, and byte by byte. The traffic has frames of both
+//! kinds and is read as a trace; the others are live lines.
+
+use plain::frame::Origin;
 
 use crate::inputs::{self, Frames, CONTENTS_LIMIT};
 use crate::rows::SLICES;
@@ -21,37 +24,38 @@ const COLUMNS: [&str; 7] = [
 
 pub fn print(choice: &Choice) {
     let mut table = Table::new(&COLUMNS);
-    for (what, line) in lines() {
+    for (what, origin, line) in lines() {
         if choice.has(what) {
-            table.row(&row(what, &line));
+            table.row(&row(what, origin, &line));
         }
     }
 }
 
-fn lines() -> [(&'static str, Vec<u8>); 7] {
+fn lines() -> [(&'static str, Origin, Vec<u8>); 7] {
     let any = Frames::of_lengths(0..=CONTENTS_LIMIT).wires;
     let long = Frames::of_lengths(90..=110).wires;
     let damaged = inputs::damaged(&any);
+    let live = |what, line| (what, Origin::Live, line);
     [
-        ("line, traffic", inputs::traffic()),
-        ("line, long frames", inputs::line_of(&long)),
-        ("line, frames one after another", inputs::line_of(&any)),
-        (
+        ("trace line, traffic", Origin::Trace, inputs::traffic()),
+        live("line, long frames", inputs::line_of(&long)),
+        live("line, frames one after another", inputs::line_of(&any)),
+        live(
             "line, frames with stray bytes between them",
             inputs::line_with_strays(&any),
         ),
-        (
+        live(
             "line, damaged frames one after another",
             inputs::line_of(&damaged),
         ),
-        ("line, any bytes", inputs::any_bytes()),
-        ("line, stray bytes alone", inputs::stray_bytes()),
+        live("line, any bytes", inputs::any_bytes()),
+        live("line, stray bytes alone", inputs::stray_bytes()),
     ]
 }
 
-fn row(what: &str, line: &[u8]) -> [String; COLUMNS.len()] {
-    let by_chunk = timing::compare::<Plain>(&mut Feeding(line), SLICES);
-    let by_byte = timing::compare::<PlainByByte>(&mut Feeding(line), SLICES);
+fn row(what: &str, origin: Origin, line: &[u8]) -> [String; COLUMNS.len()] {
+    let by_chunk = timing::compare::<Plain>(&mut Feeding(origin, line), SLICES);
+    let by_byte = timing::compare::<PlainByByte>(&mut Feeding(origin, line), SLICES);
     let rate = |time: f64| format!("{:.1}", line.len() as f64 / time / 1e6);
     [
         what.to_string(),

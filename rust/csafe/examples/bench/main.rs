@@ -10,6 +10,9 @@
 //! are timed in one process, in short slices that take turns. The ratio is plain Rust's time to ours, so above 1 ours
 //! is faster. Buffers are not cleared between calls. Bytes are those on the wire. Lines are fed in chunks of 65,536
 //! bytes, and to plain Rust a second time byte by byte.
+//!
+//! Rows whose names begin with `trace` have standard frames and are measured on the calls for traces, on both sides.
+//! All others are measured on the calls for a live line.
 
 #[path = "../../tests/common/mod.rs"]
 mod common;
@@ -53,6 +56,10 @@ impl Choice {
 fn main() {
     let choice = Choice::from_arguments();
     header::print();
+    println!(
+        "- rows that begin with `trace`: calls for traces on both sides, with standard frames"
+    );
+    println!("- all other rows: calls for a live line on both sides");
     rows::print(&choice);
     lines::print(&choice);
     let swept = sweep::print(&choice);

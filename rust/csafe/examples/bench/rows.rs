@@ -1,5 +1,7 @@
 //! The rows of single inputs: frames of any length, and leases.
 
+use plain::frame::Origin;
+
 use crate::inputs::{self, Frames, Kind, CONTENTS_LIMIT};
 use crate::sides::{Ours, Plain};
 use crate::table::Table;
@@ -56,12 +58,12 @@ impl Rows<'_> {
         self.row(
             "read, any length and bytes",
             done(),
-            &mut Reading(&frames.wires),
+            &mut Reading(Origin::Live, &frames.wires),
         );
         self.row(
             "read, any length and bytes, damaged",
             done(),
-            &mut Reading(&damaged),
+            &mut Reading(Origin::Live, &damaged),
         );
         let writing = &mut work::Writing(Kind::Extended, &frames.contents);
         self.row("write, any length and bytes", done(), writing);

@@ -5,16 +5,18 @@
 //! laid out as neither side lays out its own answers, so that the change is work for both.
 
 use csafe::frame::{self, Frame, Kind};
-use csafe::{lease, line, Error, LineReader};
+use csafe::{lease, line, trace, Error, LineReader};
+use plain::frame::{self as plain_frame, Origin};
+use plain::lease as plain_lease;
 use plain::line::{self as plain_line, Answer};
-use plain::{frame as plain_frame, lease as plain_lease};
 
 pub const TABLE_LEN: usize = lease::TABLE_LEN;
 pub const CHUNK_LIMIT: usize = line::CHUNK_LIMIT;
 
-/// A side. Equal answers of the two sides are equal numbers.
+/// A side. Equal answers of the two sides are equal numbers. Standard frames are written and measured in a trace,
+/// because on a live line they are refused without a look at their contents.
 pub trait Side {
-    fn read(wire: &[u8], out: &mut [u8]) -> u64;
+    fn read(origin: Origin, wire: &[u8], out: &mut [u8]) -> u64;
     fn write_standard(contents: &[u8], out: &mut [u8]) -> u64;
     fn write_extended(to: u8, from: u8, contents: &[u8], out: &mut [u8]) -> u64;
     fn standard_length(contents: &[u8]) -> u64;
@@ -31,7 +33,7 @@ pub trait LineSide {
 
 /// A line reader. Equal answers are equal numbers.
 pub trait Line {
-    fn new() -> Self;
+    fn new(origin: Origin) -> Self;
     /// Feeds bytes up to the first that is answered, shows the answer and its place with the contents, which are
     /// empty for a refusal, and tells how many bytes were taken.
     fn feed(&mut self, chunk: &[u8], see: impl FnMut(u64, &[u8])) -> usize;
@@ -48,13 +50,16 @@ pub struct PlainByByte;
 
 impl Side for Ours {
     #[inline(always)]
-    fn read(wire: &[u8], out: &mut [u8]) -> u64 {
-        our_read(frame::read(wire, out))
+    fn read(origin: Origin, wire: &[u8], out: &mut [u8]) -> u64 {
+        our_read(match origin {
+            Origin::Live => frame::read(wire, out),
+            Origin::Trace => trace::read(wire, out),
+        })
     }
 
     #[inline(always)]
     fn write_standard(contents: &[u8], out: &mut [u8]) -> u64 {
-        our_len(frame::write_standard(contents, out))
+        our_len(trace::write_standard(contents, out))
     }
 
     #[inline(always)]
@@ -64,7 +69,7 @@ impl Side for Ours {
 
     #[inline(always)]
     fn standard_length(contents: &[u8]) -> u64 {
-        our_len(frame::standard_length(contents))
+        our_len(trace::standard_length(contents))
     }
 
     #[inline(always)]
@@ -93,8 +98,11 @@ impl LineSide for Ours {
 }
 
 impl Line for LineReader {
-    fn new() -> LineReader {
-        LineReader::new()
+    fn new(origin: Origin) -> LineReader {
+        match origin {
+            Origin::Live => LineReader::new(),
+            Origin::Trace => LineReader::for_trace(),
+        }
     }
 
     #[inline(always)]
@@ -130,13 +138,13 @@ fn our_read(answer: Result<Frame<'_>, Error>) -> u64 {
 
 impl Side for Plain {
     #[inline(always)]
-    fn read(wire: &[u8], out: &mut [u8]) -> u64 {
-        plain_read(plain_frame::read(wire, out))
+    fn read(origin: Origin, wire: &[u8], out: &mut [u8]) -> u64 {
+        plain_read(plain_frame::read(origin, wire, out))
     }
 
     #[inline(always)]
     fn write_standard(contents: &[u8], out: &mut [u8]) -> u64 {
-        plain_len(plain_frame::write_standard(contents, out))
+        plain_len(plain_frame::write_standard(Origin::Trace, contents, out))
     }
 
     #[inline(always)]
@@ -146,7 +154,7 @@ impl Side for Plain {
 
     #[inline(always)]
     fn standard_length(contents: &[u8]) -> u64 {
-        plain_len(plain_frame::standard_length(contents))
+        plain_len(plain_frame::standard_length(Origin::Trace, contents))
     }
 
     #[inline(always)]
@@ -175,8 +183,8 @@ impl LineSide for Plain {
 }
 
 impl Line for plain_line::Line {
-    fn new() -> plain_line::Line {
-        plain_line::Line::new()
+    fn new(origin: Origin) -> plain_line::Line {
+        plain_line::Line::new(origin)
     }
 
     #[inline(always)]
@@ -194,8 +202,8 @@ impl LineSide for PlainByByte {
 pub struct ByByte(plain_line::Line);
 
 impl Line for ByByte {
-    fn new() -> ByByte {
-        ByByte(plain_line::Line::new())
+    fn new(origin: Origin) -> ByByte {
+        ByByte(plain_line::Line::new(origin))
     }
 
     #[inline(always)]

@@ -51,15 +51,15 @@ const SWEEPS: [Sweep; 15] = [
     sweep("read, no escapes", Does::Read, Kind::Extended, 0),
     sweep("read, a fifth F0 to F3", Does::Read, Kind::Extended, 20),
     sweep("read, half F0 to F3", Does::Read, Kind::Extended, 50),
-    sweep("read, standard, no escapes", Does::Read, Kind::Standard, 0),
+    sweep("trace read, standard, no escapes", Does::Read, Kind::Standard, 0),
     sweep("write, no escapes", Does::Write, Kind::Extended, 0),
     sweep("write, a fifth F0 to F3", Does::Write, Kind::Extended, 20),
     sweep("write, half F0 to F3", Does::Write, Kind::Extended, 50),
-    sweep("write, standard, no escapes", Does::Write, Kind::Standard, 0),
+    sweep("trace write, standard, no escapes", Does::Write, Kind::Standard, 0),
     sweep("wire length, no escapes", Does::Measure, Kind::Extended, 0),
     sweep("wire length, a fifth F0 to F3", Does::Measure, Kind::Extended, 20),
     sweep("wire length, half F0 to F3", Does::Measure, Kind::Extended, 50),
-    sweep("wire length, standard, no escapes", Does::Measure, Kind::Standard, 0),
+    sweep("trace wire length, standard, no escapes", Does::Measure, Kind::Standard, 0),
     sweep("line, no escapes", Does::Line, Kind::Extended, 0),
     sweep("line, a fifth F0 to F3", Does::Line, Kind::Extended, 20),
     sweep("line, half F0 to F3", Does::Line, Kind::Extended, 50),
@@ -117,11 +117,15 @@ impl Swept {
 
 fn times(sweep: &Sweep, frames: &Frames) -> Times {
     let (wires, contents) = (&frames.wires, &frames.contents);
+    let (kind, origin) = (sweep.kind, sweep.kind.origin());
     match sweep.does {
-        Does::Read => timing::compare::<Plain>(&mut Reading(wires), SLICES),
-        Does::Write => timing::compare::<Plain>(&mut Writing(sweep.kind, contents), SLICES),
-        Does::Measure => timing::compare::<Plain>(&mut Measuring(sweep.kind, contents), SLICES),
-        Does::Line => timing::compare::<Plain>(&mut Feeding(&inputs::line_of(wires)), SLICES),
+        Does::Read => timing::compare::<Plain>(&mut Reading(origin, wires), SLICES),
+        Does::Write => timing::compare::<Plain>(&mut Writing(kind, contents), SLICES),
+        Does::Measure => timing::compare::<Plain>(&mut Measuring(kind, contents), SLICES),
+        Does::Line => {
+            let line = inputs::line_of(wires);
+            timing::compare::<Plain>(&mut Feeding(origin, &line), SLICES)
+        }
     }
 }
 

@@ -2,6 +2,8 @@
 
 use std::hint::black_box;
 
+use plain::frame::Origin;
+
 use crate::inputs::{Kind, FROM, TO};
 use crate::sides::{Line, LineSide, Side, CHUNK_LIMIT, TABLE_LEN};
 
@@ -15,14 +17,14 @@ pub trait Work<S> {
     fn run(&mut self, see: impl FnMut(u64, &[u8]));
 }
 
-pub struct Reading<'a>(pub &'a [Vec<u8>]);
+pub struct Reading<'a>(pub Origin, pub &'a [Vec<u8>]);
 
 impl<S: Side> Work<S> for Reading<'_> {
     #[inline(always)]
     fn run(&mut self, mut see: impl FnMut(u64, &[u8])) {
         let Aligned(out) = &mut Aligned([0; 128]);
-        for wire in self.0 {
-            let answer = S::read(black_box(wire), black_box(out));
+        for wire in self.1 {
+            let answer = S::read(self.0, black_box(wire), black_box(out));
             see(answer, out);
         }
     }
@@ -66,13 +68,13 @@ impl<S: Side> Work<S> for Measuring<'_> {
 }
 
 /// A line is fed in chunks of the greatest length that a call takes.
-pub struct Feeding<'a>(pub &'a [u8]);
+pub struct Feeding<'a>(pub Origin, pub &'a [u8]);
 
 impl<S: LineSide> Work<S> for Feeding<'_> {
     #[inline(always)]
     fn run(&mut self, mut see: impl FnMut(u64, &[u8])) {
-        let Aligned(line) = &mut Aligned(S::Line::new());
-        for chunk in black_box(self.0).chunks(CHUNK_LIMIT) {
+        let Aligned(line) = &mut Aligned(S::Line::new(self.0));
+        for chunk in black_box(self.1).chunks(CHUNK_LIMIT) {
             let mut rest = chunk;
             while !rest.is_empty() {
                 let taken = line.feed(rest, &mut see);

@@ -1,5 +1,7 @@
 //! Frames that are measured, written, read, damaged and read again.
 
+use plain::frame::Origin;
+
 use crate::answer::{Answer, Function};
 use crate::both::{agreed, literal, make};
 use crate::common::Xorshift;
@@ -21,8 +23,8 @@ const VERY_LONG: usize = 5_000;
 /// change an answer.
 const AROUND: usize = 32;
 
-#[derive(Default)]
 pub struct Frames {
+    origin: Origin,
     plain: Plain,
     wire: Vec<u8>,
     placed: Vec<u8>,
@@ -30,7 +32,10 @@ pub struct Frames {
 
 impl Comparison for Frames {
     fn kind(&self) -> &'static str {
-        "frames"
+        match self.origin {
+            Origin::Live => "live frames",
+            Origin::Trace => "frames of traces",
+        }
     }
 
     fn step(&mut self, random: &mut Xorshift, tally: &mut Tally) -> Result<(), String> {
@@ -50,15 +55,47 @@ impl Comparison for Frames {
     }
 }
 
+/// The functions of an origin.
+struct Functions {
+    standard_length: Function,
+    write_standard: Function,
+    read: Function,
+}
+
 impl Frames {
+    pub fn new(origin: Origin) -> Frames {
+        Frames {
+            origin,
+            plain: Plain::default(),
+            wire: Vec::new(),
+            placed: Vec::new(),
+        }
+    }
+
+    fn functions(&self) -> Functions {
+        match self.origin {
+            Origin::Live => Functions {
+                standard_length: Function::StandardLength,
+                write_standard: Function::WriteStandard,
+                read: Function::Read,
+            },
+            Origin::Trace => Functions {
+                standard_length: Function::TraceStandardLength,
+                write_standard: Function::TraceWriteStandard,
+                read: Function::TraceRead,
+            },
+        }
+    }
+
     /// Answers the length that both sides tell.
     fn measure(&mut self, random: &mut Xorshift, tally: &mut Tally) -> Result<Answer, String> {
+        let (origin, functions) = (self.origin, self.functions());
         let contents = place(&mut self.placed, &self.plain.contents, random);
         let (function, ours, theirs) = match self.plain.addresses {
             None => (
-                Function::StandardLength,
-                ours::standard_length(contents),
-                theirs::standard_length(contents),
+                functions.standard_length,
+                ours::standard_length(origin, contents),
+                theirs::standard_length(origin, contents),
             ),
             Some((to, from)) => (
                 Function::ExtendedLength,
@@ -77,14 +114,15 @@ impl Frames {
         random: &mut Xorshift,
         tally: &mut Tally,
     ) -> Result<Answer, String> {
+        let (origin, functions) = (self.origin, self.functions());
         let contents = place(&mut self.placed, &self.plain.contents, random);
         let (function, made) = match self.plain.addresses {
             None => (
-                Function::WriteStandard,
+                functions.write_standard,
                 make(
                     room,
-                    |out| ours::write_standard(contents, out),
-                    |out| theirs::write_standard(contents, out),
+                    |out| ours::write_standard(origin, contents, out),
+                    |out| theirs::write_standard(origin, contents, out),
                 ),
             ),
             Some((to, from)) => (
@@ -127,15 +165,16 @@ impl Frames {
     }
 
     fn read(&mut self, random: &mut Xorshift, tally: &mut Tally) -> Result<(), String> {
+        let (origin, function) = (self.origin, self.functions().read);
         let wire = place(&mut self.placed, &self.wire, random);
         let room = any_room(random, self.plain.contents.len());
         let made = make(
             room,
-            |out| ours::read(wire, out),
-            |out| theirs::read(wire, out),
+            |out| ours::read(origin, wire, out),
+            |out| theirs::read(origin, wire, out),
         );
-        let answer = made.check(Function::Read, || format!("wire {}\n", literal(wire)))?;
-        tally.add(Function::Read, answer);
+        let answer = made.check(function, || format!("wire {}\n", literal(wire)))?;
+        tally.add(function, answer);
         Ok(())
     }
 

@@ -1,6 +1,7 @@
 //! Line readers: ours is fed chunks of any length, the independent one the same bytes singly.
 
 use csafe::line::HELD_LEN;
+use plain::frame::Origin;
 use plain::line::Line;
 
 use crate::answer::{Answer, Function, Outcome};
@@ -25,6 +26,7 @@ const SHORTER_BY: usize = 256;
 /// A reader on both sides, and what ours has to hold.
 #[derive(Clone)]
 struct Reader {
+    origin: Origin,
     lent: Output,
     state: u64,
     theirs: Line,
@@ -32,20 +34,21 @@ struct Reader {
 }
 
 impl Reader {
-    fn new() -> Reader {
+    fn new(origin: Origin) -> Reader {
         let lent = Output::new(HELD_LEN);
         let held = Held::new(held_bytes(&lent));
         Reader {
+            origin,
             lent,
             state: 0,
-            theirs: Line::new(),
+            theirs: Line::new(origin),
             held,
         }
     }
 
     fn feed(&mut self, chunk: &[u8]) -> (usize, Answer) {
         match self.lent.lent().try_into() {
-            Ok(bytes) => ours::feed(bytes, &mut self.state, chunk),
+            Ok(bytes) => ours::feed(self.origin, bytes, &mut self.state, chunk),
             Err(_) => unreachable!("the room is that of a reader"),
         }
     }
@@ -91,7 +94,10 @@ pub struct Lines {
 
 impl Comparison for Lines {
     fn kind(&self) -> &'static str {
-        "lines"
+        match self.reader.origin {
+            Origin::Live => "live lines",
+            Origin::Trace => "lines of traces",
+        }
     }
 
     fn step(&mut self, random: &mut Xorshift, tally: &mut Tally) -> Result<(), String> {
@@ -115,11 +121,11 @@ impl Comparison for Lines {
 }
 
 impl Lines {
-    pub fn new() -> Lines {
+    pub fn new(origin: Origin) -> Lines {
         Lines {
-            reader: Reader::new(),
+            reader: Reader::new(origin),
             before: ([0; HELD_LEN], 0),
-            kept: std::array::from_fn(|_| Reader::new()),
+            kept: std::array::from_fn(|_| Reader::new(origin)),
             stretches: Stretches::default(),
             line: Vec::new(),
         }
@@ -151,12 +157,16 @@ impl Lines {
         let chunk = &self.line[at..at + len];
         let (taken, ours) = self.reader.feed(chunk);
         let (their_taken, theirs) = self.reader.feed_singly(chunk);
+        let function = match self.reader.origin {
+            Origin::Live => Function::Feed,
+            Origin::Trace => Function::TraceFeed,
+        };
         if taken != their_taken || ours != theirs || !self.reader.is_as_held() {
             let input = format!("input {}\n", literal(chunk));
             let answers = [(taken, ours), (their_taken, theirs)];
-            return Err(self.difference(Function::Feed, &input, answers));
+            return Err(self.difference(function, &input, answers));
         }
-        tally.add(Function::Feed, ours);
+        tally.add(function, ours);
         Ok(taken)
     }
 

@@ -2,15 +2,18 @@
 //!
 //!     cargo run --release --example compare -- [CALLS] [SEED]
 //!
-//! Every exported function is called with well-formed, damaged and random inputs, and the listing program lists
-//! traces of many frames. Answers are compared and so are outputs, tables and readers, whole, with the bytes around
-//! them. The first difference ends the program with exit status 1 and the input that shows it. At the end stands a
-//! table of what each function answered, so that one sees that each refusal was met.
+//! Every exported function is called with well-formed, damaged and random inputs, those for a live line and those for
+//! traces with inputs of the same kinds. The listing program lists traces of many frames. Answers are compared and so
+//! are outputs, tables and readers, whole, with the bytes around them. The first difference ends the program with exit
+//! status 1 and the input that shows it. At the end stands a table of what each function answered, so that one sees
+//! that each refusal was met.
 //!
 //! The listing program is made with `rt check listing`, unless `CSAFE_LISTING` names a ready one.
 
 mod answer;
 mod both;
+#[path = "../../tests/common/by_origin.rs"]
+mod by_origin;
 #[path = "../../tests/common/mod.rs"]
 mod common;
 #[path = "../../tests/common/frame_damage.rs"]
@@ -41,6 +44,8 @@ use std::env;
 use std::process::ExitCode;
 
 use common::{Xorshift, SEED};
+use plain::frame::Origin;
+
 use frames::Frames;
 use leases::Leases;
 use lines::Lines;
@@ -129,13 +134,15 @@ fn run(calls: u64, seed: u64) -> Result<(), String> {
 }
 
 /// Each kind with the calls that are made in turn.
-type Shares = [(u64, Box<dyn Comparison>); 5];
+type Shares = [(u64, Box<dyn Comparison>); 7];
 
 fn comparisons(calls: u64) -> Shares {
     let share = (calls / 100).clamp(100, 20_000);
     [
-        (share, Box::new(Frames::default())),
-        (share, Box::new(Lines::new())),
+        (share, Box::new(Frames::new(Origin::Live))),
+        (share, Box::new(Frames::new(Origin::Trace))),
+        (share, Box::new(Lines::new(Origin::Live))),
+        (share, Box::new(Lines::new(Origin::Trace))),
         (share, Box::new(Workouts)),
         (share, Box::new(Leases::new())),
         (1, Box::new(Listings::new())),

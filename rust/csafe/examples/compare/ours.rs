@@ -4,31 +4,38 @@ use csafe::frame::{self, Kind};
 use csafe::line::{self, HELD_LEN};
 use csafe::workout::{Goal, Hundredths, Metres, Seconds};
 use csafe::{lease, Error, Frame, Workout};
+use plain::frame::Origin;
 
 use crate::answer::Answer;
+use crate::by_origin;
 
-pub fn write_standard(contents: &[u8], out: &mut [u8]) -> Answer {
-    written(frame::write_standard(contents, out))
+pub fn write_standard(origin: Origin, contents: &[u8], out: &mut [u8]) -> Answer {
+    written(by_origin::write_standard(origin, contents, out))
 }
 
 pub fn write_extended(to: u8, from: u8, contents: &[u8], out: &mut [u8]) -> Answer {
     written(frame::write_extended(to, from, contents, out))
 }
 
-pub fn standard_length(contents: &[u8]) -> Answer {
-    written(frame::standard_length(contents))
+pub fn standard_length(origin: Origin, contents: &[u8]) -> Answer {
+    written(by_origin::standard_length(origin, contents))
 }
 
 pub fn extended_length(to: u8, from: u8, contents: &[u8]) -> Answer {
     written(frame::extended_length(to, from, contents))
 }
 
-pub fn read(wire: &[u8], out: &mut [u8]) -> Answer {
-    told(frame::read(wire, out))
+pub fn read(origin: Origin, wire: &[u8], out: &mut [u8]) -> Answer {
+    told(by_origin::read(origin, wire, out))
 }
 
-pub fn feed(bytes: &mut [u8; HELD_LEN], state: &mut u64, input: &[u8]) -> (usize, Answer) {
-    let fed = line::feed(bytes, state, input);
+pub fn feed(
+    origin: Origin,
+    bytes: &mut [u8; HELD_LEN],
+    state: &mut u64,
+    input: &[u8],
+) -> (usize, Answer) {
+    let fed = by_origin::feed(origin, bytes, state, input);
     (fed.taken, fed.told.map_or_else(Answer::nothing, told))
 }
 
@@ -39,20 +46,26 @@ pub fn finish(state: &mut u64) -> Answer {
     }
 }
 
-pub fn write_distance(metres: u32, split: u32, watts: u16, out: &mut [u8]) -> Answer {
-    let goal = Goal::Distance {
+pub fn distance(metres: u32, split: u32) -> Goal {
+    Goal::Distance {
         distance: Metres(metres),
         split: Metres(split),
-    };
+    }
+}
+
+pub fn time(seconds: u32, split: u32) -> Goal {
+    Goal::Time {
+        time: Seconds(seconds),
+        split: Hundredths(split),
+    }
+}
+
+pub fn write_workout(goal: Goal, watts: u16, out: &mut [u8]) -> Answer {
     written(Workout { goal, watts }.write(out))
 }
 
-pub fn write_time(seconds: u32, split: u32, watts: u16, out: &mut [u8]) -> Answer {
-    let goal = Goal::Time {
-        time: Seconds(seconds),
-        split: Hundredths(split),
-    };
-    written(Workout { goal, watts }.write(out))
+pub fn write_workout_frame(address: u8, goal: Goal, watts: u16, out: &mut [u8]) -> Answer {
+    written(Workout { goal, watts }.write_frame(address, out))
 }
 
 pub fn hold(table: &mut [u8], address: u32, token: u64) -> Answer {

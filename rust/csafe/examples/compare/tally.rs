@@ -60,10 +60,10 @@ impl Tally {
     pub fn print(&self) {
         for (function, name, outcomes) in FUNCTIONS {
             let calls = self.counts[function as usize].calls;
-            println!("{name:<30} {:>15} calls", grouped(calls));
+            println!("{name:<34} {:>15} calls", grouped(calls));
             for outcome in outcomes {
                 let count = grouped(self.met(function, *outcome));
-                println!("    {:<26} {count:>15}", described(*outcome));
+                println!("    {:<30} {count:>15}", described(*outcome));
             }
         }
     }
@@ -152,7 +152,7 @@ mod tests {
     fn a_full_tally_has_no_gap() {
         assert_eq!(full().gaps(true), Vec::<String>::new());
         assert_eq!(full().strangers(), Vec::<String>::new());
-        assert_eq!(full().calls(), 13);
+        assert_eq!(full().calls(), 19);
     }
 
     #[test]

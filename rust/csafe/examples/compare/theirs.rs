@@ -1,30 +1,30 @@
 //! The same calls of the independent implementation.
 
-use plain::frame::{self, Read};
+use plain::frame::{self, Origin, Read};
 use plain::lease;
 use plain::line::{self, Line};
 use plain::workout::{self, Goal, Workout};
 
 use crate::answer::Answer;
 
-pub fn write_standard(contents: &[u8], out: &mut [u8]) -> Answer {
-    written(frame::write_standard(contents, out))
+pub fn write_standard(origin: Origin, contents: &[u8], out: &mut [u8]) -> Answer {
+    written(frame::write_standard(origin, contents, out))
 }
 
 pub fn write_extended(to: u8, from: u8, contents: &[u8], out: &mut [u8]) -> Answer {
     written(frame::write_extended(to, from, contents, out))
 }
 
-pub fn standard_length(contents: &[u8]) -> Answer {
-    written(frame::standard_length(contents))
+pub fn standard_length(origin: Origin, contents: &[u8]) -> Answer {
+    written(frame::standard_length(origin, contents))
 }
 
 pub fn extended_length(to: u8, from: u8, contents: &[u8]) -> Answer {
     written(frame::extended_length(to, from, contents))
 }
 
-pub fn read(wire: &[u8], out: &mut [u8]) -> Answer {
-    match frame::read(wire, out) {
+pub fn read(origin: Origin, wire: &[u8], out: &mut [u8]) -> Answer {
+    match frame::read(origin, wire, out) {
         Ok(read) => frame_answer(read),
         Err(number) => Answer::refused(number),
     }
@@ -39,14 +39,24 @@ pub fn finish(line: &mut Line) -> Answer {
     line_answer(line.finish())
 }
 
-pub fn write_distance(metres: u32, split: u32, watts: u16, out: &mut [u8]) -> Answer {
-    let goal = Goal::Distance { metres, split };
+pub fn distance(metres: u32, split: u32) -> Goal {
+    Goal::Distance { metres, split }
+}
+
+pub fn time(seconds: u32, split: u32) -> Goal {
+    Goal::Time { seconds, split }
+}
+
+pub fn write_workout(goal: Goal, watts: u16, out: &mut [u8]) -> Answer {
     written(workout::write(Workout { goal, watts }, out))
 }
 
-pub fn write_time(seconds: u32, split: u32, watts: u16, out: &mut [u8]) -> Answer {
-    let goal = Goal::Time { seconds, split };
-    written(workout::write(Workout { goal, watts }, out))
+pub fn write_workout_frame(address: u8, goal: Goal, watts: u16, out: &mut [u8]) -> Answer {
+    written(workout::write_frame(
+        address.into(),
+        Workout { goal, watts },
+        out,
+    ))
 }
 
 pub fn hold(table: &mut [u8], address: u32, token: u64) -> Answer {

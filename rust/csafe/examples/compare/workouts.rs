@@ -1,4 +1,7 @@
-//! Workouts at and around their limits, and any others.
+//! Workouts at and around their limits, and any others, as contents and in frames.
+
+use csafe::workout::Goal;
+use plain::workout::Goal as PlainGoal;
 
 use crate::answer::Function;
 use crate::both::make;
@@ -24,8 +27,11 @@ const TIMES: [u32; 9] = [0, 20, 60, 256, 600, 3_600, 36_000, 65_536, 42_949_672]
 
 const MOST_SPLITS: u32 = 30;
 
-/// Lengths of outputs about that of a workout's contents.
-const ROOMS: [usize; 6] = [0, 1, 22, 23, 24, 64];
+/// Lengths of outputs about that of a workout's contents, and about those of its frames.
+const ROOMS: [usize; 12] = [0, 1, 22, 23, 24, 27, 28, 29, 30, 31, 32, 64];
+
+/// Addresses about those that are taken, and some that are escaped.
+const ADDRESSES: [u8; 8] = [0x00, 0x01, 0x05, 0xF0, 0xF3, 0xFC, 0xFD, 0xFF];
 
 pub struct Workouts;
 
@@ -37,27 +43,62 @@ impl Comparison for Workouts {
     fn step(&mut self, random: &mut Xorshift, tally: &mut Tally) -> Result<(), String> {
         let metres = any_goal(random, &DISTANCES, 50_100);
         let split = any_split(random, metres, 100);
-        let (watts, room) = (random.number() as u16, any_room(random));
-        let made = make(
-            room,
-            |out| ours::write_distance(metres, split, watts, out),
-            |out| theirs::write_distance(metres, split, watts, out),
-        );
-        let function = Function::WriteDistanceWorkout;
-        let arguments = || format!("metres {metres:#X}\nsplit {split:#X}\nwatts {watts:#X}\n");
-        tally.add(function, made.check(function, arguments)?);
+        let distance = Written {
+            contents: Function::WriteDistanceWorkout,
+            frame: Function::WriteDistanceWorkoutFrame,
+            ours: ours::distance(metres, split),
+            theirs: theirs::distance(metres, split),
+        };
+        distance.write(random, tally)?;
 
         let seconds = any_goal(random, &TIMES, 36_100);
         let split = any_split(random, seconds.wrapping_mul(100), 2_000);
+        let time = Written {
+            contents: Function::WriteTimeWorkout,
+            frame: Function::WriteTimeWorkoutFrame,
+            ours: ours::time(seconds, split),
+            theirs: theirs::time(seconds, split),
+        };
+        time.write(random, tally)
+    }
+}
+
+/// A goal on both sides, and the functions that write it.
+struct Written {
+    contents: Function,
+    frame: Function,
+    ours: Goal,
+    theirs: PlainGoal,
+}
+
+impl Written {
+    /// Writes it as contents and in a frame, with any power.
+    fn write(&self, random: &mut Xorshift, tally: &mut Tally) -> Result<(), String> {
+        let watts = random.number() as u16;
+        let arguments = || format!("{:X?}\nwatts {watts:#X}\n", self.theirs);
         let made = make(
-            room,
-            |out| ours::write_time(seconds, split, watts, out),
-            |out| theirs::write_time(seconds, split, watts, out),
+            any_room(random),
+            |out| ours::write_workout(self.ours, watts, out),
+            |out| theirs::write_workout(self.theirs, watts, out),
         );
-        let function = Function::WriteTimeWorkout;
-        let arguments = || format!("seconds {seconds:#X}\nsplit {split:#X}\nwatts {watts:#X}\n");
-        tally.add(function, made.check(function, arguments)?);
+        tally.add(self.contents, made.check(self.contents, arguments)?);
+
+        let address = any_address(random);
+        let made = make(
+            any_room(random),
+            |out| ours::write_workout_frame(address, self.ours, watts, out),
+            |out| theirs::write_workout_frame(address, self.theirs, watts, out),
+        );
+        let arguments = || format!("address {address:#X}\n{}", arguments());
+        tally.add(self.frame, made.check(self.frame, arguments)?);
         Ok(())
+    }
+}
+
+fn any_address(random: &mut Xorshift) -> u8 {
+    match random.below(2) {
+        0 => ADDRESSES[random.below(ADDRESSES.len())],
+        _ => random.below(256) as u8,
     }
 }
 

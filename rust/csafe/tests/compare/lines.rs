@@ -1,4 +1,5 @@
-//! Lines fed to both readers: to ours in chunks of any length, to the independent one byte by byte.
+//! Lines fed to both readers, of a live line and of a trace: to ours in chunks of any length, to the independent one
+//! byte by byte.
 
 mod chunks;
 
@@ -6,19 +7,31 @@ use std::fmt;
 
 use csafe::line::{self, HELD_LEN};
 use csafe::{Error, Frame, LineReader, OwnedFrame};
+use plain::frame::{Origin, Read};
 use plain::line::{Answer, Line};
 
+use crate::by_origin;
 use crate::common::Xorshift;
 use crate::frame_damage::{EXTENDED_START, STANDARD_START, STOP};
-use crate::frames::as_read;
+use crate::frames::{as_read, of_alphabet};
 use crate::held::{first_of, Held};
 use crate::output::{hex, told, Output};
 use crate::tally::Tally;
 use crate::traces::{Stretches, ALPHABET};
+use crate::ORIGINS;
 
-/// Both readers. Ours stands three times: on lent bytes between two margins, as the type that owns its bytes, and as
-/// that type behind its iterator. The independent one stands twice: fed byte by byte, and by the chunk.
+/// Our reader for an origin.
+fn our_reader(origin: Origin) -> LineReader {
+    match origin {
+        Origin::Live => LineReader::new(),
+        Origin::Trace => LineReader::for_trace(),
+    }
+}
+
+/// Both readers for one origin. Ours stands three times: on lent bytes between two margins, as the type that owns its
+/// bytes, and as that type behind its iterator. The independent one stands twice: fed byte by byte, and by the chunk.
 struct Readers {
+    origin: Origin,
     lent: Output,
     state: u64,
     owned: LineReader,
@@ -84,16 +97,17 @@ impl fmt::Display for Done {
 }
 
 impl Readers {
-    fn new() -> Readers {
+    fn new(origin: Origin) -> Readers {
         let lent = Output::new(HELD_LEN);
         let bytes = lent.result(HELD_LEN).try_into();
         Readers {
+            origin,
             lent,
             state: 0,
-            owned: LineReader::new(),
-            iterated: LineReader::new(),
-            theirs: Line::new(),
-            theirs_by_chunk: Line::new(),
+            owned: our_reader(origin),
+            iterated: our_reader(origin),
+            theirs: Line::new(origin),
+            theirs_by_chunk: Line::new(origin),
             held: Held::new(bytes.expect("the room is that of a reader")),
             tally: Tally::default(),
         }
@@ -104,7 +118,13 @@ impl Readers {
         let mut at = 0;
         while at < line.len() {
             let len = chunk(line.len() - at);
-            let input = || format!("{len} bytes from {at} of the line {}", hex(line));
+            let origin = self.origin;
+            let input = || {
+                format!(
+                    "{origin:?}, {len} bytes from {at} of the line {}",
+                    hex(line)
+                )
+            };
             at += self.feed_chunk(&line[at..at + len], &input).taken;
         }
     }
@@ -121,18 +141,31 @@ impl Readers {
         let by_chunk = Done::by_theirs(taken, answer, &self.theirs_by_chunk);
         by_chunk.check_same(&done, "the independent reader, by the chunk,", input);
         self.check_held(input);
+        self.count(&done, input);
+        done
+    }
+
+    /// Counts an answer, which is no standard frame on a live line.
+    fn count(&mut self, done: &Done, input: &dyn Fn() -> String) {
         match done.answer {
             Answer::Nothing => {}
-            Answer::Frame(_) => self.tally.add(&Ok(())),
+            Answer::Frame(read) => {
+                let standard = matches!(read, Read::Standard { .. });
+                assert!(
+                    self.origin == Origin::Trace || !standard,
+                    "a standard frame is told: {}",
+                    told(input)
+                );
+                self.tally.add(&Ok(()));
+            }
             Answer::Refused(number) => self.tally.add::<()>(&Err(number)),
         }
-        done
     }
 
     fn feed_lent(&mut self, chunk: &[u8]) -> Done {
         let bytes = self.lent.lent().try_into();
         let bytes = bytes.expect("the room is that of a reader");
-        let fed = line::feed(bytes, &mut self.state, chunk);
+        let fed = by_origin::feed(self.origin, bytes, &mut self.state, chunk);
         Done::by_ours(fed.taken, fed.told)
     }
 
@@ -174,6 +207,11 @@ impl Readers {
         self.check_held(input);
     }
 
+    /// The answers have to have occurred this often, and 17 on a live line alone.
+    fn has_each(&self, numbers: &[usize], least: usize) {
+        self.tally.has_each_of(self.origin, numbers, least);
+    }
+
     fn check_held(&self, input: &dyn Fn() -> String) {
         assert!(
             self.lent.result(HELD_LEN) == self.held.bytes(),
@@ -209,43 +247,50 @@ fn any_chunk(random: &mut Xorshift, left: usize) -> usize {
     }
 }
 
+/// Readers of each origin.
+fn readers() -> [Readers; 2] {
+    ORIGINS.map(Readers::new)
+}
+
+/// Feeds a line to new readers of each origin, in chunks whose lengths `chunk` chooses, and finishes it.
+fn feed_and_finish(line: &[u8], mut chunk: impl FnMut(usize) -> usize) {
+    for mut readers in readers() {
+        readers.feed(line, &mut chunk);
+        readers.finish(&|| format!("finishing after the line {}", hex(line)));
+    }
+}
+
 #[test]
 fn every_short_line_is_read_alike() {
     let mut random = Xorshift::new();
     for len in 0..=6 {
         for number in 0..ALPHABET.len().pow(len) {
-            let mut rest = number;
-            let mut line = Vec::new();
-            for _ in 0..len {
-                line.push(ALPHABET[rest % ALPHABET.len()]);
-                rest /= ALPHABET.len();
-            }
-            let mut readers = Readers::new();
-            readers.feed(&line, |left| any_chunk(&mut random, left));
-            readers.finish(&|| format!("finishing after the line {}", hex(&line)));
+            let line = of_alphabet(number, len);
+            feed_and_finish(&line, |left| any_chunk(&mut random, left));
         }
     }
 }
 
 #[test]
 fn random_and_damaged_lines_are_read_alike() {
-    let mut random = Xorshift::new();
-    let mut readers = Readers::new();
-    let mut stretches = Stretches::default();
-    for number in 0..300_000 {
-        let mut line = Vec::new();
-        for _ in 0..=random.below(4) {
-            line.extend(stretches.any(&mut random));
+    for mut readers in readers() {
+        let mut random = Xorshift::new();
+        let mut stretches = Stretches::default();
+        for number in 0..300_000 {
+            let mut line = Vec::new();
+            for _ in 0..=random.below(4) {
+                line.extend(stretches.any(&mut random));
+            }
+            if random.below(4) == 0 {
+                line.truncate(random.below(line.len() + 1));
+            }
+            readers.feed(&line, |left| any_chunk(&mut random, left));
+            if random.below(3) == 0 {
+                readers.finish(&|| format!("finishing after line {number}, {}", hex(&line)));
+            }
         }
-        if random.below(4) == 0 {
-            line.truncate(random.below(line.len() + 1));
-        }
-        readers.feed(&line, |left| any_chunk(&mut random, left));
-        if random.below(3) == 0 {
-            readers.finish(&|| format!("finishing after line {number}, {}", hex(&line)));
-        }
+        readers.has_each(&[0, 2, 3, 4, 5, 6], 1_000);
     }
-    readers.tally.has_each(&[0, 2, 3, 4, 5, 6], 1_000);
 }
 
 #[test]
@@ -257,9 +302,7 @@ fn candidates_about_the_limit_are_read_alike() {
                 line[0] = start;
                 line[len + 1] = end;
                 for step in 1..=len + 2 {
-                    let mut readers = Readers::new();
-                    readers.feed(&line, |left| step.min(left));
-                    readers.finish(&|| format!("finishing after the line {}", hex(&line)));
+                    feed_and_finish(&line, |left| step.min(left));
                 }
             }
         }
@@ -275,13 +318,37 @@ fn long_chunks_are_read_alike() {
         line.extend(stretches.any(&mut random));
     }
     for limit in [65_535, 65_536, 65_537, line.len()] {
-        Readers::new().feed(&line, |left| limit.min(left));
+        feed_and_finish(&line, |left| limit.min(left));
     }
     let stray = vec![0x41; 1 << 20];
-    let mut readers = Readers::new();
-    readers.feed(&stray, |left| left);
-    readers.feed(&[STANDARD_START], |left| left);
-    readers.feed(&stray, |left| left);
-    readers.feed(&[STOP], |left| left);
-    readers.tally.has_each(&[2], 1);
+    for mut readers in readers() {
+        for part in [&stray[..], &[STANDARD_START], &stray, &[STOP]] {
+            readers.feed(part, |left| left);
+        }
+        readers.tally.has_each(&[2], 1);
+    }
+}
+
+/// Finishes with and without an open candidate between sound standard frames, which are answered alike each time.
+#[test]
+fn a_reader_keeps_its_origin() {
+    const STANDARD: [u8; 4] = [STANDARD_START, 0x41, 0x41, STOP];
+    for mut readers in readers() {
+        for before in [&[][..], &[0x55], &[STANDARD_START, 0x41], &[EXTENDED_START]] {
+            readers.feed(before, |left| left);
+            readers.finish(&|| format!("finishing after {}", hex(before)));
+            readers.feed(&STANDARD, |left| left);
+        }
+        match readers.origin {
+            Origin::Live => readers.tally.has_each(&[17], 4),
+            Origin::Trace => readers.tally.has_each(&[0], 4),
+        }
+    }
+}
+
+#[test]
+fn a_reader_by_default_is_live() {
+    let mut reader = LineReader::default();
+    let fed = reader.feed(&[STANDARD_START, 0x41, 0x41, STOP]);
+    assert_eq!(fed.told, Some(Err(Error::Unnamed)));
 }

@@ -4,6 +4,8 @@
 //! pattern past the result, around the lent slice, and, after a refusal, everywhere. The inputs come from one
 //! generator with a fixed seed, which every failure names together with the bytes.
 
+#[path = "../common/by_origin.rs"]
+mod by_origin;
 #[path = "../common/mod.rs"]
 mod common;
 #[path = "../common/frame_damage.rs"]
@@ -28,3 +30,8 @@ mod tally;
 #[path = "../common/traces.rs"]
 mod traces;
 mod workouts;
+
+use plain::frame::Origin;
+
+/// Where bytes may come from. Every comparison of frames, lengths and lines is made for both.
+const ORIGINS: [Origin; 2] = [Origin::Live, Origin::Trace];

@@ -1,5 +1,7 @@
 //! How often each answer occurred.
 
+use plain::frame::Origin;
+
 /// Counts answers by their number, 0 for a result.
 #[derive(Default)]
 pub struct Tally([usize; 19]);
@@ -18,6 +20,15 @@ impl Tally {
                 count >= least,
                 "answer {number} occurred only {count} times"
             );
+        }
+    }
+
+    /// The same of calls of one origin: 17 has to occur as often on a live line, and not at all in a trace.
+    pub fn has_each_of(&self, origin: Origin, numbers: &[usize], least: usize) {
+        self.has_each(numbers, least);
+        match origin {
+            Origin::Live => self.has_each(&[17], least),
+            Origin::Trace => assert_eq!(self.0[17], 0, "a trace was refused with 17"),
         }
     }
 }

@@ -1,12 +1,14 @@
-//! Workouts written on both sides, and read back by the independent one.
+//! Workouts written on both sides, as contents and in a frame, and read back: contents by the independent side, frames
+//! by our live calls.
 
-use csafe::frame::Kind;
+use csafe::frame::{self, Frame, Kind};
 use csafe::workout::{Goal, Hundredths, Metres, Seconds, Workout, LEN};
-use csafe::Error;
+use csafe::{Error, LineReader};
 use plain::workout as plain_rust;
 
 use crate::common::Xorshift;
 use crate::output::{same, told, Output};
+use crate::tally::Tally;
 
 const WATTS: [u16; 9] = [0, 1, 0xFF, 0x100, 0x101, 0x7FFF, 0x8000, 0xFFFE, 0xFFFF];
 
@@ -211,41 +213,101 @@ fn the_papers_thirty_splits() {
     assert_eq!(write_on_both(distance(50_000, 1_666, 200), 23), Err(12));
 }
 
-/// A workout in a frame is the frame of its contents, and the room counts after the limits.
-#[test]
-fn workouts_are_framed_as_their_contents_are() {
-    let kinds = [
-        Kind::Standard,
-        Kind::Extended {
-            to: 0xF1,
-            from: 0xF3,
-        },
-    ];
-    for kind in kinds {
-        for workout in [distance(2_000, 500, 0xF2F3), time(1_200, 24_000, 100)] {
-            let contents = workout.to_contents().expect("within the limits");
-            let (mut framed, mut expected) = (Output::new(64), Output::new(64));
-            let written = match kind {
-                Kind::Standard => plain::frame::write_standard(&contents, expected.lent()),
-                Kind::Extended { to, from } => {
-                    plain::frame::write_extended(to, from, &contents, expected.lent())
-                }
-            };
-            let len = written.expect("the frame is short enough");
-            let ours = workout.write_frame(kind, framed.lent());
-            let input = || format!("framing {workout:?} as {kind:?}");
-            same(
-                (&ours.map_err(Error::number), &framed),
-                (&Ok(len), &expected),
-                |len| *len,
-                &input,
-            );
-            let mut short = Output::new(len - 1);
-            let refused = workout.write_frame(kind, short.lent());
-            assert_eq!(refused, Err(Error::NoRoom));
-            assert!(short.kept_past(0));
-        }
-        let refused = distance(99, 99, 0).write_frame(kind, &mut []);
-        assert_eq!(refused, Err(Error::OutOfLimits));
+/// Lengths of outputs up to one that has room for every frame with a workout.
+const FRAME_ROOMS: std::ops::RangeInclusive<usize> = 0..=60;
+
+/// Within the limits, with bytes among them that are escaped, and outside of each limit.
+fn workouts() -> [Workout; 10] {
+    [
+        distance(2_000, 500, 200),
+        distance(50_000, 1_667, 0xF2F3),
+        distance(2_001, 0xF1, 0xF0F1),
+        time(1_200, 24_000, 100),
+        time(35_999, 119_997, 0xF3F0),
+        distance(99, 99, 200),
+        distance(50_000, 1_666, 200),
+        distance(u32::MAX, u32::MAX, 0xFFFF),
+        time(1_200, 3_999, 100),
+        time(36_000, 120_000, 100),
+    ]
+}
+
+/// Writes a workout in a frame on both sides and answers what both said.
+fn framed_on_both(address: u8, workout: Workout, room: usize) -> Result<usize, u8> {
+    let (mut our_output, mut their_output) = (Output::new(room), Output::new(room));
+    let ours = workout.write_frame(address, our_output.lent());
+    let ours = ours.map_err(Error::number);
+    let their_answer =
+        plain_rust::write_frame(address.into(), theirs(workout), their_output.lent());
+    same(
+        (&ours, &our_output),
+        (&their_answer, &their_output),
+        |len| *len,
+        &|| format!("framing {workout:?} to {address:02X} with room {room}"),
+    );
+    if let Ok(len) = ours {
+        check_read_live(address, workout, our_output.result(len));
     }
+    ours
+}
+
+/// The frame is read on a live line, from a slice and by a reader, as an extended one from the host with the workout's
+/// contents.
+fn check_read_live(address: u8, workout: Workout, wire: &[u8]) {
+    let contents = &workout.to_contents().expect("it was written");
+    let kind = Kind::Extended {
+        to: address,
+        from: 0x00,
+    };
+    let expected = Frame { kind, contents };
+    let mut out = [0; LEN];
+    assert_eq!(frame::read(wire, &mut out), Ok(expected));
+    let mut reader = LineReader::new();
+    let fed = reader.feed(wire);
+    assert_eq!((fed.taken, fed.told), (wire.len(), Some(Ok(expected))));
+}
+
+#[test]
+fn workouts_are_framed_alike_for_every_address_and_room() {
+    let mut tally = Tally::default();
+    for address in 0..=u8::MAX {
+        for workout in workouts() {
+            for room in FRAME_ROOMS {
+                tally.add(&framed_on_both(address, workout, room));
+            }
+        }
+    }
+    tally.has_each(&[0, 1, 9, 12], 1_000);
+}
+
+/// The address is looked at first, then the limits, then the room.
+#[test]
+fn workouts_in_frames_are_refused_in_order() {
+    let (kept, beyond) = (distance(2_000, 500, 200), distance(99, 99, 200));
+    for address in [0x00, 0xFD, 0xFE, 0xFF] {
+        assert_eq!(framed_on_both(address, beyond, 0), Err(9));
+        assert_eq!(framed_on_both(address, kept, 0), Err(9));
+        assert_eq!(framed_on_both(address, kept, 60), Err(9));
+    }
+    for address in [0x01, 0xF1, 0xFC] {
+        assert_eq!(framed_on_both(address, beyond, 0), Err(12));
+        assert_eq!(framed_on_both(address, kept, 0), Err(1));
+    }
+    assert_eq!(framed_on_both(0x05, kept, 27), Err(1));
+    assert_eq!(framed_on_both(0x05, kept, 28), Ok(28));
+}
+
+#[test]
+fn random_workouts_are_framed_alike() {
+    let mut random = Xorshift::new();
+    let mut tally = Tally::default();
+    for _ in 0..200_000 {
+        let (address, watts) = (random.below(256) as u8, random.number() as u16);
+        let (goal, split) = (random.below(60_000) as u32, random.below(60_000) as u32);
+        let room = random.below(*FRAME_ROOMS.end() + 1);
+        for workout in [distance(goal, split, watts), time(goal, 60 * split, watts)] {
+            tally.add(&framed_on_both(address, workout, room));
+        }
+    }
+    tally.has_each(&[0, 1, 9, 12], 1_000);
 }

@@ -6,7 +6,7 @@ use crate::Texts;
 type Change = (&'static str, &'static str, &'static str);
 
 #[rustfmt::skip]
-const OF_SOURCE: [Change; 10] = [
+const OF_SOURCE: [Change; 12] = [
     ("to: u8, from: u8", "from: u8, to: u8", "csafe_write_extended"),
     ("csafe_extended_length(to: u8, from: u8", "csafe_extended_length(from: u8, to: u8", "csafe_extended_length"),
     ("csafe_standard_length(contents: &[u8]", "csafe_standard_length(contents: &mut [u8]", "csafe_standard_length"),
@@ -17,10 +17,12 @@ const OF_SOURCE: [Change; 10] = [
     ("token: u64", "token: i64", "i64"),
     ("#[no_mangle]", "", "extern"),
     ("csafe_finish(state: &mut u64) -> u64", "csafe_finish(state: &mut u64) -> u32", "u32"),
+    ("csafe_trace_read(wire: &[u8]", "csafe_trace_read(wire: &mut [u8]", "csafe_trace_read"),
+    ("address: u32", "address: u8", "csafe_write_distance_workout_frame"),
 ];
 
 #[rustfmt::skip]
-const OF_BLOCK: [Change; 11] = [
+const OF_BLOCK: [Change; 13] = [
     ("to: u8, from: u8", "from: u8, to: u8", "csafe_write_extended"),
     ("csafe_extended_length(to: u8, from: u8", "csafe_extended_length(from: u8, to: u8", "csafe_extended_length"),
     ("csafe_standard_length(contents: *const u8", "csafe_standard_length(contents: *mut u8", "csafe_standard_length"),
@@ -32,10 +34,12 @@ const OF_BLOCK: [Change; 11] = [
     ("taken: *mut u64", "taken: *mut u32", "u32"),
     ("address: u32, token: u64)", "address: u32)", "csafe_hold"),
     ("wire_len", "length", "csafe_read"),
+    ("csafe_trace_read(wire: *const u8", "csafe_trace_read(wire: *mut u8", "csafe_trace_read"),
+    ("address: u32", "address: u8", "csafe_write_distance_workout_frame"),
 ];
 
 #[rustfmt::skip]
-const OF_HEADER: [Change; 11] = [
+const OF_HEADER: [Change; 13] = [
     ("uint8_t to, uint8_t from", "uint8_t from, uint8_t to", "csafe_write_extended"),
     ("csafe_extended_length(uint8_t to, uint8_t from", "csafe_extended_length(uint8_t from, uint8_t to",
         "csafe_extended_length"),
@@ -48,6 +52,8 @@ const OF_HEADER: [Change; 11] = [
     ("#define CSAFE_LINE_LEN 118", "#define CSAFE_LINE_LEN 117", "csafe_feed"),
     ("split_metres", "split_hundredths", "csafe_write_distance_workout"),
     ("enum {", "union {", "union"),
+    ("csafe_trace_read(const uint8_t", "csafe_trace_read(uint8_t", "csafe_trace_read"),
+    ("uint32_t address", "uint8_t address", "csafe_write_distance_workout_frame"),
 ];
 
 /// Makes each change at the first place where it applies, and has it reported.

@@ -26,9 +26,12 @@ pub struct Function {
 }
 
 /// Parameters whose unit stands in their type in Rattle and in their name elsewhere.
-const WITH_UNIT: [(&str, &str, &str); 2] = [
+#[rustfmt::skip]
+const WITH_UNIT: [(&str, &str, &str); 4] = [
     ("csafe_write_distance_workout", "split", "split_metres"),
     ("csafe_write_time_workout", "split", "split_hundredths"),
+    ("csafe_write_distance_workout_frame", "split", "split_metres"),
+    ("csafe_write_time_workout_frame", "split", "split_hundredths"),
 ];
 
 /// Answers the first difference between what is expected and what is found.

@@ -5,7 +5,7 @@ use std::io::{self, Read as _};
 use std::process::ExitCode;
 
 use plain::command::{self, Cursor, Found};
-use plain::frame::{self, Read};
+use plain::frame::{self, Origin, Read};
 use plain::line::{Answer, Line};
 use plain::reply::{self, Status};
 use plain::workout::{self, Goal, Workout};
@@ -41,17 +41,24 @@ fn run(line: &str) -> Option<String> {
     let (name, rest) = line.split_once(' ')?;
     let (operation, arguments) = rest.split_once(' ').unwrap_or((rest, ""));
     let answer = match operation {
-        "frame" => frame_answer(&bytes(arguments)?),
+        "frame" => frame_answer(Origin::Trace, &bytes(arguments)?),
+        "live-frame" => frame_answer(Origin::Live, &bytes(arguments)?),
         "contents" => contents_answer(&bytes(arguments)?),
-        "standard" => standard_answer(&bytes(arguments)?),
+        "standard" => standard_answer(Origin::Trace, &bytes(arguments)?),
+        "live-standard" => standard_answer(Origin::Live, &bytes(arguments)?),
         "extended" => extended_answer(&bytes(arguments)?)?,
-        "standard-length" => length_answer(frame::standard_length(&bytes(arguments)?)),
+        "standard-length" => standard_length_answer(Origin::Trace, &bytes(arguments)?),
+        "live-length" => standard_length_answer(Origin::Live, &bytes(arguments)?),
         "extended-length" => extended_length_answer(&bytes(arguments)?)?,
-        "distance" => workout_answer(arguments, |metres, split| Goal::Distance { metres, split })?,
-        "time" => workout_answer(arguments, |seconds, split| Goal::Time { seconds, split })?,
+        "distance" => workout_answer(workout_of(arguments, distance)?),
+        "time" => workout_answer(workout_of(arguments, time)?),
+        "distance-frame" => workout_frame_answer(arguments, distance)?,
+        "time-frame" => workout_frame_answer(arguments, time)?,
         "lease" => lease_answer(arguments)?,
-        "line" => line_answer(arguments)?,
-        "chunks" => chunks_answer(arguments)?,
+        "line" => line_answer(Origin::Trace, arguments)?,
+        "live-line" => line_answer(Origin::Live, arguments)?,
+        "chunks" => chunks_answer(Origin::Trace, arguments)?,
+        "live-chunks" => chunks_answer(Origin::Live, arguments)?,
         "command" => command_answer(&bytes(arguments)?)?,
         "inside" => inside_answer(&bytes(arguments)?)?,
         "item" => item_answer(&bytes(arguments)?)?,
@@ -90,15 +97,15 @@ fn refused(code: u8) -> String {
     format!("refused:{code}")
 }
 
-fn frame_answer(wire: &[u8]) -> String {
+fn frame_answer(origin: Origin, wire: &[u8]) -> String {
     let mut out = [0; ROOM];
-    let read = match frame::read(wire, &mut out) {
+    let read = match frame::read(origin, wire, &mut out) {
         Ok(read) => read,
         Err(code) => return refusal_of(code),
     };
     let contents = &out[..len_of(read)];
     let again = value(written(|out| match read {
-        Read::Standard { .. } => frame::write_standard(contents, out),
+        Read::Standard { .. } => frame::write_standard(origin, contents, out),
         Read::Extended { to, from, .. } => frame::write_extended(to, from, contents, out),
     }));
     let told = told_frame(read, contents);
@@ -336,8 +343,8 @@ fn workout_in(contents: &[u8]) -> Result<String, u8> {
     Ok(format!("{goal},watts:{},written:{again}", workout.watts))
 }
 
-fn standard_answer(contents: &[u8]) -> String {
-    writing_answer(written(|out| frame::write_standard(contents, out)))
+fn standard_answer(origin: Origin, contents: &[u8]) -> String {
+    writing_answer(written(|out| frame::write_standard(origin, contents, out)))
 }
 
 fn extended_answer(arguments: &[u8]) -> Option<String> {
@@ -350,6 +357,10 @@ fn extended_answer(arguments: &[u8]) -> Option<String> {
 
 fn writing_answer(wire: Result<Vec<u8>, u8>) -> String {
     format!(" written={}", value(wire))
+}
+
+fn standard_length_answer(origin: Origin, contents: &[u8]) -> String {
+    length_answer(frame::standard_length(origin, contents))
 }
 
 fn extended_length_answer(arguments: &[u8]) -> Option<String> {
@@ -365,16 +376,41 @@ fn length_answer(length: Result<usize, u8>) -> String {
     format!(" length={told}")
 }
 
-fn workout_answer(arguments: &str, goal: impl Fn(u32, u32) -> Goal) -> Option<String> {
+fn distance(metres: u32, split: u32) -> Goal {
+    Goal::Distance { metres, split }
+}
+
+fn time(seconds: u32, split: u32) -> Goal {
+    Goal::Time { seconds, split }
+}
+
+/// The workout of three words: its goal's number, the split and the power.
+fn workout_of(arguments: &str, goal: impl Fn(u32, u32) -> Goal) -> Option<Workout> {
     let mut words = arguments.split(' ');
     let goal = goal(words.next()?.parse().ok()?, words.next()?.parse().ok()?);
     let watts = words.next()?.parse().ok()?;
-    let contents = match written(|out| workout::write(Workout { goal, watts }, out)) {
+    Some(Workout { goal, watts })
+}
+
+fn workout_answer(workout: Workout) -> String {
+    let contents = match written(|out| workout::write(workout, out)) {
         Ok(contents) => contents,
-        Err(code) => return Some(format!(" contents={}", refused(code))),
+        Err(code) => return format!(" contents={}", refused(code)),
     };
-    let wire = value(written(|out| frame::write_standard(&contents, out)));
-    Some(format!(" contents={} written={wire}", hex(&contents)))
+    let wire = value(written(|out| {
+        frame::write_standard(Origin::Trace, &contents, out)
+    }));
+    format!(" contents={} written={wire}", hex(&contents))
+}
+
+/// The workout of the words after the first, in a frame to the address that the
+/// first is.
+fn workout_frame_answer(arguments: &str, goal: impl Fn(u32, u32) -> Goal) -> Option<String> {
+    let (address, numbers) = arguments.split_once(' ')?;
+    let address = address.parse().ok()?;
+    let workout = workout_of(numbers, goal)?;
+    let wire = written(|out| workout::write_frame(address, workout, out));
+    Some(writing_answer(wire))
 }
 
 fn lease_answer(arguments: &str) -> Option<String> {
@@ -401,8 +437,8 @@ fn lease_call(table: &mut [u8], call: &str) -> Option<String> {
 
 /// The answers of a reader that gets single bytes and of one that gets a group's
 /// bytes at once; both are finished after each group.
-fn line_answer(arguments: &str) -> Option<String> {
-    let (mut single, mut chunked) = (Line::new(), Line::new());
+fn line_answer(origin: Origin, arguments: &str) -> Option<String> {
+    let (mut single, mut chunked) = (Line::new(origin), Line::new(origin));
     let group = |group| {
         let bytes = bytes(group)?;
         let step = step_all(&mut single, &bytes);
@@ -461,8 +497,8 @@ fn told(answer: Answer, contents: &[u8]) -> String {
 
 /// The answers of a reader that gets chunks, which is finished after each group of
 /// them.
-fn chunks_answer(arguments: &str) -> Option<String> {
-    let mut line = Line::new();
+fn chunks_answer(origin: Origin, arguments: &str) -> Option<String> {
+    let mut line = Line::new(origin);
     let group = |group: &str| {
         let chunk = |chunk| Some(chunk_answers(&mut line, &bytes(chunk)?));
         let calls: String = group.split(',').map(chunk).collect::<Option<_>>()?;

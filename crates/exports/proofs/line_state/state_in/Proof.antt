@@ -9,7 +9,9 @@ mode-in-requires : tie.Need-mode-in-requires
 mode-in-requires c κs = search needs
 
 returns : tie.Need-returns
-returns c = ap (λ (m : Mode). record { len = c .before .args .number / 4; mode = m }) (c .mode-in .ensures)
+returns c =
+    let a = c .before .args in
+    ap (λ (m : Mode). record { len = a .number / 4; mode = m; origin = a .origin }) (c .mode-in .ensures)
 
 pub state-in-spec : {M : Type 1} → statement M
 state-in-spec = tie.close (tie.spec mode-in-requires returns)

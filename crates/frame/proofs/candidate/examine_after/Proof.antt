@@ -1,11 +1,13 @@
 use mathlib.Core.Path.{_≡_, ap, _∙_}
 use mathlib.Core.Bool.{false}
+use Prim.Native.Nat.{_-_}
 use lib.ListN.{drop}
 use Rattle.frame.specs.Stuffing.{unstuff}
-use Rattle.frame.specs.Private.{scanFrom, headed}
+use Rattle.frame.specs.Private.{scanFrom, headed, headerKind}
 use Rattle.frame.specs.declared.candidate.Scan.the-variants.{Good}
+use Rattle.frame.specs.declared.candidate.Examined.the-variants.{Sound}
 use Rattle.frame.proofs.VerdictLaws.{rest-short, rest-sum, rest-sound, headed-count, headed-scan, scan-clean}
-use Rattle.frame.proofs.VerdictLaws.{whole-judged}
+use Rattle.frame.proofs.VerdictLaws.{whole-judged, whole-examined}
 use Rattle.frame.proofs.candidate.examine_after.Statement.{statement}
 use Rattle.frame.proofs.candidate.examine_after.Tie as tie
 
@@ -45,11 +47,11 @@ returns-3 : tie.Need-returns-3
 returns-3 c =
     let e = c .before in
     let w = e .before .before .before .before in
-    let s = St w in (
-      scan-clean _ _ _ (s .pre .1 .0) .0,
-      rest-sound (s .args .header) _ (s .args .next) (s .pre .0) (s .pre .1 .1 .2) _ _ (after w)
-          (e .before .before .if1 .left) (e .if2 .left) (s .pre .1 .1 .0),
-    )
+    let s = St w in
+    whole-examined (headerKind (s .args .header)) (s .args .body .now) (scan-clean _ _ _ (s .pre .1 .0) .0)
+    (Sound (s .args .header) (s .args .next) (w .without-header .result .len - 1))
+    (rest-sound (s .args .header) _ (s .args .next) (s .pre .0) (s .pre .1 .1 .2) _ _ (after w)
+    (e .before .before .if1 .left) (e .if2 .left) (s .pre .1 .1 .0))
 
 pub examine-after-spec : {M : Type 1} → statement M
 examine-after-spec = tie.close (tie.spec without-header-requires returns returns-2 returns-3)

@@ -36,13 +36,13 @@ examine-summed-requires-2 c κs =
 returns-2 : tie.Need-returns-2
 returns-2 c =
     let s = c .before .before .before .before in
-    subst (λ (k : Kind). Examines k (s .args .body .now) (c .examine-summed .result))
+    subst (λ (k : Kind). Examines (judge k (s .args .body .now)) (s .args .body .now) (c .examine-summed .result))
     (sym (c .before .enum-told .given .1)) (c .examine-summed .ensures)
 
 returns-3 : tie.Need-returns-3
 returns-3 c =
     let s = c .before .before .before .before .before .before .before in
-    subst (λ (k : Kind). Examines k (s .args .body .now) (c .examine-summed2 .result))
+    subst (λ (k : Kind). Examines (judge k (s .args .body .now)) (s .args .body .now) (c .examine-summed2 .result))
     (sym (c .before .before .before .before .enum-told2 .given .1)) (c .examine-summed2 .ensures)
 
 pub examine-plain-spec : {M : Type 1} → statement M

@@ -25,8 +25,8 @@ returns c =
     let i = k .before .before in
     let p = i .before .before .before in
     let a : length (p .args .bytes .now) ≡ capacity = search needs in
-    ap (λ (n : ℕ). reader (k .copy-short .last .1 .0) n (p .args .mode)) (c .held-with .ensures)
-    ∙ kept-all (p .args .mode) (p .pre .0) (p .args .run .now) (p .args .bytes .now) _ (p .args .len) a
+    ap (λ (n : ℕ). reader (p .args .origin) (k .copy-short .last .1 .0) n (p .args .mode)) (c .held-with .ensures)
+    ∙ kept-all (p .args .origin) (p .args .mode) (p .pre .0) (p .args .run .now) (p .args .bytes .now) _ (p .args .len) a
     (i .before .if1 .taken) (i .if2 .taken) (k .copy-short .ensures)
 
 slice-aggregate-copy-short : tie.Need-slice-aggregate-copy-short
@@ -40,13 +40,13 @@ returns-2 c =
     let i = c .before .before .before in
     let p = i .before .before .before in
     let a : length (p .args .bytes .now) ≡ capacity = search needs in
-    kept-first (p .args .mode) (p .pre .0) (p .args .run .now) (p .args .bytes .now) _ (p .args .len) a
+    kept-first (p .args .origin) (p .args .mode) (p .pre .0) (p .args .run .now) (p .args .bytes .now) _ (p .args .len) a
     (i .before .if1 .taken) (i .if2 .left) (c .copy-short2 .ensures)
 
 returns-3 : tie.Need-returns-3
 returns-3 c =
     let p = c .before .before in
-    full-run (p .args .mode) (p .pre .0) (p .args .run .now) (p .args .bytes .now) (p .args .len) (c .if1 .left)
+    full-run (p .args .origin) (p .args .mode) (p .pre .0) (p .args .run .now) (p .args .bytes .now) (p .args .len) (c .if1 .left)
     (p .pre .1)
 
 pub hold-spec : {M : Type 1} → statement M

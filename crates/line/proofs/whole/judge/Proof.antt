@@ -45,17 +45,17 @@ returns c =
 returns-2 : tie.Need-returns-2
 returns-2 c =
     let a = c .before .before .before .before .args in
-    judges-none (a .bytes .now) (a .input .now) (a .mode) InStandard _ (c .before .enum-told2 .given .1) refl (c .none .ensures)
+    judges-none (a .origin) (a .bytes .now) (a .input .now) (a .mode) InStandard _ (c .before .enum-told2 .given .1) refl (c .none .ensures)
 
 returns-3 : tie.Need-returns-3
 returns-3 c =
     let a = c .before .before .before .before .args in
-    judges-none (a .bytes .now) (a .input .now) (a .mode) InExtended _ (c .before .enum-told3 .given .1) refl (c .none2 .ensures)
+    judges-none (a .origin) (a .bytes .now) (a .input .now) (a .mode) InExtended _ (c .before .enum-told3 .given .1) refl (c .none2 .ensures)
 
 returns-4 : tie.Need-returns-4
 returns-4 c =
     let a = c .before .before .before .before .args in
-    judges-none (a .bytes .now) (a .input .now) (a .mode) Overlong _ (c .before .enum-told4 .given .1) refl (c .none3 .ensures)
+    judges-none (a .origin) (a .bytes .now) (a .input .now) (a .mode) Overlong _ (c .before .enum-told4 .given .1) refl (c .none3 .ensures)
 
 pub judge-spec : {M : Type 1} → statement M
 judge-spec =

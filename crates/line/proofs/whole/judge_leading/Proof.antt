@@ -24,7 +24,7 @@ returns c =
     let s = r .before .before .before .args .input .now in
     record {
       counted = e ∙ sym z ∙ whole-short s _ (r .read-leading .ensures .0) (omega (arith, z));
-      unmoved = λ h. none-left s _ _ _ z (r .read-leading .ensures .1 .1);
+      unmoved = λ h. none-left (r .before .before .before .args .origin) s _ _ _ z (r .read-leading .ensures .1 .1);
       whole = λ h. absurd (omega (arith, h, e));
     }
 
@@ -39,7 +39,7 @@ returns-2 c =
     let s = r .before .before .before .args .input .now in
     record {
       counted = e ∙ whole-long s _ (r .read-leading .ensures .0) long;
-      unmoved = λ h. long-left s _ _ _ (r .read-leading .ensures .0) long (r .read-leading .ensures .1 .1);
+      unmoved = λ h. long-left (r .before .before .before .args .origin) s _ _ _ (r .read-leading .ensures .0) long (r .read-leading .ensures .1 .1);
       whole = λ h. absurd (omega (arith, h, e));
     }
 
@@ -58,7 +58,7 @@ inside c =
     let r = c .before .before .before in
     let p = r .before .before .before in
     let a : length (p .args .bytes .now) ≡ capacity = search needs in
-    wire-inside (p .args .input .now) (p .args .bytes .now) a (r .read-leading .result .taken)
+    wire-inside (p .args .origin) (p .args .input .now) (p .args .bytes .now) a (r .read-leading .result .taken)
     (r .read-leading .ensures .0) (found (c .before)) (c .before .if2 .left) (readMeans (r .read-leading .result .read))
     (r .read-leading .ensures .1 .0) (c .contents-len .result) (c .contents-len .ensures)
 
@@ -91,6 +91,7 @@ returns-3 c =
     let p = r .before .before .before in
     let a : length (p .args .bytes .now) ≡ capacity = search needs in
     let s = p .args .input .now in
+    let o = p .args .origin in
     let bytes = p .args .bytes .now in
     let taken = r .read-leading .result .taken in
     let means = readMeans (r .read-leading .result .read) in
@@ -101,10 +102,10 @@ returns-3 c =
       unmoved = λ z. absurd (omega (arith, z, found t));
       whole = λ h. record {
         array = a;
-        told-is = c .told-of .ensures ∙ ap tells (wire-judged s bytes a taken count h short means
+        told-is = c .told-of .ensures ∙ ap tells (wire-judged o s bytes a taken count h short means
             (r .read-leading .ensures .1 .0) (n .contents-len .result) (n .contents-len .ensures));
-        left-is = wire-left s bytes a taken count h short means (r .read-leading .ensures .1 .0)
-            (n .contents-len .result) (n .contents-len .ensures) (r .read-leading .last .1 .0) _
+        left-is = wire-left o s bytes a taken count h short means (r .read-leading .ensures .1 .0)
+            (n .contents-len .result) (n .contents-len .ensures) (r .read-leading .last .1 .1 .0) _
             (r .read-leading .ensures .1 .1) (c .before .copy-short .ensures);
       };
     }

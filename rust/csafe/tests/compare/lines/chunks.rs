@@ -1,16 +1,16 @@
 //! Chunks about the most bytes that a call takes, and every cutting of short streams.
 
 use csafe::line::{self, HELD_LEN};
-use csafe::LineReader;
-use plain::frame::Read;
+use plain::frame::{Origin, Read};
 use plain::line::{self as plain_rust, Answer, Line};
 
-use super::{borrowed, Done, Readers};
+use super::{borrowed, our_reader, readers, Done, Readers};
 use crate::common::Xorshift;
 use crate::frame_damage::{ESCAPE, EXTENDED_START, STANDARD_START, STOP};
 use crate::held::CHUNK_LIMIT as LIMIT;
 use crate::output::hex;
 use crate::traces::{Stretches, ALPHABET};
+use crate::ORIGINS;
 
 /// Lengths of chunks.
 const LENGTHS: [usize; 6] = [0, 1, 65_535, 65_536, 65_537, 131_073];
@@ -18,13 +18,15 @@ const LENGTHS: [usize; 6] = [0, 1, 65_535, 65_536, 65_537, 131_073];
 /// A byte that is no flag and begins no escape.
 const STRAY: u8 = 0x41;
 
-/// A frame whose contents are 41.
-const FRAME: [u8; 4] = [STANDARD_START, 0x41, 0x41, STOP];
+/// Frames whose contents are 41.
+const FRAME: [u8; 6] = [EXTENDED_START, 0x05, 0x00, 0x41, 0x41, STOP];
+const STANDARD_FRAME: [u8; 4] = [STANDARD_START, 0x41, 0x41, STOP];
 
 /// Parts of a line with an answer or two: frames with escapes, each refusal of a short candidate, and single flags.
 #[rustfmt::skip]
-const PARTS: [&[u8]; 11] = [
+const PARTS: [&[u8]; 12] = [
     &FRAME,
+    &STANDARD_FRAME,
     &[STANDARD_START, 0x41, ESCAPE, 0x02, 0xB3, STOP],
     &[EXTENDED_START, ESCAPE, 0x01, 0x05, ESCAPE, 0x03, ESCAPE, 0x03, STOP],
     &[STANDARD_START, ESCAPE, 0x04, STOP],
@@ -60,7 +62,7 @@ fn candidate(start: u8, len: usize) -> Vec<u8> {
 /// Beginnings of a line, which leave a reader in each of its modes: outside, in a candidate of either kind that has no
 /// byte, some, an escape's first or as many as it may have, and in one that is too long.
 fn beginnings() -> Vec<Vec<u8>> {
-    let mut all = vec![vec![], FRAME.to_vec()];
+    let mut all = vec![vec![], FRAME.to_vec(), STANDARD_FRAME.to_vec()];
     for start in [EXTENDED_START, STANDARD_START] {
         all.push(vec![start, 0x00, ESCAPE]);
         for len in [0, 5, HELD_LEN, HELD_LEN + 1] {
@@ -90,10 +92,13 @@ fn places(part: &[u8]) -> impl Iterator<Item = usize> {
     (0..=len).filter(move |before| *before < 10 || len - before < 5)
 }
 
-fn readers_after(beginning: &[u8]) -> Readers {
-    let mut readers = Readers::new();
-    readers.feed(beginning, |left| left);
-    readers
+/// Readers of each origin that were fed a beginning.
+fn readers_after(beginning: &[u8]) -> [Readers; 2] {
+    let mut all = readers();
+    for readers in &mut all {
+        readers.feed(beginning, |left| left);
+    }
+    all
 }
 
 fn nothing(taken: usize) -> Done {
@@ -104,12 +109,33 @@ fn nothing(taken: usize) -> Done {
     }
 }
 
-/// The answer of [`FRAME`].
-fn frame(taken: usize) -> Done {
-    Done {
-        taken,
-        answer: Answer::Frame(Read::Standard { len: 1 }),
-        contents: vec![0x41],
+/// What ends at the last byte taken: nothing, or one of the two frames.
+#[derive(Clone, Copy)]
+enum Ends {
+    Nothing,
+    Frame,
+    StandardFrame,
+}
+
+impl Ends {
+    /// What a call does that takes so many bytes. A standard frame is refused on a live line.
+    fn done(self, origin: Origin, taken: usize) -> Done {
+        let (to, from, len) = (0x05, 0x00, 1);
+        let answer = match (self, origin) {
+            (Ends::Nothing, _) => return nothing(taken),
+            (Ends::Frame, _) => Answer::Frame(Read::Extended { to, from, len }),
+            (Ends::StandardFrame, Origin::Trace) => Answer::Frame(Read::Standard { len }),
+            (Ends::StandardFrame, Origin::Live) => Answer::Refused(17),
+        };
+        let contents = match answer {
+            Answer::Frame(_) => vec![0x41],
+            _ => Vec::new(),
+        };
+        Done {
+            taken,
+            answer,
+            contents,
+        }
     }
 }
 
@@ -123,41 +149,60 @@ fn bytes_without_an_answer_are_all_taken_up_to_the_limit() {
     for beginning in beginnings() {
         for len in LENGTHS {
             let input = || format!("{len} bytes 41 after {}", hex(&beginning));
-            let mut readers = readers_after(&beginning);
             let chunk = vec![STRAY; len];
-            let done = readers.feed_chunk(&chunk, &input);
-            assert_eq!(done, nothing(len.min(LIMIT)), "{}", input());
-            readers.feed(&chunk[done.taken..], |left| left);
-            readers.feed(&FRAME, |left| left);
-            readers.finish(&input);
+            for mut readers in readers_after(&beginning) {
+                let done = readers.feed_chunk(&chunk, &input);
+                assert_eq!(done, nothing(len.min(LIMIT)), "{}", input());
+                readers.feed(&chunk[done.taken..], |left| left);
+                readers.feed(&FRAME, |left| left);
+                readers.finish(&input);
+            }
+        }
+    }
+}
+
+/// The place of a stop flag, how many bytes the first and the second call take, and which of the calls tells the frame.
+const STOPS: [(usize, [usize; 2], Option<usize>); 6] = [
+    (LIMIT - 2, [LIMIT - 1, LIMIT], Some(0)),
+    (LIMIT - 1, [LIMIT, LIMIT], Some(0)),
+    (LIMIT, [LIMIT, 1], Some(1)),
+    (LIMIT + 1, [LIMIT, 2], Some(1)),
+    (2 * LIMIT - 1, [LIMIT, LIMIT], Some(1)),
+    (2 * LIMIT, [LIMIT, LIMIT], None),
+];
+
+#[test]
+fn the_last_byte_within_the_limit_is_answered_and_the_next_is_not_taken() {
+    let frames = [
+        (&FRAME[..], Ends::Frame),
+        (&STANDARD_FRAME, Ends::StandardFrame),
+    ];
+    for (frame, ends) in frames {
+        for (stop, taken, telling) in STOPS {
+            let mut chunk = vec![STRAY; 2 * LIMIT + 1];
+            chunk[stop + 1 - frame.len()..=stop].copy_from_slice(frame);
+            for mut readers in readers() {
+                let origin = readers.origin;
+                let input = || format!("{origin:?}, {} that ends at {stop}", hex(frame));
+                let mut rest = &chunk[..];
+                for (call, taken) in taken.into_iter().enumerate() {
+                    let ends = if telling == Some(call) {
+                        ends
+                    } else {
+                        Ends::Nothing
+                    };
+                    let done = readers.feed_chunk(rest, &input);
+                    assert_eq!(done, ends.done(origin, taken), "{}", input());
+                    rest = &rest[taken..];
+                }
+            }
         }
     }
 }
 
 #[test]
-fn the_last_byte_within_the_limit_is_answered_and_the_next_is_not_taken() {
-    let cases = [
-        (LIMIT - 2, frame(LIMIT - 1), nothing(LIMIT)),
-        (LIMIT - 1, frame(LIMIT), nothing(LIMIT)),
-        (LIMIT, nothing(LIMIT), frame(1)),
-        (LIMIT + 1, nothing(LIMIT), frame(2)),
-        (2 * LIMIT - 1, nothing(LIMIT), frame(LIMIT)),
-        (2 * LIMIT, nothing(LIMIT), nothing(LIMIT)),
-    ];
-    for (stop, first, second) in cases {
-        let input = || format!("the stop flag at {stop}");
-        let mut chunk = vec![STRAY; 2 * LIMIT + 1];
-        chunk[stop - 3..=stop].copy_from_slice(&FRAME);
-        let mut readers = Readers::new();
-        assert_eq!(readers.feed_chunk(&chunk, &input), first, "{}", input());
-        let rest = &chunk[first.taken..];
-        assert_eq!(readers.feed_chunk(rest, &input), second, "{}", input());
-    }
-}
-
-#[test]
 fn parts_of_a_line_about_the_limit_are_read_alike() {
-    let mut readers = Readers::new();
+    let mut all = readers();
     for beginning in beginnings() {
         for part in parts() {
             for before in places(&part) {
@@ -165,14 +210,18 @@ fn parts_of_a_line_about_the_limit_are_read_alike() {
                     let mut line = vec![STRAY; end - before];
                     line.extend(&part);
                     line.extend(FRAME);
-                    readers.feed(&beginning, |left| left);
-                    readers.feed(&line, |left| left);
-                    readers.finish(&|| format!("finishing after the line {}", hex(&line)));
+                    for readers in &mut all {
+                        readers.feed(&beginning, |left| left);
+                        readers.feed(&line, |left| left);
+                        readers.finish(&|| format!("finishing after the line {}", hex(&line)));
+                    }
                 }
             }
         }
     }
-    readers.tally.has_each(&[0, 2, 3, 4, 5, 6], 100);
+    for readers in all {
+        readers.has_each(&[0, 2, 3, 4, 5, 6], 100);
+    }
 }
 
 /// A stream in pieces, and whether a finish follows each. A piece ends after each byte whose bit is set in either
@@ -191,8 +240,8 @@ fn pieces(stream: &[u8], cuts: u64, finishes: u64) -> Vec<(&[u8], bool)> {
 }
 
 /// All answers of our iterator and our finish.
-fn iterated(pieces: &[(&[u8], bool)]) -> Vec<Done> {
-    let mut reader = LineReader::new();
+fn iterated(origin: Origin, pieces: &[(&[u8], bool)]) -> Vec<Done> {
+    let mut reader = our_reader(origin);
     let mut all = Vec::new();
     for (piece, finished) in pieces {
         let told = reader.answers(piece);
@@ -205,8 +254,8 @@ fn iterated(pieces: &[(&[u8], bool)]) -> Vec<Done> {
 }
 
 /// The same of the independent reader, byte by byte.
-fn singly(pieces: &[(&[u8], bool)]) -> Vec<Done> {
-    let mut line = Line::new();
+fn singly(origin: Origin, pieces: &[(&[u8], bool)]) -> Vec<Done> {
+    let mut line = Line::new(origin);
     let mut all = Vec::new();
     for (piece, finished) in pieces {
         for byte in *piece {
@@ -240,15 +289,22 @@ fn every_cutting_of_a_short_stream_is_read_as_its_single_bytes() {
             // One bit in eight is set.
             let finishes = random.number() & random.number() & random.number();
             let pieces = pieces(&stream, cuts, finishes);
-            let input = || format!("pieces and finishes {pieces:02X?}");
-            assert_eq!(iterated(&pieces), singly(&pieces), "{}", input());
-            let mut readers = Readers::new();
-            for (piece, finished) in &pieces {
-                readers.feed(piece, |left| left);
-                if *finished {
-                    readers.finish(&input);
-                }
+            for origin in ORIGINS {
+                check_pieces(origin, &pieces);
             }
+        }
+    }
+}
+
+fn check_pieces(origin: Origin, pieces: &[(&[u8], bool)]) {
+    let input = || format!("{origin:?}, pieces and finishes {pieces:02X?}");
+    let (ours, expected) = (iterated(origin, pieces), singly(origin, pieces));
+    assert_eq!(ours, expected, "{}", input());
+    let mut readers = Readers::new(origin);
+    for (piece, finished) in pieces {
+        readers.feed(piece, |left| left);
+        if *finished {
+            readers.finish(&input);
         }
     }
 }
@@ -266,32 +322,38 @@ fn the_iterator_goes_through_chunks_of_any_length() {
         line.resize(line.len() + stray, STRAY);
     }
     line.extend(FRAME);
-    let expected = singly(&[(&line, true)]);
-    for len in [1, 65_535, 65_536, 65_537, 131_073, line.len()] {
-        let mut pieces: Vec<(&[u8], bool)> = line.chunks(len).map(|piece| (piece, false)).collect();
-        pieces.push((&[], true));
-        assert!(iterated(&pieces) == expected, "chunks of {len} bytes");
+    for origin in ORIGINS {
+        let expected = singly(origin, &[(&line, true)]);
+        for len in [1, 65_535, 65_536, 65_537, 131_073, line.len()] {
+            let chunks = line.chunks(len).map(|piece| (piece, false));
+            let pieces: Vec<(&[u8], bool)> = chunks.chain([(&[][..], true)]).collect();
+            let iterated = iterated(origin, &pieces);
+            assert!(iterated == expected, "{origin:?}, chunks of {len} bytes");
+        }
     }
 }
 
 #[test]
 fn an_iterator_has_fed_all_but_its_rest() {
     let mut chunk = vec![STRAY; 2 * LIMIT + 1];
-    chunk[LIMIT - 3..=LIMIT].copy_from_slice(&FRAME);
-    let mut reader = LineReader::new();
-    let mut answers = reader.answers(&chunk);
-    assert_eq!(
-        (answers.rest(), answers.size_hint().1),
-        (&chunk[..], Some(chunk.len()))
-    );
-    let told = answers.next().expect("the chunk has a frame");
-    assert_eq!(Done::by_ours(0, Some(borrowed(&told))), frame(0));
-    let rest = answers.rest();
-    assert_eq!(rest, &chunk[LIMIT + 1..]);
-    assert_eq!(reader.finish(), Ok(()));
-    let mut answers = reader.answers(rest);
-    for _ in 0..2 {
-        assert_eq!(answers.next(), None);
-        assert_eq!((answers.rest(), answers.size_hint().1), (&[][..], Some(0)));
+    chunk[LIMIT - 3..=LIMIT].copy_from_slice(&STANDARD_FRAME);
+    for origin in ORIGINS {
+        let mut reader = our_reader(origin);
+        let mut answers = reader.answers(&chunk);
+        assert_eq!(
+            (answers.rest(), answers.size_hint().1),
+            (&chunk[..], Some(chunk.len()))
+        );
+        let told = answers.next().expect("the chunk has a frame");
+        let done = Done::by_ours(0, Some(borrowed(&told)));
+        assert_eq!(done, Ends::StandardFrame.done(origin, 0));
+        let rest = answers.rest();
+        assert_eq!(rest, &chunk[LIMIT + 1..]);
+        assert_eq!(reader.finish(), Ok(()));
+        let mut answers = reader.answers(rest);
+        for _ in 0..2 {
+            assert_eq!(answers.next(), None);
+            assert_eq!((answers.rest(), answers.size_hint().1), (&[][..], Some(0)));
+        }
     }
 }

@@ -1,8 +1,8 @@
 use native.Mathlib.Omega.{arith}
 use borrow.Author.Needs.{needs}
 use Rattle.exports.proofs.LineAnswerLaws.{fed-len-fits, fed-within, fed-as}
-use Rattle.exports.proofs.csafe_feed.Statement.{statement}
-use Rattle.exports.proofs.csafe_feed.Tie as tie
+use Rattle.exports.proofs.feed.Statement.{statement}
+use Rattle.exports.proofs.feed.Tie as tie
 
 state-in-requires : tie.Need-state-in-requires
 state-in-requires c κs = search needs
@@ -13,24 +13,24 @@ feed-in-requires c κs = search needs
 pack-state-requires : tie.Need-pack-state-requires
 pack-state-requires c κs =
     let a = c .before .before .before .before .before .before .args in
-    fed-len-fits _ (a .input .now) _ _ _ (c .before .feed-in .ensures) (a .state .now)
+    fed-len-fits (a .origin) _ (a .input .now) _ _ _ (c .before .feed-in .ensures) (a .state .now)
     (omega (arith, c .before .before .before .before .row-known))
     (c .before .before .before .state-in .ensures)
 
 of-told-requires : tie.Need-of-told-requires
 of-told-requires c κs =
     let f = c .before .before in
-    fed-within _ (f .before .before .before .before .before .args .input .now) _ _ _ (f .feed-in .ensures)
+    fed-within (f .before .before .before .before .before .args .origin) _ (f .before .before .before .before .before .args .input .now) _ _ _ (f .feed-in .ensures)
 
 returns : tie.Need-returns
 returns c =
     let f = c .before .before .before in
     let a = f .before .before .before .before .before .args in
-    fed-as _ (a .input .now) _ _ _ (f .feed-in .ensures) _ (a .state .now) _
+    fed-as (a .origin) _ (a .input .now) _ _ _ (f .feed-in .ensures) _ (a .state .now) _
     (f .before .before .state-in .ensures)
     (c .before .pack-state .ensures) (c .of-told .ensures)
 
-pub csafe-feed-spec : {M : Type 1} → statement M
-csafe-feed-spec =
+pub feed-spec : {M : Type 1} → statement M
+feed-spec =
     tie.close
     (tie.spec state-in-requires feed-in-requires pack-state-requires of-told-requires returns)
