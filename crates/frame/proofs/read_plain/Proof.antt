@@ -61,9 +61,10 @@ enum-known-found-2 c = search needs
 
 returns : tie.Need-returns
 returns c =
-    let k = c .before in
+    let t : tie.Then1 = search needs in
+    let k = t .before in
     let s = sound k in
-    read-no-room s _ (St (E k) .args .out .now) (s .judged) (c .if1 .taken)
+    read-no-room s _ (St (E k) .args .out .now) (s .judged) (t .if1 .taken)
 
 add-copy-short : tie.Need-add-copy-short
 add-copy-short c = omega (arith, inside (c .before))
