@@ -38,6 +38,9 @@ extern "C" {
 /* The bytes of a workout's contents. */
 #define CSAFE_WORKOUT_LEN 23
 
+/* The most bytes of a workout's frame on the wire. */
+#define CSAFE_WORKOUT_FRAME_LIMIT 54
+
 /* The most bytes of a stop on the wire. */
 #define CSAFE_STOP_LIMIT 12
 
@@ -222,7 +225,8 @@ uint64_t csafe_write_time_workout(uint32_t seconds, uint32_t split_hundredths, u
 
 /*
  * Writes the extended frame from the host, 00, to this address whose contents are those that
- * csafe_write_distance_workout writes. It stands first in the output, and its length on the wire is answered.
+ * csafe_write_distance_workout writes. It stands first in the output, and its length on the wire is answered, which is
+ * at most CSAFE_WORKOUT_FRAME_LIMIT.
  * Refused, in this order: CSAFE_BAD_ADDRESS, CSAFE_OUT_OF_LIMITS, CSAFE_NO_ROOM.
  */
 uint64_t csafe_write_distance_workout_frame(uint32_t address, uint32_t metres, uint32_t split_metres, uint16_t watts,
@@ -230,7 +234,8 @@ uint64_t csafe_write_distance_workout_frame(uint32_t address, uint32_t metres, u
 
 /*
  * Writes the extended frame from the host, 00, to this address whose contents are those that
- * csafe_write_time_workout writes. It stands first in the output, and its length on the wire is answered.
+ * csafe_write_time_workout writes. It stands first in the output, and its length on the wire is answered, which is at
+ * most CSAFE_WORKOUT_FRAME_LIMIT.
  * Refused, in this order: CSAFE_BAD_ADDRESS, CSAFE_OUT_OF_LIMITS, CSAFE_NO_ROOM.
  */
 uint64_t csafe_write_time_workout_frame(uint32_t address, uint32_t seconds, uint32_t split_hundredths, uint16_t watts,

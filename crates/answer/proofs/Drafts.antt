@@ -1,4 +1,4 @@
--- The three answers of a writer, and a draft that is measured before it is written.
+-- The three answers of a writer, a table of them, and a draft that is measured before it is written.
 use Prim.Native.Nat.{ℕ, _≤_, _<_}
 use mathlib.Core.Path.{_≡_, refl, sym, ap, _∙_, subst}
 use mathlib.Core.List.{List}
@@ -10,6 +10,7 @@ use lib.Seq.{take-at}
 use borrow.Author.Tests.{lt-leb, le-leb, leb-true, leb-false}
 use Rattle.answer.specs.Draft.{Draft, draftAnswer, draftOut, Writes, Foretells}
 use Rattle.answer.specs.Answer.{Answer, result, refused, through}
+use Rattle.lists.specs.Choice.{Exactly}
 use Rattle.lists.specs.Splice.{splice}
 use Rattle.lists.proofs.Cases.{by-bool}
 
@@ -44,6 +45,20 @@ written-first (result w) out n e =
     let l : length w ≡ n = cc in (w, refl, l, simp y (take-at w (drop (length w) out) n l)))
     (λ y. let q : refused 1 ≡ result n = simp y at e in
     let z : _≡_ {A = ℕ} 0 1 = cc in absurd (omega arith))
+
+-- ---- a table of a writer
+
+-- A table whose lines are what a draft's writer does, with a line for every output, says exactly what it does.
+pub lines-exactly : (d : Draft) (out : List ℕ) (Line : Answer ℕ → List ℕ → Type 0)
+    → ((a : Answer ℕ) (last : List ℕ) → Line a last → Writes d out a last)
+    → ((a : Answer ℕ) × (last : List ℕ) × Line a last)
+    → (a : Answer ℕ) (last : List ℕ) → Exactly (Writes d out a last) (Line a last)
+lines-exactly d out Line line some a last = (
+  (λ p. let q = line (some .0) (some .1) (some .2) in
+      subst (λ (l : List ℕ). Line a l) (q .1 ∙ sym (p .1))
+      (subst (λ (x : Answer ℕ). Line x (some .1)) (q .0 ∙ sym (p .0)) (some .2))),
+  line a last,
+)
 
 -- ---- a draft that is measured before it is written
 

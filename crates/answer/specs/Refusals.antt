@@ -1,4 +1,5 @@
--- Document 01, "Refusal numbers", and 17 of document 02's No. 9: the number of each refusal. Every meaning of an answer goes through it.
+-- Document 01, "Refusal numbers", and 17 of document 02's No. 9: the number of each refusal. Every meaning of an answer
+-- goes through it.
 use Prim.Native.Nat.{ℕ}
 use Rattle.answer.specs.declared.Refusal.{Refusal}
 use Rattle.answer.specs.declared.Refusal.the-variants.{NoRoom, TooLong, BadEscape, TooShort, BadChecksum}

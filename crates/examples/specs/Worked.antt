@@ -1,4 +1,5 @@
--- Document 01, "Bench sheet": the lines marked P, one case for each, with what is expected as data.
+-- Document 01, "Bench sheet": the lines marked P, one case for each, with what is expected as data. They are of a
+-- trace.
 use Prim.Native.Nat.{ℕ}
 use mathlib.Core.Bool.{true}
 use mathlib.Core.Path.{_≡_}
@@ -7,7 +8,9 @@ use Rattle.lists.specs.Choice.{Every}
 use Rattle.answer.specs.Answer.{result, refused, Answer}
 use Rattle.frame.specs.Frame.{Frame, standard, extended}
 use Rattle.frame.specs.Verdict.{Verdict, verdict}
-use Rattle.frame.specs.Answers.{frameDraft}
+use Rattle.frame.specs.Origin.{admit}
+use Rattle.frame.specs.Answers.{sentDraft}
+use Rattle.frame.specs.declared.Origin.the-variants.{Trace}
 use Rattle.command.specs.Entries.{entry}
 use Rattle.reply.specs.Status.{ok, ready, previousNumber, stateNumber}
 use Rattle.reply.specs.Replies.{reply, replyIn, Reply}
@@ -22,11 +25,11 @@ pub data Case : Type 0 where
   replies : (contents : List ℕ) → Answer Reply → Case
   stops : (address : ℕ) → (wire : List ℕ) → Case
 
--- What a case says of the definitions that the contracts cite. The stop is one by token 1, which took the address on a
--- new table; its output has 120 bytes.
+-- What a case says of the definitions that the contracts cite. Frames are those of a trace. The stop is one by token 1,
+-- which took the address on a new table; its output has 120 bytes.
 abbrev pub Holds : Case → Type 0
-Holds (reads wire expected) = verdict wire ≡ expected
-Holds (writes frame wire) = frameDraft frame ≡ result wire
+Holds (reads wire expected) = admit Trace (verdict wire) ≡ expected
+Holds (writes frame wire) = sentDraft Trace frame ≡ result wire
 Holds (replies contents expected) = replyIn contents ≡ expected
 Holds (stops address wire) =
     answersOn newTable (hold address 1 ∷ stop address 1 120 ∷ []) ≡ result [] ∷ result wire ∷ []

@@ -1,6 +1,6 @@
 -- The lengths of all answers have room in 32 bits.
 use Prim.Native.Nat.{ℕ, _^_, _≤_, _<_}
-use mathlib.Core.Path.{_≡_, refl, ap}
+use mathlib.Core.Path.{_≡_, refl}
 use mathlib.Core.List.{List}
 use native.Mathlib.Omega.{arith}
 use lib.Dec.{leb, eqb}
@@ -16,13 +16,12 @@ use Rattle.frame.specs.Origin.{admit}
 use Rattle.frame.specs.Answers.{frameDraft, sentDraft, readAnswer}
 use Rattle.frame.specs.declared.Origin.{Origin}
 use Rattle.frame.specs.declared.Origin.the-variants.{Live, Trace}
-use Rattle.frame.proofs.ContentsLaws.{accepted-short}
-use Rattle.frame.proofs.OriginLaws.{admit-means}
+use Rattle.frame.proofs.ContentsLaws.{admitted-short}
 use Rattle.workout.specs.Limits.{Limits}
 use Rattle.workout.specs.Workout.{Programmed, withinLimits}
 use Rattle.workout.specs.Answers.{workoutDraft, workoutFrameDraft}
 use Rattle.workout.proofs.WriteLaws.{contents-length}
-use Rattle.workout.proofs.FrameLaws.{frame-is, frame-short as workout-wire-short}
+use Rattle.workout.proofs.FrameLaws.{frame-draft-short}
 use Rattle.lease.specs.Lease.{stop, owns, stopFrame, answerOf, lentAnswer, tableOf}
 use Rattle.lease.specs.Answers.{writtenLength}
 use Rattle.lease.proofs.LeaseLaws.{stop-short}
@@ -75,7 +74,7 @@ workout-frame-short limits to w room = draft-short (workoutFrameDraft limits to 
   where
     of-workout : (d : Draft) → workoutFrameDraft limits to w ≡ d → DraftShort d
     of-workout (refused n) e = tt
-    of-workout (result s) e = omega (arith, ap length (frame-is limits to w s e .1), workout-wire-short to w)
+    of-workout (result s) e = omega (arith, frame-draft-short limits to w s e)
 
 token-fits : (a t room held : ℕ) → WriteShort (writtenLength (answerOf held (stop a t room)))
 unfolding answerOf
@@ -102,4 +101,4 @@ read-short o w room = of-verdict (admit o (verdict w)) refl
 
     of-verdict : (v : Verdict) → admit o (verdict w) ≡ v → ReadShort (readAnswer v room)
     of-verdict (refused n) e = tt
-    of-verdict (result f) e = of-frame f (accepted-short w f (admit-means o (verdict w) f e .0))
+    of-verdict (result f) e = of-frame f (admitted-short o w f e)

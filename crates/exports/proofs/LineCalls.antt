@@ -15,8 +15,8 @@ use Rattle.framing.specs.Demand3.{feed, Demand3}
 use Rattle.framing.proofs.Restart.{demand3-of}
 use Rattle.frame.specs.declared.Origin.{Origin}
 use Rattle.frame.specs.declared.Origin.the-variants.{Live, Trace}
-use Rattle.line.specs.Outcome.{Outcome, Summary, outcomeOf, NamesSender}
-use Rattle.line.specs.Rowing.{rowing, outcomeFrom}
+use Rattle.line.specs.Outcome.{Outcome, Summary, outcomeOf, NamesSender, Not17}
+use Rattle.line.specs.Rowing.{rowing, outcomeFrom, UnnamedLive}
 use Rattle.line.specs.Reader.{outcomeAt, nextAfter, AsNew}
 use Rattle.line.specs.Feed.{cutChunk}
 use Rattle.line.specs.Chunks.{byByte, TakenToAnswer, TakesFirst, AsSingly}
@@ -25,7 +25,7 @@ use Rattle.line.proofs.Follows.{as-new-follows}
 use Rattle.line.proofs.FeedBounds.{feed-origin}
 use Rattle.line.proofs.ChunkLaws.{takes-to-answer, takes-first}
 use Rattle.line.proofs.ChunkCalls.{feed-whole}
-use Rattle.line.proofs.Origins.{live-run, reference-from}
+use Rattle.line.proofs.Origins.{live-run, trace-run, every-unnamed, reference-from}
 use Rattle.exports.specs.Told.{toldLine}
 use Rattle.exports.specs.LineState.{readerIn}
 use Rattle.exports.specs.LentLine.{LentLine, lentLine, newLine, readerOf}
@@ -153,3 +153,14 @@ pub exported-origins-alike : {calls : List Call} {outcomes traced : List Outcome
 exported-origins-alike {calls} {outcomes} {traced} k t =
     exported-demand-3 Live .same calls outcomes k ∙ reference-from Live calls
     ∙ ap (map (outcomeFrom Live)) (sym (exported-demand-3 Trace .same calls traced t))
+
+-- A live outcome is 17 exactly where that of the trace is a standard frame.
+pub exported-line-17-exactly : {calls : List Call} {outcomes traced : List Outcome}
+    → AnsweredBy (ExportedLine Live) (λ l. AsNew Live (readerOf Live l)) calls outcomes
+    → AnsweredBy (ExportedLine Trace) (λ l. AsNew Trace (readerOf Trace l)) calls traced
+    → (outcomes ≡ map (outcomeFrom Live) traced) × Every UnnamedLive traced
+exported-line-17-exactly {calls} {outcomes} {traced} k t = (
+  exported-origins-alike k t,
+  every-unnamed traced (subst (Every Not17) (sym (exported-singly (t .ran) .outcomes-are))
+      (trace-run (readerOf Trace (t .start)) refl calls)),
+)

@@ -13,7 +13,6 @@ use Rattle.framing.specs.Reference.{Reference}
 use Rattle.framing.specs.Demand3.{feed}
 use Rattle.frame.specs.Answers.{FrameOutline, extendedOutline}
 use Rattle.frame.specs.declared.Origin.{Origin}
-use Rattle.frame.specs.declared.Origin.the-variants.{Live}
 use Rattle.frame.proofs.OriginLaws.{extended-named}
 use Rattle.line.specs.Outcome.{Outcome, answersIn}
 use Rattle.line.specs.Rowing.{rowing}
@@ -122,17 +121,18 @@ exported-workout-frame-reads-back {o} {to} {w} {out} {last} {into} {left} {n} {a
     let q = frame-reads-back o to w last n into a left s (exported-reads r) room in
     (q .0, λ b l. call-reads l .answered ∙ ap (workoutAnswer pm3Limits) (q .1) ∙ s .back)
 
--- Fed to `csafe_feed` in any chunks, from any reader outside of a candidate, they are told as that frame alone, and its
--- contents are read as the workout.
-pub exported-workout-frame-told : {to : ℕ} {w : Programmed} {out last : List ℕ} {n : ℕ} {outcomes : List Outcome}
+-- Fed to `csafe_feed`, or to `csafe_trace_feed`, in any chunks, from any reader outside of a candidate, they are told as
+-- that frame alone, and its contents are read as the workout.
+pub exported-workout-frame-told : {o : Origin} {to : ℕ} {w : Programmed} {out last : List ℕ} {n : ℕ}
+    {outcomes : List Outcome}
     → ExportedWorkoutFrame to w out (result n) last
-    → AnsweredBy (ExportedLine Live) (λ l. AsNew Live (readerOf Live l)) (feed (take n last)) outcomes
+    → AnsweredBy (ExportedLine o) (λ l. AsNew o (readerOf o l)) (feed (take n last)) outcomes
     → (answersIn outcomes ≡ result (workoutFrame to w) ∷ [])
     × ((b : Answer Programmed) → CalledRead (workoutBytes w) b → b ≡ result w)
-exported-workout-frame-told {to} {w} {out} {last} {n} {outcomes} k l =
+exported-workout-frame-told {o} {to} {w} {out} {last} {n} {outcomes} k l =
     let s = frame-back to w out last n (exported-workout-frames k) in (
-      ap answersIn (exported-demand-3 Live .same (feed (take n last)) outcomes l
-          ∙ ap (λ (u : List ℕ). Reference (rowing Live) (feed u)) (s .wire))
-          ∙ reference-told-frame Live (workoutFrame to w) (extended-named Live) (s .short),
+      ap answersIn (exported-demand-3 o .same (feed (take n last)) outcomes l
+          ∙ ap (λ (u : List ℕ). Reference (rowing o) (feed u)) (s .wire))
+          ∙ reference-told-frame o (workoutFrame to w) (extended-named o) (s .short),
       λ b c. call-reads c .answered ∙ s .back,
     )

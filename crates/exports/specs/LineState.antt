@@ -1,4 +1,5 @@
--- The number that holds the state of a line reader, but for its origin, which each exported function has by its name.
+-- The number that holds the state of a line reader, but for its origin, which each exported function that feeds has by
+-- its name.
 use Prim.Native.Nat.{ℕ, _+_, _*_, _/_, _%_}
 use mathlib.Core.List.{List}
 use lib.Dec.{eqb}

@@ -31,7 +31,7 @@ ghost use Rattle.exports.specs.Packed.{Tells};
 ghost use Rattle.exports.specs.Answers.{writeFields, readFields, leaseFields};
 ghost use Rattle.exports.specs.LineAnswers.{fedTo, finished, FedAs, FinishedAs};
 
-// Refuses a standard frame with 17, so that a caller that still writes one is told why.
+// Refuses a standard frame with 17, so that a caller that writes one is told why.
 #[no_mangle]
 pub extern "C" fn csafe_write_standard(contents: &[u8], out: &mut [u8]) -> u64
     ensures { λ r. ⌜ Tells r
@@ -199,7 +199,7 @@ pub extern "C" fn csafe_write_time_workout(
     write_workout(Workout { goal, watts }, out)
 }
 
-// Writes the extended frame from 00 to an address that has a workout over a distance. Refusals 9, 12 and 1.
+// Writes a workout over a distance in an extended frame from 00 to an address. Refusals 9, 12 and 1.
 #[no_mangle]
 pub extern "C" fn csafe_write_distance_workout_frame(
     address: u32,
@@ -222,7 +222,7 @@ pub extern "C" fn csafe_write_distance_workout_frame(
     write_workout_frame(address, Workout { goal, watts }, out)
 }
 
-// Writes the extended frame from 00 to an address that has a workout over a time. Refusals 9, 12 and 1.
+// Writes a workout over a time in an extended frame from 00 to an address. Refusals 9, 12 and 1.
 #[no_mangle]
 pub extern "C" fn csafe_write_time_workout_frame(
     address: u32,

@@ -1,5 +1,6 @@
 -- Demands 1 and 2 of the functions themselves: calls of `write_standard`, `write_extended`, `write_extended_number`,
--- `standard_length`, `extended_length` and `read_frame`, known by nothing but what their contracts tell a caller.
+-- `standard_length`, `extended_length`, `read_frame` and `read_leading`, known by nothing but what their contracts tell
+-- a caller.
 use Prim.Native.Nat.{ℕ, _≤_}
 use mathlib.Core.Path.{_≡_, sym, ap, _∙_, subst}
 use mathlib.Core.List.{List, _++_}

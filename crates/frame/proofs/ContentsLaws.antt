@@ -243,3 +243,11 @@ accepted-shrinks w f e =
 -- So they are at most 117 bytes: flags and checksum are three of the 120 on the wire.
 pub accepted-short : (w : List ℕ) (f : Frame) → verdict w ≡ result f → length (contentsOf f) ≤ 117
 accepted-short w f e = let k = accepted-shrinks w f e in omega (arith, k .0, k .1)
+
+-- The same of a frame that is accepted at an origin.
+module _ (o : Origin) (w : List ℕ) (f : Frame) (e : admit o (verdict w) ≡ result f) where
+  pub admitted-shrinks : (length (contentsOf f) < length (bodyOf w)) × (length (bodyOf w) ≤ 118)
+  admitted-shrinks = accepted-shrinks w f (admit-means o (verdict w) f e .0)
+
+  pub admitted-short : length (contentsOf f) ≤ 117
+  admitted-short = accepted-short w f (admit-means o (verdict w) f e .0)

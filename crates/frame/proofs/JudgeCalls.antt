@@ -1,6 +1,6 @@
 -- What `judge_array` answers, known by nothing but what its contract tells a caller: the papers' table, of the candidate
 -- that the bytes and the two flags make.
-use mathlib.Core.Path.{_≡_, refl, sym, ap₂, _∙_}
+use mathlib.Core.Path.{_≡_, refl, sym, ap, ap₂, _∙_}
 use mathlib.Core.List.{List}
 use native.Mathlib.Omega.{arith}
 use Prim.Native.Nat.{ℕ}
@@ -10,15 +10,20 @@ use denote.Ref.{RefT}
 use Rattle.lists.specs.Choice.{Exactly}
 use Rattle.lists.proofs.Cases.{exactly}
 use Rattle.answer.specs.Answer.{Answer, result, refused}
-use Rattle.frame.specs.Flags.{candidateOf}
+use Rattle.frame.specs.Flags.{startFlag, candidateOf}
+use Rattle.frame.specs.Frame.{Frame, standard, frameKind}
 use Rattle.frame.specs.Verdict.{Verdict, verdict}
 use Rattle.frame.specs.Origin.{admit}
 use Rattle.frame.specs.Answers.{FrameOutline, readMeans, judgeAnswer, leftIn, frameRead}
-use Rattle.frame.specs.Conditions.{Judged}
+use Rattle.frame.specs.Conditions.{Judged, SoundFrame}
 use Rattle.frame.specs.declared.Origin.{Origin}
+use Rattle.frame.specs.declared.Origin.the-variants.{Live, Trace}
 use Rattle.frame.specs.declared.Kind.{Kind}
+use Rattle.frame.specs.declared.Kind.the-variants.{Standard, Extended}
 use Rattle.frame.specs.declared.Read.{Read}
+use Rattle.frame.proofs.OriginLaws.{admit-means}
 use Rattle.frame.proofs.Table.{verdict-by-table}
+use Rattle.frame.proofs.Unnamed.{unnamed-verdict, one-verdict}
 use Rattle.frame.proofs.ContentsLaws.{left-whole}
 use Rattle.frame.proofs.judge_array.Reads as judge-array-reads
 
@@ -45,3 +50,31 @@ module _ (κs : Lfts 1) (o : Origin) (kind : Kind) (ρ ρ′ : RefT (List ℕ)) 
   -- A refusal changes no byte.
   pub judged-untouched : (n : ℕ) → readMeans r ≡ refused n → ρ′ .now ≡ ρ .now
   judged-untouched n e = k .1 ∙ left-as judged (ρ .now) n (sym (k .0) ∙ e)
+
+  -- It is refused with 17 exactly on the live line, for bytes that are a sound standard frame in a trace.
+  pub judged-17-exactly : Exactly (readMeans r ≡ refused 17)
+      ((o ≡ Live) × ((c : List ℕ) × SoundFrame Trace (candidateOf kind (take len (ρ .now))) (standard c)))
+  unfolding judgeAnswer
+  judged-17-exactly = (
+    (λ e. unnamed-verdict o (candidateOf kind (take len (ρ .now))) .0 (of-answer judged (sym (k .0) ∙ e))),
+    (λ s. k .0 ∙ ap judgeAnswer (unnamed-verdict o (candidateOf kind (take len (ρ .now))) .1 s)),
+  )
+    where
+      of-answer : (v : Verdict) → judgeAnswer v ≡ refused 17 → v ≡ refused 17
+      of-answer (refused n) e = let q : n ≡ 17 = cc in ap refused q
+      of-answer (result f) e = let z : _≡_ {A = ℕ} 0 1 = cc in absurd (omega arith)
+
+  -- Live, it tells no standard frame.
+  pub judged-live-extended : o ≡ Live → (f : Frame) → frameRead (readMeans r) (ρ′ .now) ≡ result f
+      → frameKind f ≡ Extended
+  judged-live-extended l f e =
+      admit-means o (verdict (candidateOf kind (take len (ρ .now)))) f (sym judged-is ∙ e) .1 l
+
+  -- An extended candidate is answered and left as it is judged by itself, at either origin.
+  pub judged-alike : kind ≡ Extended
+      → (readMeans r ≡ judgeAnswer (verdict (candidateOf kind (take len (ρ .now)))))
+      × (ρ′ .now ≡ leftIn (verdict (candidateOf kind (take len (ρ .now)))) (ρ .now))
+  judged-alike e =
+      let same = one-verdict o (candidateOf kind (take len (ρ .now)))
+      (λ q. let z : startFlag Extended ≡ startFlag Standard = ap startFlag (sym e) ∙ q in omega arith) in
+      (k .0 ∙ ap judgeAnswer same, k .1 ∙ ap (λ (v : Verdict). leftIn v (ρ .now)) same)

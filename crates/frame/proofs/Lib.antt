@@ -11,8 +11,8 @@ pub mod OriginLaws
 pub mod VerdictLaws
 pub mod ContentsLaws
 pub mod Table
-pub mod JudgeCalls
 pub mod RoundTrip
 pub mod Unnamed
+pub mod JudgeCalls
 pub mod Calls
 pub mod LeadingLaws

@@ -2,6 +2,7 @@
 use Prim.Native.Nat.{ℕ}
 use mathlib.Core.Path.{_≡_, refl, sym, ap, _∙_}
 use mathlib.Core.Logic.{_⊎_, inl, inr}
+use mathlib.Core.Bool.{true, false, true≢false, false≢true}
 use mathlib.Core.List.{List}
 use native.Mathlib.Omega.{arith}
 use Rattle.lists.specs.Choice.{Exactly}
@@ -11,14 +12,13 @@ use Rattle.frame.specs.Verdict.{Verdict}
 use Rattle.frame.specs.Origin.{admit}
 use Rattle.frame.specs.Answers.{frameDraft, sentDraft}
 use Rattle.frame.specs.Conditions.{SenderNamed}
-use Rattle.frame.specs.Private.{Examines, foundAt}
+use Rattle.frame.specs.Private.{frameOf, headerKind, admits, SoundAt}
 use Rattle.frame.specs.declared.Origin.{Origin}
 use Rattle.frame.specs.declared.Origin.the-variants.{Live, Trace}
 use Rattle.frame.specs.declared.Kind.{Kind}
 use Rattle.frame.specs.declared.Kind.the-variants.{Standard, Extended}
+use Rattle.frame.specs.declared.Header.{Header}
 use Rattle.frame.specs.declared.Header.the-variants.{Plain, Addressed}
-use Rattle.frame.specs.declared.candidate.Examined.{Examined}
-use Rattle.frame.specs.declared.candidate.Examined.the-variants.{Unsound, Sound}
 
 -- ---- the sender
 
@@ -99,18 +99,31 @@ sent-unnamed Live (standard c) n = refl
 sent-unnamed Live (extended to from c) n = absurd (n (extended-named Live))
 sent-unnamed Trace f n = absurd (n (trace-named (frameKind f)))
 
--- ---- what was found of a body
+-- ---- a sound body
 
-pub found-at : (o : Origin) (v : Verdict) (body : List ℕ) (x : Examined) → Examines v body x
-    → Examines (admit o v) body (foundAt o x)
-found-at Live v body (Unsound why) e = ap (admit Live) e
-found-at Live v body (Sound Plain start len) s = ap (admit Live) (s .judged)
-found-at Live v body (Sound (Addressed to from) start len) s =
-    record {
-      contents = s .contents;
-      judged = ap (admit Live) (s .judged);
-      counted = s .counted;
-      follows = s .follows;
-      inside = s .inside;
-    }
-found-at Trace v body x e = e
+module _ (o : Origin) {v : Verdict} {body : List ℕ} {start len : ℕ} where
+  pub sound-admitted : (h : Header) → SoundAt v body h start len → admits o (headerKind h) ≡ true
+      → SoundAt (admit o v) body h start len
+  sound-admitted h s a = record {
+    contents = s .contents;
+    judged = ap (admit o) (s .judged) ∙ kept o h a;
+    counted = s .counted;
+    follows = s .follows;
+    inside = s .inside;
+  }
+    where
+      kept : (o : Origin) (h : Header) → admits o (headerKind h) ≡ true
+          → admit o (result (frameOf h (s .contents))) ≡ result (frameOf h (s .contents))
+      kept Live Plain a = absurd (false≢true a)
+      kept Live (Addressed to from) a = refl
+      kept Trace h a = refl
+
+  pub sound-unnamed : (h : Header) → SoundAt v body h start len → admits o (headerKind h) ≡ false
+      → admit o v ≡ refused 17
+  sound-unnamed h s a = ap (admit o) (s .judged) ∙ refuses o h a
+    where
+      refuses : (o : Origin) (h : Header) → admits o (headerKind h) ≡ false
+          → admit o (result (frameOf h (s .contents))) ≡ refused 17
+      refuses Live Plain a = refl
+      refuses Live (Addressed to from) a = absurd (true≢false a)
+      refuses Trace h a = absurd (true≢false a)

@@ -24,7 +24,7 @@ use Rattle.frame.proofs.OriginLaws.{admit-means, admit-result}
 use Rattle.frame.proofs.StuffingLaws.{unstuff-stuff, flagless-stuff, stuff-unstuff}
 use Rattle.frame.proofs.FlagLaws.{free-flagless}
 use Rattle.frame.proofs.VerdictLaws.{whole-length, whole-verdict, judge-bytes, judge-payload}
-use Rattle.frame.proofs.ContentsLaws.{accepted-short}
+use Rattle.frame.proofs.ContentsLaws.{admitted-short}
 use Rattle.frame.proofs.Table.{accepted-exactly, accepted-when, unstuffs-bytes, read-by-table, reads-exactly}
 use Rattle.frame.proofs.Table.{written-by-table, writes-exactly}
 
@@ -113,7 +113,7 @@ module _ (o : Origin) (w out : List ℕ) (a : Answer FrameOutline) (last : List 
   told-when room = (
     (λ t. told-sound o w out a last (t .0) (read-by-table o w out a last .0 p) (t .1) .slice),
     (λ s. let v = accepted-when o w .1 s in
-        let short = accepted-short w (v .0) (admit-means o (verdict w) (v .0) (v .1) .0) in
+        let short = admitted-short o w (v .0) (v .1) in
         (v .0, told-exactly (v .0) (omega (arith, short)) .1 (accepted-exactly o w (v .0) .0 (v .1)))),
   )
 

@@ -23,7 +23,7 @@ use Rattle.lists.specs.Choice.{pick, Exactly}
 use Rattle.lists.proofs.Cases.{by-bool, both-exactly}
 use Rattle.lists.proofs.Lists.{drop-two}
 use Rattle.answer.specs.Draft.{draftOut, Writes}
-use Rattle.answer.proofs.Drafts.{writes-refusal, writes-no-room, writes-done}
+use Rattle.answer.proofs.Drafts.{writes-refusal, writes-no-room, writes-done, lines-exactly}
 use Rattle.frame.specs.Flags.{kindOf}
 use Rattle.frame.specs.Stuffing.{Unstuffed, badEscape, bytes, prepend, unstuff}
 use Rattle.frame.specs.Checksum.{checksum}
@@ -386,13 +386,8 @@ module _ (o : Origin) (f : Frame) (out : List ℕ) where
   -- Every answer to writing a frame, with the output that is left, is given exactly when the table gives it.
   pub written-by-table : (a : Answer ℕ) (last : List ℕ)
       → Exactly (Writes (sentDraft o f) out a last) (WriteJudged o f out a last)
-  written-by-table a last = (
-    (λ p. let l = write-line (sender o (frameKind f)) in
-        let q = line-write (l .0) (l .1) (l .2) in
-        subst (λ (x : List ℕ). WriteJudged o f out a x) (q .1 ∙ sym (p .1))
-        (subst (λ (x : Answer ℕ). WriteJudged o f out x (l .1)) (q .0 ∙ sym (p .0)) (l .2))),
-    line-write a last,
-  )
+  written-by-table =
+      lines-exactly (sentDraft o f) out (WriteJudged o f out) line-write (write-line (sender o (frameKind f)))
 
   -- The answer of a call that writes and the output that it left are given ones exactly when the table gives those.
   pub writes-exactly : (a b : Answer ℕ) (last left : List ℕ) → Writes (sentDraft o f) out a last

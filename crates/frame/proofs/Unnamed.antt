@@ -29,8 +29,8 @@ use Rattle.frame.proofs.RoundTrip.{writes-back}
 
 -- ---- reading
 
--- a slice by itself is never refused with 17
-not-17 : (w : List ℕ) → verdict w ≡ refused 17 → ⊥
+-- A slice by itself is never refused with 17.
+pub not-17 : (w : List ℕ) → verdict w ≡ refused 17 → ⊥
 not-17 w e = of-line (refused 17) (verdict-by-table Trace w (refused 17) .0 e) refl
   where
     of-line : (v : Verdict) → Judged Trace w v → v ≡ refused 17 → ⊥

@@ -1,6 +1,6 @@
--- The conditions on a sound frame at an origin, each by itself, and document 01's tables of reading, writing and
--- measuring over them, with 17 of document 02's No. 9. None uses the functions `verdict` and `admit` or the steps by
--- which the verdict is computed; the checksum and the flags are those of frames.
+-- The conditions on a sound frame at an origin, each by itself, and the papers' tables of reading, writing and measuring
+-- over them. None uses the functions `verdict` and `admit` or the steps by which the verdict is computed; the checksum
+-- and the flags are those of frames.
 use Prim.Native.Nat.{ℕ, _+_, _≤_, _<_}
 use mathlib.Core.Path.{_≡_}
 use mathlib.Core.List.{List, [], _∷_, _++_}

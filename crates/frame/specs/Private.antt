@@ -9,7 +9,6 @@ use lib.ListN.{length, getD, take, drop}
 use Rattle.lists.specs.Choice.{pick, within, noneOf, countOf, countBefore}
 use Rattle.lists.specs.Splice.{splice}
 use Rattle.answer.specs.Refusals.{numberOf}
-use Rattle.answer.specs.declared.Refusal.the-variants.{Unnamed}
 use Rattle.frame.specs.Stuffing.{isStuffed, stuffByte, unstuff, Unstuffed, badEscape, bytes, prepend}
 use Rattle.frame.specs.Flags.{flagless, startFlag, stopFlag, isStart, isFlag}
 use Rattle.frame.specs.Leading.{isStopAt}
@@ -183,12 +182,11 @@ abbrev pub Examines : (v : Verdict) → List ℕ → Examined → Type 0
 Examines v body (Unsound why) = v ≡ refused (numberOf why)
 Examines v body (Sound header start len) = SoundAt v body header start len
 
--- The same at an origin: live, 17 in place of a frame without addresses.
-abbrev pub foundAt : Origin → Examined → Examined
-foundAt Live (Unsound why) = Unsound why
-foundAt Live (Sound Plain start len) = Unsound Unnamed
-foundAt Live (Sound (Addressed to from) start len) = Sound (Addressed to from) start len
-foundAt Trace x = x
+-- Whether a frame of a kind may come from an origin.
+abbrev pub admits : Origin → Kind → Bool
+admits Live Standard = false
+admits Live Extended = true
+admits Trace kind = true
 
 -- The verdict where flags may stand in the body: with one it is no whole candidate.
 abbrev pub judgeWhole : Kind → List ℕ → Verdict

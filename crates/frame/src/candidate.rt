@@ -18,7 +18,7 @@ ghost use Rattle.frame.specs.Checksum.{checksum};
 ghost use Rattle.frame.specs.Verdict.{addressCount};
 ghost use Rattle.frame.specs.Private.{isBounded, nextAt, scanOf, isSound, goodPair, lowerByte, isEscape, lifts};
 ghost use Rattle.frame.specs.Private.{unstuffedBytes, lastAt, headerKind, AddressesIn, EndsPlain};
-ghost use Rattle.frame.specs.Private.{Tallied, WithoutHeader, ExaminesWhole, foundAt};
+ghost use Rattle.frame.specs.Private.{Tallied, WithoutHeader, ExaminesWhole, admits};
 
 // The most bytes that may stand between the flags.
 pub(crate) const BODY_LIMIT: usize = 118;
@@ -339,36 +339,22 @@ fn without_header(header: Header, len: usize, sum: u8) -> Rest
     }
 }
 
-// What was found, at an origin. 17 comes after every refusal of the bytes, and before any of them is moved.
-pub(crate) fn admit(origin: Origin, found: Examined) -> Examined
-    ensures { λ r. ⌜ r ≡ foundAt origin found ⌝ }
+// Whether a frame with this header may come from an origin: live, it has to name its sender.
+pub(crate) fn is_admitted(origin: Origin, header: Header) -> bool
+    ensures { λ r. ⌜ r ≡ admits origin (headerKind header) ⌝ }
 {
     match origin {
-        Origin::Live => named(found),
-        Origin::Trace => found,
+        Origin::Live => names_sender(header),
+        Origin::Trace => true,
     }
 }
 
-// What was found on the live line, where a frame has to name its sender.
-fn named(found: Examined) -> Examined
-    ensures { λ r. ⌜ r ≡ foundAt Origin.Live found ⌝ }
-{
-    match found {
-        Examined::Unsound(why) => Examined::Unsound(why),
-        Examined::Sound { header, start, len } => addressed(header, start, len),
-    }
-}
-
-fn addressed(header: Header, start: usize, len: usize) -> Examined
-    ensures { λ r. ⌜ r ≡ foundAt Origin.Live (Examined.Sound header start len) ⌝ }
+fn names_sender(header: Header) -> bool
+    ensures { λ r. ⌜ r ≡ admits Origin.Live (headerKind header) ⌝ }
 {
     match header {
-        Header::Plain => Examined::Unsound(Refusal::Unnamed),
-        Header::Addressed { to, from } => Examined::Sound {
-            header: Header::Addressed { to, from },
-            start,
-            len,
-        },
+        Header::Plain => false,
+        Header::Addressed { to: _, from: _ } => true,
     }
 }
 

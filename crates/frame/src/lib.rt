@@ -262,10 +262,13 @@ fn read_plain(origin: Origin, kind: Kind, body: &[u8], sum: u8, out: &mut [u8]) 
         ≡ readAnswer (admit origin (judge kind (now (body .entry)))) (length (now (out .entry))) ⌝ }
     ensures { λ r. ⌜ now (out .exit) ≡ readOut (admit origin (judge kind (now (body .entry)))) (now (out .entry)) ⌝ }
 {
-    let found = candidate::admit(origin, plain::examine_plain(kind, body, sum));
+    let found = plain::examine_plain(kind, body, sum);
     match found {
         Examined::Unsound(why) => Read::Refused(why),
         Examined::Sound { header, start, len } => {
+            if !candidate::is_admitted(origin, header) {
+                return Read::Refused(Refusal::Unnamed);
+            }
             let room = out.len();
             if room < len {
                 return Read::Refused(Refusal::NoRoom);
@@ -283,10 +286,13 @@ fn read_stuffed(origin: Origin, kind: Kind, body: &[u8], out: &mut [u8]) -> Read
     ensures { λ r. ⌜ now (out .exit)
         ≡ readOut (admit origin (judgeWhole kind (now (body .entry)))) (now (out .entry)) ⌝ }
 {
-    let found = candidate::admit(origin, candidate::examine_stuffed(kind, body));
+    let found = candidate::examine_stuffed(kind, body);
     match found {
         Examined::Unsound(why) => Read::Refused(why),
         Examined::Sound { header, start, len } => {
+            if !candidate::is_admitted(origin, header) {
+                return Read::Refused(Refusal::Unnamed);
+            }
             if out.len() < len {
                 return Read::Refused(Refusal::NoRoom);
             }
@@ -370,10 +376,13 @@ fn judge_whole(origin: Origin, kind: Kind, s: &mut [u8]) -> Read
     ensures { λ r. ⌜ now (s .exit)
         ≡ leftIn (admit origin (verdict (candidateOf kind (now (s .entry))))) (now (s .entry)) ⌝ }
 {
-    let found = candidate::admit(origin, examine_whole(kind, s));
+    let found = examine_whole(kind, s);
     match found {
         Examined::Unsound(refusal) => Read::Refused(refusal),
         Examined::Sound { header, start, len } => {
+            if !candidate::is_admitted(origin, header) {
+                return Read::Refused(Refusal::Unnamed);
+            }
             bring_contents(s, start, len);
             read_as(header, len)
         }

@@ -20,8 +20,7 @@ use Rattle.answer.specs.Answer.{refused, result}
 use Rattle.frame.specs.Answers.{judgeAnswer}
 use Rattle.frame.specs.declared.Origin.{Origin}
 use Rattle.frame.specs.declared.Kind.{Kind}
-use Rattle.frame.proofs.ContentsLaws.{accepted-short}
-use Rattle.frame.proofs.OriginLaws.{admit-means}
+use Rattle.frame.proofs.ContentsLaws.{admitted-short}
 use Rattle.line.specs.Rowing.{rowing, rowingBounds}
 use Rattle.line.specs.Outcome.{summaryOf, tells, ContentsFit}
 use Rattle.line.specs.Reader.{ReaderTurn, originOf, modeSeen, roleStep, stepOf, finishOf}
@@ -38,9 +37,8 @@ module _ (o : Origin) where
     where
       fits : (v : Verdict) → admit o (verdict w) ≡ v → ContentsFit 118 (tells (judgeAnswer v))
       fits (refused n) e = tt
-      fits (result (standard c)) e = omega (arith, accepted-short w (standard c) (admit-means o (verdict w) _ e .0))
-      fits (result (extended to from c)) e =
-          omega (arith, accepted-short w (extended to from c) (admit-means o (verdict w) _ e .0))
+      fits (result (standard c)) e = omega (arith, admitted-short o w (standard c) e)
+      fits (result (extended to from c)) e = omega (arith, admitted-short o w (extended to from c) e)
 
   -- Truncation tells of no contents.
   truncated-within : (m : BoundedMode Kind)

@@ -1,5 +1,6 @@
 -- Document 02, No. 9, of the line reader's calls, in each form that a caller has: a reader keeps its origin, a live one
--- never tells a standard frame, and otherwise the two origins are answered alike.
+-- never tells a standard frame, one of a trace is never
+-- answered 17, and otherwise the two origins are answered alike.
 use mathlib.Core.Path.{_≡_, refl, sym, ap, _∙_, subst}
 use mathlib.Core.List.{List, [], _∷_, map}
 use native.Mathlib.Omega.{arith}
@@ -13,7 +14,7 @@ use Rattle.framing.specs.Demand3.{toldBy}
 use Rattle.framing.proofs.Restart.{reference-told}
 use Rattle.answer.specs.Answer.{result, refused}
 use Rattle.frame.specs.Flags.{roleOf, candidateOf}
-use Rattle.frame.specs.Frame.{standard}
+use Rattle.frame.specs.Frame.{standard, extended}
 use Rattle.frame.specs.Verdict.{Verdict, verdict}
 use Rattle.frame.specs.Origin.{admit}
 use Rattle.frame.specs.declared.Origin.{Origin}
@@ -21,8 +22,9 @@ use Rattle.frame.specs.declared.Origin.the-variants.{Live, Trace}
 use Rattle.frame.specs.declared.Kind.{Kind}
 use Rattle.frame.specs.declared.Kind.the-variants.{Standard, Extended}
 use Rattle.frame.proofs.OriginLaws.{admit-means}
-use Rattle.line.specs.Outcome.{Outcome, nothing, judged, NamesSender}
-use Rattle.line.specs.Rowing.{rowing, rowingBounds, outcomeFrom}
+use Rattle.frame.proofs.Unnamed.{not-17}
+use Rattle.line.specs.Outcome.{Outcome, nothing, judged, NamesSender, Not17}
+use Rattle.line.specs.Rowing.{rowing, rowingBounds, outcomeFrom, UnnamedLive}
 use Rattle.line.specs.Reader.{originOf, modeSeen, roleStep, turnOf, outcomeAt, nextAfter, AsNew}
 use Rattle.line.specs.declared.LineReader.{LineReader}
 use Rattle.line.proofs.ReaderLaws.{origin-kept}
@@ -39,6 +41,46 @@ pub calls-keep-origin : {r last : LineReader} {calls : List Call} {outcomes : Li
     → RanBy CalledOn r calls outcomes last → originOf last ≡ originOf r
 calls-keep-origin {r} {last} {calls} k = ap originOf (chunks-singly k .reader-is) ∙ left-origin r calls
 
+-- ---- what holds of every outcome of a reader
+
+-- what holds of nothing, of 6, of 2 and of every verdict at an origin
+module _ (o : Origin) (P : Outcome → Type 0) (none : P nothing) (cut : P (judged (refused 6)))
+    (long : P (judged (refused 2))) (all : (w : List ℕ) → P (judged (admit o (verdict w)))) where
+  at-truncation : (m : BoundedMode Kind) → P (truncatedIn (rowing o) (rowingBounds o) m)
+  at-truncation outside = none
+  at-truncation (inside kind) = cut
+  at-truncation overlong = cut
+
+  at-termination : (m : BoundedMode Kind) (bytes : List ℕ) (len : ℕ)
+      → P (terminatedIn (rowing o) (rowingBounds o) m bytes len)
+  at-termination outside bytes len = none
+  at-termination (inside kind) bytes len = all (candidateOf kind (take len bytes))
+  at-termination overlong bytes len = long
+
+  module _ (r : LineReader) (of-o : originOf r ≡ o) where
+    own : (answer : Origin → Outcome) → P (answer o) → P (answer (originOf r))
+    own answer k = subst (λ (p : Origin). P (answer p)) (sym of-o) k
+
+    at-byte : (b : ℕ) (ρ : Role) → P (roleStep ρ r b .answer)
+    at-byte b starts =
+        own (λ p. truncatedIn (rowing p) (rowingBounds p) (modeSeen (r .state .mode)))
+        (at-truncation (modeSeen (r .state .mode)))
+    at-byte b stops =
+        own (λ p. terminatedIn (rowing p) (rowingBounds p) (modeSeen (r .state .mode)) (r .bytes) (r .state .len))
+        (at-termination (modeSeen (r .state .mode)) (r .bytes) (r .state .len))
+    at-byte b plain = none
+
+    at-call : (c : Call) → P (outcomeAt r c)
+    at-call (byte b) = at-byte b (roleOf b)
+    at-call finish =
+        own (λ p. truncatedIn (rowing p) (rowingBounds p) (modeSeen (r .state .mode)))
+        (at-truncation (modeSeen (r .state .mode)))
+
+  -- holds of every outcome of a reader of that origin, whatever its other fields are
+  every-run : (r : LineReader) → originOf r ≡ o → (calls : List Call) → Every P (run outcomeAt nextAfter r calls)
+  every-run r e [] = tt
+  every-run r e (c ∷ calls) = (at-call r e c, every-run (nextAfter r c) (origin-kept r c ∙ e) calls)
+
 -- ---- a live reader tells no standard frame
 
 silence : NamesSender nothing
@@ -53,48 +95,36 @@ live-verdict v c e =
     let k : Standard ≡ Extended = admit-means Live v (standard c) q .1 refl in
     let z : _≡_ {A = ℕ} 0 1 = cc in omega arith
 
-live-truncated : (m : BoundedMode Kind) → NamesSender (truncatedIn (rowing Live) (rowingBounds Live) m)
-live-truncated outside = silence
-live-truncated (inside kind) = refusal 6
-live-truncated overlong = refusal 6
-
-live-terminated : (m : BoundedMode Kind) (bytes : List ℕ) (len : ℕ)
-    → NamesSender (terminatedIn (rowing Live) (rowingBounds Live) m bytes len)
-live-terminated outside bytes len = silence
-live-terminated (inside kind) bytes len = live-verdict (verdict (candidateOf kind (take len bytes)))
-live-terminated overlong bytes len = refusal 2
-
--- a live reader, whatever its other fields are
-module _ (r : LineReader) (live : originOf r ≡ Live) where
-  at-live : (answer : Origin → Outcome) → NamesSender (answer Live) → NamesSender (answer (originOf r))
-  at-live answer k = subst (λ (o : Origin). NamesSender (answer o)) (sym live) k
-
-  live-byte : (b : ℕ) (ρ : Role) → NamesSender (roleStep ρ r b .answer)
-  live-byte b starts =
-      at-live (λ o. truncatedIn (rowing o) (rowingBounds o) (modeSeen (r .state .mode)))
-      (live-truncated (modeSeen (r .state .mode)))
-  live-byte b stops =
-      at-live (λ o. terminatedIn (rowing o) (rowingBounds o) (modeSeen (r .state .mode)) (r .bytes) (r .state .len))
-      (live-terminated (modeSeen (r .state .mode)) (r .bytes) (r .state .len))
-  live-byte b plain = silence
-
-  live-call : (c : Call) → NamesSender (outcomeAt r c)
-  live-call (byte b) = live-byte b (roleOf b)
-  live-call finish =
-      at-live (λ o. truncatedIn (rowing o) (rowingBounds o) (modeSeen (r .state .mode)))
-      (live-truncated (modeSeen (r .state .mode)))
-
--- no outcome of a live reader is a standard frame
+-- a live reader tells no standard frame, whatever its other fields are
 pub live-run : (r : LineReader) → originOf r ≡ Live → (calls : List Call)
     → Every NamesSender (run outcomeAt nextAfter r calls)
-live-run r live [] = tt
-live-run r live (c ∷ calls) = (live-call r live c, live-run (nextAfter r c) (origin-kept r c ∙ live) calls)
+live-run = every-run Live NamesSender silence (refusal 6) (refusal 2) (λ w. live-verdict (verdict w))
 
 -- No call in a row on a live reader, in whichever form, tells a standard frame.
 pub live-calls-named : {r last : LineReader} {calls : List Call} {outcomes : List Outcome}
     → RanBy CalledOn r calls outcomes last → originOf r ≡ Live → Every NamesSender outcomes
 live-calls-named {r} {last} {calls} k live =
     subst (Every NamesSender) (sym (chunks-singly k .outcomes-are)) (live-run r live calls)
+
+-- ---- a trace is never answered 17
+
+other : (n : ℕ) → (n ≡ 17 → ⊥) → Not17 (judged (refused n))
+other n k e = let q : n ≡ 17 = cc in k q
+
+trace-verdict : (w : List ℕ) → Not17 (judged (verdict w))
+trace-verdict w e = let q : verdict w ≡ refused 17 = cc in not-17 w q
+
+pub trace-run : (r : LineReader) → originOf r ≡ Trace → (calls : List Call)
+    → Every Not17 (run outcomeAt nextAfter r calls)
+trace-run =
+    every-run Trace Not17 (λ e. let z : _≡_ {A = ℕ} 0 1 = cc in omega arith) (other 6 (λ q. omega arith))
+    (other 2 (λ q. omega arith)) trace-verdict
+
+-- No call in a row on a reader of a trace, in whichever form, is answered 17.
+pub trace-calls-not-17 : {r last : LineReader} {calls : List Call} {outcomes : List Outcome}
+    → RanBy CalledOn r calls outcomes last → originOf r ≡ Trace → Every Not17 outcomes
+trace-calls-not-17 {r} {last} {calls} k e =
+    subst (Every Not17) (sym (chunks-singly k .outcomes-are)) (trace-run r e calls)
 
 -- ---- otherwise both origins are answered alike
 
@@ -119,3 +149,29 @@ pub origins-alike : (o : Origin) {calls : List Call} {outcomes traced : List Out
 origins-alike o {calls} {outcomes} {traced} k t =
     chunks-demand-3 o .same calls outcomes k ∙ reference-from o calls
     ∙ ap (map (outcomeFrom o)) (sym (chunks-demand-3 Trace .same calls traced t))
+
+-- an outcome of a trace is 17 on the live line exactly where it is a standard frame
+unnamed-outcome : (a : Outcome) → Not17 a → UnnamedLive a
+unnamed-outcome nothing n = (
+  (λ e. let z : _≡_ {A = ℕ} 0 1 = cc in absurd (omega arith)),
+  (λ (c, e). let z : _≡_ {A = ℕ} 0 1 = cc in absurd (omega arith)),
+)
+unnamed-outcome (judged (refused m)) n =
+    ((λ e. absurd (n e)), (λ (c, e). let z : _≡_ {A = ℕ} 0 1 = cc in absurd (omega arith)))
+unnamed-outcome (judged (result (standard c))) n = ((λ e. (c, refl)), (λ p. refl))
+unnamed-outcome (judged (result (extended to from c))) n = (
+  (λ e. let z : _≡_ {A = ℕ} 0 1 = cc in absurd (omega arith)),
+  (λ (d, e). let z : _≡_ {A = ℕ} 0 1 = cc in absurd (omega arith)),
+)
+
+pub every-unnamed : (traced : List Outcome) → Every Not17 traced → Every UnnamedLive traced
+every-unnamed [] h = tt
+every-unnamed (a ∷ traced) h = (unnamed-outcome a (h .0), every-unnamed traced (h .1))
+
+-- The same calls on a live reader and on one of a trace, both as new: a live outcome is 17 exactly where that of the
+-- trace is a standard frame, and every other outcome is the same.
+pub line-17-exactly : {calls : List Call} {outcomes traced : List Outcome}
+    → AnsweredBy CalledOn (AsNew Live) calls outcomes → AnsweredBy CalledOn (AsNew Trace) calls traced
+    → (outcomes ≡ map (outcomeFrom Live) traced) × Every UnnamedLive traced
+line-17-exactly {calls} {outcomes} {traced} k t =
+    (origins-alike Live k t, every-unnamed traced (trace-calls-not-17 (t .ran) (t .made .origin-is)))

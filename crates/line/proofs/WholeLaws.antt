@@ -27,8 +27,8 @@ use Rattle.frame.specs.declared.Origin.{Origin}
 use Rattle.frame.specs.declared.Kind.{Kind}
 use Rattle.frame.specs.declared.Kind.the-variants.{Standard, Extended}
 use Rattle.frame.proofs.VerdictLaws.{whole-body}
-use Rattle.frame.proofs.ContentsLaws.{accepted-shrinks}
-use Rattle.frame.proofs.OriginLaws.{admit-refused, admit-means}
+use Rattle.frame.proofs.ContentsLaws.{admitted-shrinks}
+use Rattle.frame.proofs.OriginLaws.{admit-refused}
 use Rattle.frame.proofs.LeadingLaws.{leadingKind, leadingBody, leadingRest, leads, leading-clear}
 use Rattle.frame.proofs.LeadingLaws.{leading-count, leading-wire, leading-some, verdict-none}
 use Rattle.line.specs.Outcome.{judged, capacity, toldMeans, summaryOf}
@@ -46,11 +46,6 @@ use Rattle.line.proofs.RunLaws.{feed-run, held-run}
 
 -- ---- a slice that is read into the array
 
--- the contents of a frame that is accepted at an origin, and the bytes between its flags
-shrinks-at : (o : Origin) (w : List ℕ) (f : Frame) → admit o (verdict w) ≡ result f
-    → (length (contentsOf f) < length (bodyOf w)) × (length (bodyOf w) ≤ 118)
-shrinks-at o w f e = accepted-shrinks w f (admit-means o (verdict w) f e .0)
-
 -- There is room for the contents, so reading answers what judging does.
 pub read-judges : (o : Origin) (w : List ℕ) (room : ℕ) → capacity ≤ room
     → readAnswer (admit o (verdict w)) room ≡ judgeAnswer (admit o (verdict w))
@@ -60,7 +55,7 @@ read-judges o w room h = of-verdict (admit o (verdict w)) refl
     of-verdict : (v : Verdict) → admit o (verdict w) ≡ v → readAnswer v room ≡ judgeAnswer v
     of-verdict (refused n) e = refl
     of-verdict (result f) e =
-        let k = shrinks-at o w f e in
+        let k = admitted-shrinks o w f e in
         let l : length (contentsOf f) ≤ room = omega (arith, k .0, k .1) in
         simp (le-leb (length (contentsOf f)) room l)
 
@@ -71,8 +66,8 @@ count-inside o w = of-verdict (admit o (verdict w)) refl
   where
     of-verdict : (v : Verdict) → admit o (verdict w) ≡ v → contentsCount (judgeAnswer v) ≤ length (bodyOf w)
     of-verdict (refused n) e = omega arith
-    of-verdict (result (standard c)) e = omega (arith, shrinks-at o w (standard c) e .0)
-    of-verdict (result (extended to from c)) e = omega (arith, shrinks-at o w (extended to from c) e .0)
+    of-verdict (result (standard c)) e = omega (arith, admitted-shrinks o w (standard c) e .0)
+    of-verdict (result (extended to from c)) e = omega (arith, admitted-shrinks o w (extended to from c) e .0)
 
 count-of : (f : Frame) → contentsCount (judgeAnswer (result f)) ≡ length (contentsOf f)
 unfolding judgeAnswer contentsOf
@@ -316,7 +311,7 @@ long-left o s bytes last taken count h e = e ∙ of-verdict (admit o (verdict (t
     of-verdict (result f) q =
         let w = take taken s in
         let l : length w ≡ taken = length-take-le taken s (omega (arith, count, leading-fits s)) in
-        absurd (omega (arith, l, body-count w (omega (arith, l)), shrinks-at o w f q .1))
+        absurd (omega (arith, l, body-count w (omega (arith, l)), admitted-shrinks o w f q .1))
 
 -- in a mode in which none can begin
 pub judges-none : (o : Origin) (bytes s : List ℕ) (m m′ : Mode) (r : Judged) → m ≡ m′ → leadingIn m′ s ≡ 0

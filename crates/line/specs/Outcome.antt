@@ -34,6 +34,10 @@ Not1 o = o ≡ judged (refused 1) → ⊥
 abbrev pub Never1 : List Outcome → Type 0
 Never1 outcomes = Every Not1 outcomes
 
+-- An outcome is not refusal 17.
+abbrev pub Not17 : Outcome → Type 0
+Not17 o = o ≡ judged (refused 17) → ⊥
+
 -- An outcome is no standard frame, which names no sender.
 abbrev pub NamesSender : Outcome → Type 0
 NamesSender o = (contents : List ℕ) → o ≡ judged (result (standard contents)) → ⊥

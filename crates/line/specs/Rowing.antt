@@ -1,14 +1,18 @@
 -- The rowing protocol at an origin, at which the reference decoder and the bounded reader are taken.
+use mathlib.Core.Path.{_≡_}
 use mathlib.Core.List.{List}
 use Prim.Native.Nat.{ℕ}
-use Rattle.answer.specs.Answer.{refused}
+use Rattle.lists.specs.Choice.{Exactly}
+use Rattle.answer.specs.Answer.{result, refused}
 use Rattle.framing.specs.Reference.{Protocol}
 use Rattle.framing.specs.Bounded.{Bounds}
 use Rattle.frame.specs.Flags.{roleOf, kindOf, candidateOf}
 use Rattle.frame.specs.Verdict.{verdict}
 use Rattle.frame.specs.Origin.{admit}
 use Rattle.frame.specs.Answers.{leftIn}
+use Rattle.frame.specs.Frame.{standard}
 use Rattle.frame.specs.declared.Origin.{Origin}
+use Rattle.frame.specs.declared.Origin.the-variants.{Live}
 use Rattle.frame.specs.declared.Kind.{Kind}
 use Rattle.line.specs.Outcome.{Outcome, nothing, judged, capacity}
 
@@ -26,6 +30,11 @@ rowing o =
 abbrev pub outcomeFrom : Origin → Outcome → Outcome
 outcomeFrom o nothing = nothing
 outcomeFrom o (judged v) = judged (admit o v)
+
+-- An outcome of a trace is 17 on the live line exactly where it is a standard frame.
+abbrev pub UnnamedLive : Outcome → Type 0
+UnnamedLive a =
+    Exactly (outcomeFrom Live a ≡ judged (refused 17)) ((contents : List ℕ) × (a ≡ judged (result (standard contents))))
 
 -- The array after an answer: an accepted frame's contents stand first.
 abbrev pub leftBy : Outcome → List ℕ → List ℕ

@@ -14,7 +14,7 @@ use Rattle.workout.specs.Answers.{workoutAnswer, workoutFrameDraft}
 use Rattle.workout.specs.Contracts.{ReadsWorkout, WritesWorkout, WritesWorkoutFrame}
 use Rattle.workout.specs.Conditions.{WithinLimits, Readable, WorkoutJudged}
 use Rattle.workout.specs.Encoding.{Encoded}
-use Rattle.workout.proofs.FrameLaws.{frame-short, frame-is}
+use Rattle.workout.proofs.FrameLaws.{frame-draft-short}
 use Rattle.workout.proofs.Table.{read-by-table, read-exactly, written-within}
 use Rattle.workout.proofs.EncodingLaws.{encoded-read, read-encoded}
 use Rattle.workout.proofs.RoundTrip.{written-workout-reads-back, pm3-sendable}
@@ -52,4 +52,4 @@ pub frame-writes-short : (limits : Limits) (to : ℕ) (w : Programmed) (out last
     → WritesWorkoutFrame limits to w out (result n) last → n ≤ 54
 frame-writes-short limits to w out last n k =
     let f = written-first (workoutFrameDraft limits to w) out n (sym (k .writes .0)) in
-    omega (arith, f .2, ap length (frame-is limits to w (f .0) (f .1) .1), frame-short to w)
+    omega (arith, f .2, frame-draft-short limits to w (f .0) (f .1))

@@ -85,7 +85,7 @@ call-frame-by-table {to} {w} {out} {last} {a} k b left =
     frame-writes-exactly pm3Limits to w out a b last left (call-writes-frame k .writes)
 
 -- A call that writes a workout in a frame is refused with 9, 12 or 1 alone: the frame is never too long, which would be
--- 2, and 13 is no refusal of a writer.
+-- 2, it names its sender, so that 17 is not asked for, and 13 is no refusal of a writer.
 pub call-frame-refusals : {to : ℕ} {w : Programmed} {out last : List ℕ} {n : ℕ}
     → CalledWriteFrame to w out (refused n) last → (n ≡ 9) ⊎ (n ≡ 12) ⊎ (n ≡ 1)
 call-frame-refusals {to} {w} {out} {last} {n} k =

@@ -73,6 +73,10 @@ module _ (limits : Limits) (to : ℕ) (w : Programmed) where
       never : (k : ℕ) → _≡_ {A = Draft} (refused k) (result s) → ⊥
       never k q = let z : _≡_ {A = ℕ} 0 1 = cc in omega arith
 
+  -- so it has at most 54 bytes
+  pub frame-draft-short : (s : List ℕ) → workoutFrameDraft limits to w ≡ result s → length s ≤ 54
+  frame-draft-short s e = omega (arith, ap length (frame-is s e .1), frame-short to w)
+
   -- What the frame writer did with the contents is what the workout's frame writer does: the frame is short enough, so
   -- that it is never refused with 2.
   pub frame-written : inRange to ≡ true → withinLimits limits w ≡ true → (contents out last : List ℕ) (a : Answer ℕ)

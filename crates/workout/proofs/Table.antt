@@ -11,7 +11,7 @@ use lib.ListN.{length, getD, drop}
 use lib.Seq.{take-all}
 use borrow.Author.Tests.{leb-true, leb-false, le-leb, eqb-true, eq-eqb}
 use Rattle.answer.specs.Draft.{Draft, draftAnswer, Writes}
-use Rattle.answer.proofs.Drafts.{writes-refusal, writes-no-room, writes-done, written-first}
+use Rattle.answer.proofs.Drafts.{writes-refusal, writes-no-room, writes-done, written-first, lines-exactly}
 use Rattle.answer.specs.Answer.{result, refused, Answer}
 use Rattle.lists.specs.Choice.{Exactly}
 use Rattle.lists.proofs.Cases.{by-bool, both-true, both-exactly}
@@ -186,18 +186,6 @@ module _ (limits : Limits) (c : List ℕ) where
       found a (readable v r) w e = let q : v ≡ w = cc in subst (λ (x : Programmed). Readable limits c x) q r
 
 -- ---- the table of writing
-
--- A table whose lines are what a draft's writer does, with a line for every output, says exactly what it does.
-lines-exactly : (d : Draft) (out : List ℕ) (Line : Answer ℕ → List ℕ → Type 0)
-    → ((a : Answer ℕ) (last : List ℕ) → Line a last → Writes d out a last)
-    → ((a : Answer ℕ) × (last : List ℕ) × Line a last)
-    → (a : Answer ℕ) (last : List ℕ) → Exactly (Writes d out a last) (Line a last)
-lines-exactly d out Line line some a last = (
-  (λ p. let q = line (some .0) (some .1) (some .2) in
-      subst (λ (l : List ℕ). Line a l) (q .1 ∙ sym (p .1))
-      (subst (λ (x : Answer ℕ). Line x (some .1)) (q .0 ∙ sym (p .0)) (some .2))),
-  line a last,
-)
 
 module _ (limits : Limits) (w : Programmed) (out : List ℕ) where
   -- what the table says is answered and left

@@ -68,7 +68,7 @@ pub fn write_workout(workout: Workout, out: &mut [u8]) -> Written
     write_within(limits::PM3, workout, out)
 }
 
-// Writes the extended frame from 00 to an address whose contents are a workout. Refusals 9, 12 and 1.
+// Writes a workout in an extended frame from 00 to an address. Refusals 9, 12 and 1.
 pub fn write_workout_frame(address: u32, workout: Workout, out: &mut [u8]) -> Written
     ensures { λ r. ⌜ writtenMeans r ≡ draftAnswer (workoutFrameDraft pm3Limits address (programmed workout))
         (length (now (out .entry))) ⌝ }

@@ -5,6 +5,9 @@ use crate::{ffi, Error};
 /// The length of a workout's contents.
 pub const LEN: usize = 23;
 
+/// The most bytes of a workout's frame on the wire. An output of this length has room for every one.
+pub const FRAME_LIMIT: usize = 54;
+
 /// A distance in metres.
 #[derive(Clone, Copy, Debug, PartialEq, Eq, PartialOrd, Ord, Hash)]
 pub struct Metres(pub u32);
@@ -47,8 +50,7 @@ pub enum Goal {
 /// A workout. Its numbers may be any; writing it refuses those outside the limits that stand with [`Goal`].
 ///
 /// ```
-/// use csafe::frame;
-/// use csafe::workout::{Goal, Hundredths, Metres, Seconds};
+/// use csafe::workout::{self, Goal, Hundredths, Metres, Seconds};
 /// use csafe::{Error, Workout};
 ///
 /// let rowed = Workout {
@@ -61,7 +63,7 @@ pub enum Goal {
 ///     goal: Goal::Time { time: Seconds(20 * 60), split: Hundredths(4 * 60 * 100) },
 ///     watts: 100,
 /// };
-/// let mut wire = [0; frame::WIRE_LIMIT];
+/// let mut wire = [0; workout::FRAME_LIMIT];
 /// let len = timed.write_frame(0x05, &mut wire)?;
 /// assert_eq!(wire[..8], [0xF0, 0x05, 0x00, 0x20, 0x03, 0x00, 0x14, 0x00]);
 /// assert_eq!(len, 28);
@@ -114,7 +116,7 @@ impl Workout {
     }
 
     /// Writes the extended frame with the workout's contents that goes from the host, 00, to this address. It stands
-    /// first in the output, and its length on the wire is answered.
+    /// first in the output, and its length on the wire is answered, which is at most [`FRAME_LIMIT`].
     ///
     /// # Errors
     ///

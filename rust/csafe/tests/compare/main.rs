@@ -33,5 +33,5 @@ mod workouts;
 
 use plain::frame::Origin;
 
-/// Where bytes may come from. Every comparison of frames, lengths and lines is made for both.
+/// Where bytes may come from. Frames, lengths and lines are compared for both wherever the origin can matter.
 const ORIGINS: [Origin; 2] = [Origin::Live, Origin::Trace];

@@ -96,6 +96,7 @@ fn the_headers_lengths_are_those_of_the_package() {
         ("CSAFE_LINE_LEN", line::HELD_LEN),
         ("CSAFE_CHUNK_LIMIT", line::CHUNK_LIMIT),
         ("CSAFE_WORKOUT_LEN", workout::LEN),
+        ("CSAFE_WORKOUT_FRAME_LIMIT", workout::FRAME_LIMIT),
         ("CSAFE_STOP_LIMIT", lease::STOP_LIMIT),
         ("CSAFE_TABLE_LEN", lease::TABLE_LEN),
     ];

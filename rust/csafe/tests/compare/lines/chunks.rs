@@ -72,14 +72,16 @@ fn beginnings() -> Vec<Vec<u8>> {
     all
 }
 
-/// The short parts, and the longest candidate and one that is too long, each closed and cut short.
+/// The short parts, and of either kind the longest candidate and one that is too long, each closed and cut short.
 fn parts() -> Vec<Vec<u8>> {
     let mut all: Vec<Vec<u8>> = PARTS.iter().map(|part| part.to_vec()).collect();
-    for len in [HELD_LEN, HELD_LEN + 1] {
-        for end in [STOP, EXTENDED_START] {
-            let mut part = candidate(STANDARD_START, len);
-            part.push(end);
-            all.push(part);
+    for start in [EXTENDED_START, STANDARD_START] {
+        for len in [HELD_LEN, HELD_LEN + 1] {
+            for end in [STOP, EXTENDED_START] {
+                let mut part = candidate(start, len);
+                part.push(end);
+                all.push(part);
+            }
         }
     }
     all
