@@ -380,11 +380,11 @@ fn judge_whole(origin: Origin, kind: Kind, s: &mut [u8]) -> Read
     match found {
         Examined::Unsound(refusal) => Read::Refused(refusal),
         Examined::Sound { header, start, len } => {
-            if !candidate::is_admitted(origin, header) {
-                return Read::Refused(Refusal::Unnamed);
+            if candidate::is_admitted(origin, header) {
+                bring_contents(s, start, len);
+                return read_as(header, len);
             }
-            bring_contents(s, start, len);
-            read_as(header, len)
+            Read::Refused(Refusal::Unnamed)
         }
     }
 }

@@ -1,7 +1,6 @@
 use mathlib.Core.Path.{_≡_, sym, _∙_, subst}
 use mathlib.Core.List.{List}
 use Prim.Native.Nat.{ℕ}
-use borrow.Author.Tests.{not-true, not-false}
 use Rattle.frame.specs.Flags.{candidateOf}
 use Rattle.frame.specs.Verdict.{Verdict, verdict}
 use Rattle.frame.specs.Origin.{admit}
@@ -46,16 +45,16 @@ len k = k .before .found2 .given .0 .1 .1 .0
 passes : (k : tie.After-known-told2) → SoundAt (judged-as (E k)) (held k) (header k) (start k) (len k)
 passes k = found (E k) _ (k .before .found2 .given .1)
 
-abbrev K : tie.Else1 → tie.After-known-told2
-K e = e .before .before
+abbrev K : tie.Then1 → tie.After-known-told2
+K t = t .before .before
 
 -- and name their sender where they have to
-sound : (e : tie.Else1)
-    → SoundAt (admit (St (E (K e)) .args .origin) (judged-as (E (K e)))) (held (K e)) (header (K e)) (start (K e))
-    (len (K e))
-sound e =
-    sound-admitted (St (E (K e)) .args .origin) (header (K e)) (passes (K e))
-    (sym (e .before .is-admitted .ensures) ∙ not-false _ (e .if1 .left))
+sound : (t : tie.Then1)
+    → SoundAt (admit (St (E (K t)) .args .origin) (judged-as (E (K t)))) (held (K t)) (header (K t)) (start (K t))
+    (len (K t))
+sound t =
+    sound-admitted (St (E (K t)) .args .origin) (header (K t)) (passes (K t))
+    (sym (t .before .is-admitted .ensures) ∙ t .if1 .taken)
 
 examine-whole-requires : tie.Need-examine-whole-requires
 examine-whole-requires c κs = search needs
@@ -69,22 +68,22 @@ enum-known-found-2 c = search needs
 is-admitted-requires : tie.Need-is-admitted-requires
 is-admitted-requires c κs = search needs
 
-same-length : tie.Need-same-length
-same-length c = search needs
-
-returns : tie.Need-returns
-returns c =
-    let t : tie.Then1 = search needs in
-    let k = t .before .before in
-    let q = sound-unnamed (St (E k) .args .origin) (header k) (passes k)
-    (sym (t .before .is-admitted .ensures) ∙ not-true _ (t .if1 .taken)) in
-    (judge-refused _ _ q, left-refused _ _ _ q)
-
 bring-contents-requires : tie.Need-bring-contents-requires
 bring-contents-requires c κs = let s = sound (c .before) in (rest-length s, s .inside)
 
 read-as-requires : tie.Need-read-as-requires
 read-as-requires c κs = search needs
+
+same-length : tie.Need-same-length
+same-length c = search needs
+
+returns : tie.Need-returns
+returns c =
+    let t = c .before .before .before .before .before in
+    let s = sound t in (
+      c .read-as .ensures ∙ header-as (header (K t)) (s .contents) _ (s .counted) ∙ judge-accepted _ _ (s .judged),
+      left-accepted _ _ _ _ (s .judged) (rest-first s _ _ (c .before .before .before .bring-contents .ensures)),
+    )
 
 same-length-2 : tie.Need-same-length-2
 same-length-2 c = search needs
@@ -101,11 +100,11 @@ same-length-3 c = search needs
 
 returns-3 : tie.Need-returns-3
 returns-3 c =
-    let e = c .before .before .before .before .before in
-    let s = sound e in (
-      c .read-as .ensures ∙ header-as (header (K e)) (s .contents) _ (s .counted) ∙ judge-accepted _ _ (s .judged),
-      left-accepted _ _ _ _ (s .judged) (rest-first s _ _ (c .before .before .before .bring-contents .ensures)),
-    )
+    let n : tie.Else1 = search needs in
+    let k = n .before .before in
+    let q = sound-unnamed (St (E k) .args .origin) (header k) (passes k)
+    (sym (n .before .is-admitted .ensures) ∙ n .if1 .left) in
+    (judge-refused _ _ q, left-refused _ _ _ q)
 
 pub judge-whole-spec : {M : Type 1} → statement M
 judge-whole-spec =
@@ -115,10 +114,10 @@ judge-whole-spec =
     enum-known-found
     enum-known-found-2
     is-admitted-requires
-    same-length
-    returns
     bring-contents-requires
     read-as-requires
+    same-length
+    returns
     same-length-2
     returns-2
     same-length-3
