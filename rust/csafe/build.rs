@@ -1,6 +1,7 @@
-//! Makes the proved static library with `rt staticlib exports` and links it.
+//! Makes the two proved static libraries with `rt staticlib` and links them.
 //!
-//! Where `CSAFE_STATICLIB` names a directory with a ready `libexports.a`, that one is linked and `rt` is not run.
+//! Where `CSAFE_STATICLIB` names a directory with a ready `libexports.a` and `libtrace_exports.a`, those are linked and
+//! `rt` is not run.
 
 use std::env;
 use std::fs;
@@ -8,21 +9,26 @@ use std::io::{ErrorKind, Write};
 use std::path::{Path, PathBuf};
 use std::process::{exit, Command, Stdio};
 
-const ARCHIVE: &str = "libexports.a";
-const READY_ARCHIVE: &str = "CSAFE_STATICLIB";
+/// The crates whose archives are linked: that of the live line, and that of stored traces.
+const CRATES: [&str; 2] = ["exports", "trace_exports"];
+const READY_ARCHIVES: &str = "CSAFE_STATICLIB";
 
 /// The target that the kit compiles for: processor, system and the bits of a pointer.
 const ARCHIVE_TARGET: [&str; 3] = ["x86_64", "linux", "64"];
 
 fn main() {
     println!("cargo:rerun-if-changed=build.rs");
-    println!("cargo:rerun-if-env-changed={READY_ARCHIVE}");
+    println!("cargo:rerun-if-env-changed={READY_ARCHIVES}");
     check_target();
-    let made = match env::var_os(READY_ARCHIVE) {
-        Some(directory) => ready_archive(Path::new(&directory)),
-        None => proved_archive(&package_directory().join("../..")),
+    let made = match env::var_os(READY_ARCHIVES) {
+        Some(directory) => ready_archives(Path::new(&directory)),
+        None => proved_archives(&package_directory().join("../..")),
     };
     link(&made);
+}
+
+fn archive_of(name: &str) -> String {
+    format!("lib{name}.a")
 }
 
 fn package_directory() -> PathBuf {
@@ -53,58 +59,67 @@ fn check_target() {
     }
 }
 
-/// The archive that the caller has made.
+/// The archives that the caller has made.
 ///
 /// Cargo runs this program in the package's directory and does not tell where it was called itself: `PWD` is that of
 /// the last shell, which `make -C` and `env -C` leave as it was. So a relative path has no sure meaning here.
-fn ready_archive(directory: &Path) -> PathBuf {
+fn ready_archives(directory: &Path) -> PathBuf {
     if !directory.is_absolute() {
         stop(&format!(
-            "{READY_ARCHIVE} is the relative path `{0}`, and an absolute one is needed. In a shell, {READY_ARCHIVE}=\"$PWD/{0}\" starts from the current directory.",
+            "{READY_ARCHIVES} is the relative path `{0}`, and an absolute one is needed. In a shell, {READY_ARCHIVES}=\"$PWD/{0}\" starts from the current directory.",
             directory.display()
         ));
     }
-    let archive = directory.join(ARCHIVE);
-    println!("cargo:rerun-if-changed={}", archive.display());
-    if !archive.is_file() {
-        stop(&format!(
-            "{READY_ARCHIVE} is set, but there is no {}. Put the archive there, or unset {READY_ARCHIVE} to have it made.",
-            archive.display()
-        ));
+    for archive in CRATES.map(|name| directory.join(archive_of(name))) {
+        println!("cargo:rerun-if-changed={}", archive.display());
+        if !archive.is_file() {
+            stop(&format!(
+                "{READY_ARCHIVES} is set, but there is no {}. Put the archive there, or unset {READY_ARCHIVES} to have it made.",
+                archive.display()
+            ));
+        }
     }
-    archive
+    directory.to_path_buf()
 }
 
-/// The archive that `rt` proves and compiles in the repository's root.
-fn proved_archive(root: &Path) -> PathBuf {
+/// The archives that `rt` proves and compiles in the repository's root.
+fn proved_archives(root: &Path) -> PathBuf {
     println!("cargo:rerun-if-changed=../../crates");
     println!("cargo:rerun-if-changed=../../crates.txt");
+    for name in CRATES {
+        prove(root, name);
+    }
+    root.join("target").join("staticlib")
+}
+
+fn prove(root: &Path, name: &str) {
+    let command = format!("rt staticlib {name}");
     let run = Command::new("rt")
-        .args(["staticlib", "exports"])
+        .args(["staticlib", name])
         .current_dir(root)
         .stdout(Stdio::piped())
         .stderr(Stdio::piped())
         .spawn()
         .and_then(|proving| {
-            tell("`rt staticlib exports` proves and compiles the static library. This takes about 20 seconds, and 2 to 4 minutes where nothing is proved yet.");
+            tell(&format!("`{command}` proves and compiles a static library. This takes about 20 seconds, and 2 to 4 minutes where nothing is proved yet."));
             proving.wait_with_output()
         });
     let output = match run {
         Ok(output) => output,
         Err(error) if error.kind() == ErrorKind::NotFound => stop(&format!(
-            "the program `rt` is not on the path. Install the Rattle toolchain, or set {READY_ARCHIVE} to a directory that has {ARCHIVE}."
+            "the program `rt` is not on the path. Install the Rattle toolchain, or set {READY_ARCHIVES} to a directory that has {}.",
+            CRATES.map(archive_of).join(" and ")
         )),
-        Err(error) => stop(&format!("`rt staticlib exports` could not be started: {error}.")),
+        Err(error) => stop(&format!("`{command}` could not be started: {error}.")),
     };
     if !output.status.success() {
         stop(&format!(
-            "`rt staticlib exports` failed ({}). Run it in the repository's root and mend what it reports. It said:\n{}{}",
+            "`{command}` failed ({}). Run it in the repository's root and mend what it reports. It said:\n{}{}",
             output.status,
             String::from_utf8_lossy(&output.stdout),
             String::from_utf8_lossy(&output.stderr)
         ));
     }
-    root.join("target").join("staticlib").join(ARCHIVE)
 }
 
 /// Tells the user at once what takes long. Cargo shows standard error after a failure or with `-vv` only, and it
@@ -117,17 +132,22 @@ fn tell(message: &str) {
     }
 }
 
-/// Links a copy of the archive. `rt ci` removes the repository's `target`, and the copy outlasts that.
+/// Links copies of the archives. `rt ci` removes the repository's `target`, and the copies outlast that.
 fn link(made: &Path) {
     let directory = PathBuf::from(variable("OUT_DIR"));
-    let archive = directory.join(ARCHIVE);
-    if let Err(error) = fs::copy(made, &archive) {
-        stop(&format!("{} could not be copied: {error}.", made.display()));
+    for name in CRATES {
+        let archive = made.join(archive_of(name));
+        if let Err(error) = fs::copy(&archive, directory.join(archive_of(name))) {
+            stop(&format!(
+                "{} could not be copied: {error}.",
+                archive.display()
+            ));
+        }
+        println!("cargo:rustc-link-lib=static={name}");
     }
     println!("cargo:rustc-link-search=native={}", directory.display());
-    println!("cargo:rustc-link-lib=static=exports");
-    // The test of the C header links the same archive.
-    println!("cargo:rustc-env=CSAFE_ARCHIVE={}", archive.display());
+    // The test of the C header links the same archives.
+    println!("cargo:rustc-env=CSAFE_ARCHIVES={}", directory.display());
 }
 
 fn stop(message: &str) -> ! {

@@ -1,7 +1,8 @@
 /*
  * CSAFE frames, also from a live line and in stored traces, programmed workouts and machine leases.
  *
- * Link target/staticlib/libexports.a, which `rt staticlib exports` makes.
+ * Link target/staticlib/libexports.a, which `rt staticlib exports` makes. The functions for stored traces, at the end,
+ * stand in target/staticlib/libtrace_exports.a, which `rt staticlib trace_exports` makes.
  *
  * A slice is a pointer and a length. Every function takes any numbers and any slices, returns, and answers one
  * 64-bit number: a result or a refusal. A refusal changes no lent byte, but that a line reader goes on. After a result
@@ -172,40 +173,6 @@ uint64_t csafe_feed(uint8_t bytes[CSAFE_LINE_LEN], uint64_t *state, const uint8_
 uint64_t csafe_finish(uint64_t *state);
 
 /*
- * The functions for stored traces, in which standard frames are read as they stand. They are for traces that are kept
- * on disk and for tests. Bytes that go to a machine or come from one never go through them.
- */
-
-/*
- * Writes a standard frame of a trace first in the output and answers its length on the wire.
- * Refused, in this order: CSAFE_TOO_LONG, CSAFE_NO_ROOM.
- */
-uint64_t csafe_trace_write_standard(const uint8_t *contents, size_t contents_len, uint8_t *out, size_t out_len);
-
-/*
- * Answers how many bytes a standard frame of a trace takes on the wire, which is the room that
- * csafe_trace_write_standard needs.
- * Refused: CSAFE_TOO_LONG.
- */
-uint64_t csafe_trace_standard_length(const uint8_t *contents, size_t contents_len);
-
-/*
- * As csafe_read, of a trace: a frame of either kind is read.
- * Refused, in this order: CSAFE_TRUNCATED, CSAFE_TOO_LONG, CSAFE_BAD_ESCAPE, CSAFE_TOO_SHORT, CSAFE_BAD_CHECKSUM,
- * CSAFE_NO_ROOM.
- */
-uint64_t csafe_trace_read(const uint8_t *wire, size_t wire_len, uint8_t *out, size_t out_len);
-
-/*
- * As csafe_feed, of a trace: at its stop flag a candidate is answered as csafe_trace_read answers a slice. The reader
- * does not hold whether it is fed a trace, so all bytes of a trace are fed here.
- * Refused where a start flag comes before the stop flag: CSAFE_TRUNCATED, and the flag begins the next candidate.
- * Refused at the stop flag, in this order: CSAFE_TOO_LONG, CSAFE_BAD_ESCAPE, CSAFE_TOO_SHORT, CSAFE_BAD_CHECKSUM.
- */
-uint64_t csafe_trace_feed(uint8_t bytes[CSAFE_LINE_LEN], uint64_t *state, const uint8_t *input, size_t input_len,
-                          uint64_t *taken);
-
-/*
  * Writes the contents of a workout over a distance first in the output and answers their length, CSAFE_WORKOUT_LEN.
  * The distance is 100 to 50,000 m, the split at least 100 m and at most the distance. There are at most 30 splits, the
  * last of which may be shorter. The power is any number.
@@ -263,6 +230,41 @@ uint64_t csafe_release(uint8_t *table, size_t table_len, uint32_t address, uint6
  */
 uint64_t csafe_stop(const uint8_t *table, size_t table_len, uint32_t address, uint64_t token, uint8_t *out,
                     size_t out_len);
+
+/*
+ * The functions for stored traces, in which standard frames are read as they stand. They are for traces that are kept
+ * on disk and for tests. Bytes that go to a machine or come from one never go through them, and a program that has no
+ * trace to read does not link their library.
+ */
+
+/*
+ * Writes a standard frame of a trace first in the output and answers its length on the wire.
+ * Refused, in this order: CSAFE_TOO_LONG, CSAFE_NO_ROOM.
+ */
+uint64_t csafe_trace_write_standard(const uint8_t *contents, size_t contents_len, uint8_t *out, size_t out_len);
+
+/*
+ * Answers how many bytes a standard frame of a trace takes on the wire, which is the room that
+ * csafe_trace_write_standard needs.
+ * Refused: CSAFE_TOO_LONG.
+ */
+uint64_t csafe_trace_standard_length(const uint8_t *contents, size_t contents_len);
+
+/*
+ * As csafe_read, of a trace: a frame of either kind is read.
+ * Refused, in this order: CSAFE_TRUNCATED, CSAFE_TOO_LONG, CSAFE_BAD_ESCAPE, CSAFE_TOO_SHORT, CSAFE_BAD_CHECKSUM,
+ * CSAFE_NO_ROOM.
+ */
+uint64_t csafe_trace_read(const uint8_t *wire, size_t wire_len, uint8_t *out, size_t out_len);
+
+/*
+ * As csafe_feed, of a trace: at its stop flag a candidate is answered as csafe_trace_read answers a slice. The reader
+ * does not hold whether it is fed a trace, so all bytes of a trace are fed here.
+ * Refused where a start flag comes before the stop flag: CSAFE_TRUNCATED, and the flag begins the next candidate.
+ * Refused at the stop flag, in this order: CSAFE_TOO_LONG, CSAFE_BAD_ESCAPE, CSAFE_TOO_SHORT, CSAFE_BAD_CHECKSUM.
+ */
+uint64_t csafe_trace_feed(uint8_t bytes[CSAFE_LINE_LEN], uint64_t *state, const uint8_t *input, size_t input_len,
+                          uint64_t *taken);
 
 #ifdef __cplusplus
 }

@@ -1,7 +1,7 @@
--- Demands 1 and 2 of the exported frame functions, live and of traces: calls of `csafe_write_standard`,
--- `csafe_trace_write_standard`, `csafe_write_extended`, `csafe_standard_length`, `csafe_trace_standard_length`,
--- `csafe_extended_length`, `csafe_read` and `csafe_trace_read`, known by nothing but what their contracts tell a caller,
--- with the answers that their numbers tell.
+-- Demands 1 and 2 of the exported frame functions, and of those that take an origin: calls of `csafe_write_standard`,
+-- `write_standard`, `csafe_write_extended`, `csafe_standard_length`, `standard_length`, `csafe_extended_length`,
+-- `csafe_read` and `read`, known by nothing but what their contracts tell a caller, with the answers that their numbers
+-- tell.
 use Prim.Native.Nat.{ℕ, _≤_}
 use mathlib.Core.Path.{_≡_, refl, ap, _∙_, subst}
 use mathlib.Core.List.{List, _++_}
@@ -27,13 +27,13 @@ use Rattle.frame.proofs.Calls.{one-draft}
 use Rattle.exports.specs.Told.{toldWritten, toldRead}
 use Rattle.exports.proofs.ToldLaws.{frame-told, length-told, slice-told}
 use Rattle.exports.proofs.csafe_write_standard.Reads as write-standard-reads
-use Rattle.exports.proofs.csafe_trace_write_standard.Reads as trace-write-standard-reads
+use Rattle.exports.proofs.write_standard.Reads as write-standard-at-reads
 use Rattle.exports.proofs.csafe_write_extended.Reads as write-extended-reads
 use Rattle.exports.proofs.csafe_standard_length.Reads as standard-length-reads
-use Rattle.exports.proofs.csafe_trace_standard_length.Reads as trace-standard-length-reads
+use Rattle.exports.proofs.standard_length.Reads as standard-length-at-reads
 use Rattle.exports.proofs.csafe_extended_length.Reads as extended-length-reads
 use Rattle.exports.proofs.csafe_read.Reads as read-reads
-use Rattle.exports.proofs.csafe_trace_read.Reads as trace-read-reads
+use Rattle.exports.proofs.read.Reads as read-at-reads
 
 -- ---- calls
 
@@ -43,9 +43,9 @@ pub data ExportedWrite : Origin → Frame → (out : List ℕ) → Answer ℕ �
   wrote-standard : (n : ℕ) (κs : Lfts 2) (contents out out′ : RefT (List ℕ))
       → write-standard-reads.Learnt κs (contents, (out, tt)) n (contents, (out′, tt))
       → ExportedWrite Live (standard (contents .now)) (out .now) (toldWritten n) (out′ .now)
-  wrote-trace-standard : (n : ℕ) (κs : Lfts 2) (contents out out′ : RefT (List ℕ))
-      → trace-write-standard-reads.Learnt κs (contents, (out, tt)) n (contents, (out′, tt))
-      → ExportedWrite Trace (standard (contents .now)) (out .now) (toldWritten n) (out′ .now)
+  wrote-standard-at : {o : Origin} (n : ℕ) (κs : Lfts 2) (contents out out′ : RefT (List ℕ))
+      → write-standard-at-reads.Learnt κs (o, (contents, (out, tt))) n (o, (contents, (out′, tt)))
+      → ExportedWrite o (standard (contents .now)) (out .now) (toldWritten n) (out′ .now)
   wrote-extended : {o : Origin} {to from : ℕ} (n : ℕ) (κs : Lfts 2) (contents out out′ : RefT (List ℕ))
       → write-extended-reads.Learnt κs (to, (from, (contents, (out, tt)))) n (to, (from, (contents, (out′, tt))))
       → ExportedWrite o (extended to from (contents .now)) (out .now) (toldWritten n) (out′ .now)
@@ -56,9 +56,9 @@ pub data ExportedLength : Origin → Frame → Answer ℕ → Type 0 where
   measured-standard : (n : ℕ) (κs : Lfts 1) (contents : RefT (List ℕ))
       → standard-length-reads.Learnt κs (contents, tt) n (contents, tt)
       → ExportedLength Live (standard (contents .now)) (toldWritten n)
-  measured-trace-standard : (n : ℕ) (κs : Lfts 1) (contents : RefT (List ℕ))
-      → trace-standard-length-reads.Learnt κs (contents, tt) n (contents, tt)
-      → ExportedLength Trace (standard (contents .now)) (toldWritten n)
+  measured-standard-at : {o : Origin} (n : ℕ) (κs : Lfts 1) (contents : RefT (List ℕ))
+      → standard-length-at-reads.Learnt κs (o, (contents, tt)) n (o, (contents, tt))
+      → ExportedLength o (standard (contents .now)) (toldWritten n)
   measured-extended : {o : Origin} {to from : ℕ} (n : ℕ) (κs : Lfts 1) (contents : RefT (List ℕ))
       → extended-length-reads.Learnt κs (to, (from, (contents, tt))) n (to, (from, (contents, tt)))
       → ExportedLength o (extended to from (contents .now)) (toldWritten n)
@@ -68,17 +68,17 @@ pub data ExportedRead : Origin → (w out : List ℕ) → Answer FrameOutline �
   read-slice : (n : ℕ) (κs : Lfts 2) (wire out out′ : RefT (List ℕ))
       → read-reads.Learnt κs (wire, (out, tt)) n (wire, (out′, tt))
       → ExportedRead Live (wire .now) (out .now) (toldRead n) (out′ .now)
-  read-trace-slice : (n : ℕ) (κs : Lfts 2) (wire out out′ : RefT (List ℕ))
-      → trace-read-reads.Learnt κs (wire, (out, tt)) n (wire, (out′, tt))
-      → ExportedRead Trace (wire .now) (out .now) (toldRead n) (out′ .now)
+  read-at : {o : Origin} (n : ℕ) (κs : Lfts 2) (wire out out′ : RefT (List ℕ))
+      → read-at-reads.Learnt κs (o, (wire, (out, tt))) n (o, (wire, (out′, tt)))
+      → ExportedRead o (wire .now) (out .now) (toldRead n) (out′ .now)
 
 -- Each tells and leaves what the definitions say.
 pub exported-writes : {o : Origin} {f : Frame} {out last : List ℕ} {a : Answer ℕ} → ExportedWrite o f out a last
     → Writes (sentDraft o f) out a last
 exported-writes (wrote-standard n κs contents out out′ e) =
     (frame-told Live n (standard (contents .now)) (length (out .now)) (e .0), e .1)
-exported-writes (wrote-trace-standard n κs contents out out′ e) =
-    (frame-told Trace n (standard (contents .now)) (length (out .now)) (e .0), e .1)
+exported-writes {o} (wrote-standard-at n κs contents out out′ e) =
+    (frame-told o n (standard (contents .now)) (length (out .now)) (e .0), e .1)
 exported-writes {o} (wrote-extended {to = to} {from = from} n κs contents out out′ e) =
     let f = extended to from (contents .now) in
     subst (λ (d : Draft). Writes d (out .now) (toldWritten n) (out′ .now)) (one-draft o to from (contents .now))
@@ -87,15 +87,14 @@ exported-writes {o} (wrote-extended {to = to} {from = from} n κs contents out o
 pub exported-measures : {o : Origin} {f : Frame} {m : Answer ℕ} → ExportedLength o f m
     → m ≡ through length (sentDraft o f)
 exported-measures (measured-standard n κs contents e) = length-told Live n (standard (contents .now)) e
-exported-measures (measured-trace-standard n κs contents e) = length-told Trace n (standard (contents .now)) e
+exported-measures {o} (measured-standard-at n κs contents e) = length-told o n (standard (contents .now)) e
 exported-measures {o} (measured-extended {to = to} {from = from} n κs contents e) =
     length-told Live n (extended to from (contents .now)) e ∙ ap (through length) (one-draft o to from (contents .now))
 
 pub exported-reads : {o : Origin} {w out last : List ℕ} {a : Answer FrameOutline} → ExportedRead o w out a last
     → Reads o w out a last
 exported-reads (read-slice n κs wire out out′ e) = (slice-told Live n (wire .now) (length (out .now)) (e .0), e .1)
-exported-reads (read-trace-slice n κs wire out out′ e) =
-    (slice-told Trace n (wire .now) (length (out .now)) (e .0), e .1)
+exported-reads {o} (read-at n κs wire out out′ e) = (slice-told o n (wire .now) (length (out .now)) (e .0), e .1)
 
 -- ---- demand 1: the tables
 

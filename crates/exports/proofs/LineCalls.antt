@@ -1,6 +1,6 @@
--- Demand 3 of the exported calls: `csafe_feed` or `csafe_trace_feed`, and `csafe_finish`, in any order, known by nothing
--- but what the contracts tell the portal. It has the number that is answered, the array, the number of the state and the
--- count.
+-- Demand 3 of the exported calls: `csafe_feed`, or `feed` at an origin, and `csafe_finish`, in any order, known by
+-- nothing but what the contracts tell the portal. It has the number that is answered, the array, the number of the state
+-- and the count.
 use mathlib.Core.Path.{_≡_, refl, sym, ap, ap₂, _∙_, subst}
 use mathlib.Core.List.{List, [], _∷_, map}
 use native.Mathlib.Omega.{arith}
@@ -33,7 +33,7 @@ use Rattle.exports.specs.LineAnswers.{fedTo, FedAs}
 use Rattle.exports.proofs.LineAnswerLaws.{fed-next, finished-next}
 use Rattle.exports.proofs.LineToldLaws.{fed-told, finish-told}
 use Rattle.exports.proofs.csafe_feed.Reads as feed-reads
-use Rattle.exports.proofs.csafe_trace_feed.Reads as trace-feed-reads
+use Rattle.exports.proofs.feed.Reads as feed-at-reads
 use Rattle.exports.proofs.csafe_finish.Reads as finish-reads
 
 -- ---- one call
@@ -47,10 +47,11 @@ pub data ExportedLine : Origin → LentLine → List Call → ℕ → List Outco
       → ExportedLine Live (lentLine (bytes .now) (state .now)) (feed (input .now)) (taken′ .now)
       (byByte (taken′ .now) (outcomeOf (toldLine n) (bytes′ .now)))
       (lentLine (bytes′ .now) (state′ .now))
-  fed-trace : (κs : Lfts 4) (bytes bytes′ : RefT (List ℕ)) (state state′ : RefT ℕ) (input : RefT (List ℕ))
+  fed-at : {o : Origin} (κs : Lfts 4) (bytes bytes′ : RefT (List ℕ)) (state state′ : RefT ℕ) (input : RefT (List ℕ))
       (taken taken′ : RefT ℕ) (n : ℕ)
-      → trace-feed-reads.Learnt κs (bytes, (state, (input, (taken, tt)))) n (bytes′, (state′, (input, (taken′, tt))))
-      → ExportedLine Trace (lentLine (bytes .now) (state .now)) (feed (input .now)) (taken′ .now)
+      → feed-at-reads.Learnt κs (o, (bytes, (state, (input, (taken, tt))))) n
+      (o, (bytes′, (state′, (input, (taken′, tt)))))
+      → ExportedLine o (lentLine (bytes .now) (state .now)) (feed (input .now)) (taken′ .now)
       (byByte (taken′ .now) (outcomeOf (toldLine n) (bytes′ .now)))
       (lentLine (bytes′ .now) (state′ .now))
   ended : {o : Origin} (κs : Lfts 1) {bytes : List ℕ} (state state′ : RefT ℕ) (n : ℕ)
@@ -85,21 +86,22 @@ pub fed-to-answer : (κs : Lfts 4) (bytes bytes′ : RefT (List ℕ)) (state sta
 fed-to-answer κs bytes bytes′ state state′ input taken taken′ n k =
     fed-takes-to-answer Live n (bytes .now) (bytes′ .now) (input .now) (state .now) (state′ .now) (taken′ .now) k
 
--- So does `csafe_trace_feed`.
-pub trace-fed-to-answer : (κs : Lfts 4) (bytes bytes′ : RefT (List ℕ)) (state state′ : RefT ℕ) (input : RefT (List ℕ))
-    (taken taken′ : RefT ℕ) (n : ℕ)
-    → trace-feed-reads.Learnt κs (bytes, (state, (input, (taken, tt)))) n (bytes′, (state′, (input, (taken′, tt))))
+-- So does `feed`, at either origin.
+pub fed-at-to-answer : (o : Origin) (κs : Lfts 4) (bytes bytes′ : RefT (List ℕ)) (state state′ : RefT ℕ)
+    (input : RefT (List ℕ)) (taken taken′ : RefT ℕ) (n : ℕ)
+    → feed-at-reads.Learnt κs (o, (bytes, (state, (input, (taken, tt))))) n
+    (o, (bytes′, (state′, (input, (taken′, tt)))))
     → TakenToAnswer (cutChunk (input .now)) (taken′ .now) (outcomeOf (toldLine n) (bytes′ .now))
-trace-fed-to-answer κs bytes bytes′ state state′ input taken taken′ n k =
-    fed-takes-to-answer Trace n (bytes .now) (bytes′ .now) (input .now) (state .now) (state′ .now) (taken′ .now) k
+fed-at-to-answer o κs bytes bytes′ state state′ input taken taken′ n k =
+    fed-takes-to-answer o n (bytes .now) (bytes′ .now) (input .now) (state .now) (state′ .now) (taken′ .now) k
 
 -- The bytes taken, and a finish, are answered, and leave the reader, as they do singly.
 pub exported-takes : (o : Origin) (l l′ : LentLine) (given : List Call) (taken : ℕ) (outcomes : List Outcome)
     → ExportedLine o l given taken outcomes l′ → TakesFirst (readerOf o l) given taken outcomes (readerOf o l′)
 exported-takes o l l′ given m outcomes (fed κs bytes bytes′ state state′ input taken taken′ n k) =
     fed-takes Live n (bytes .now) (bytes′ .now) (input .now) (state .now) (state′ .now) (taken′ .now) k
-exported-takes o l l′ given m outcomes (fed-trace κs bytes bytes′ state state′ input taken taken′ n k) =
-    fed-takes Trace n (bytes .now) (bytes′ .now) (input .now) (state .now) (state′ .now) (taken′ .now) k
+exported-takes o l l′ given m outcomes (fed-at κs bytes bytes′ state state′ input taken taken′ n k) =
+    fed-takes o n (bytes .now) (bytes′ .now) (input .now) (state .now) (state′ .now) (taken′ .now) k
 exported-takes o l l′ given m outcomes (ended κs {bytes = bytes} state state′ n k) =
     let r = readerIn o bytes (state .now) in (
       omega arith,

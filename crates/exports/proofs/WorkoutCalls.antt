@@ -110,7 +110,7 @@ pub exported-workout-frame-exactly : {to : ℕ} {w : Programmed} {out last : Lis
 exported-workout-frame-exactly {to} {w} {out} {last} {a} k b left =
     frame-writes-exactly pm3Limits to w out a b last left (exported-workout-frames k .writes)
 
--- The bytes that a workout went out in are read back by `csafe_read`, and by `csafe_trace_read`, with room for 23 bytes:
+-- The bytes that a workout went out in are read back by `csafe_read`, and by `read` at any origin, with room for 23 bytes:
 -- the frame from 00 to the address, and its contents, by the library's `read_workout`, as the workout.
 pub exported-workout-frame-reads-back : {o : Origin} {to : ℕ} {w : Programmed} {out last into left : List ℕ} {n : ℕ}
     {a : Answer FrameOutline}
@@ -121,7 +121,7 @@ exported-workout-frame-reads-back {o} {to} {w} {out} {last} {into} {left} {n} {a
     let q = frame-reads-back o to w last n into a left s (exported-reads r) room in
     (q .0, λ b l. call-reads l .answered ∙ ap (workoutAnswer pm3Limits) (q .1) ∙ s .back)
 
--- Fed to `csafe_feed`, or to `csafe_trace_feed`, in any chunks, from any reader outside of a candidate, they are told as
+-- Fed to `csafe_feed`, or to `feed` at any origin, in any chunks, from any reader outside of a candidate, they are told as
 -- that frame alone, and its contents are read as the workout.
 pub exported-workout-frame-told : {o : Origin} {to : ℕ} {w : Programmed} {out last : List ℕ} {n : ℕ}
     {outcomes : List Outcome}

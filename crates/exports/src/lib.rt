@@ -1,6 +1,6 @@
 // The portal's functions: frames, the line reader, workouts and leases, called with numbers and byte slices.
-// Document 01, "What the box does"; document 02, No. 9. The frame calls are live but for those whose name says that they
-// are of traces.
+// Document 01, "What the box does"; document 02, No. 9. The exported functions are live; those for traces stand in
+// another static library, `trace_exports`, over the functions that take an origin.
 mod line_state;
 mod packed;
 
@@ -20,7 +20,7 @@ ghost use Rattle.frame.specs.Frame.{standard, extended};
 ghost use Rattle.frame.specs.Verdict.{verdict};
 ghost use Rattle.frame.specs.Origin.{admit};
 ghost use Rattle.frame.specs.Answers.{frameDraft, sentDraft, readAnswer, readOut};
-ghost use Rattle.frame.specs.declared.Origin.the-variants.{Live, Trace};
+ghost use Rattle.frame.specs.declared.Origin.the-variants.{Live};
 ghost use Rattle.workout.specs.Limits.{pm3Limits};
 ghost use Rattle.workout.specs.Workout.{Programmed, programmed};
 ghost use Rattle.workout.specs.Answers.{workoutDraft, workoutFrameDraft};
@@ -111,49 +111,6 @@ pub extern "C" fn csafe_finish(state: &mut u64) -> u64
     *state = line_state::pack_state(after);
     let told = ended.told;
     packed::of_told(told)
-}
-
-// Writes a standard frame that stands in a trace. Refusals 2 and 1.
-#[no_mangle]
-pub extern "C" fn csafe_trace_write_standard(contents: &[u8], out: &mut [u8]) -> u64
-    ensures { λ r. ⌜ Tells r
-        (writeFields (draftAnswer (sentDraft Trace (standard (now (contents .entry)))) (length (now (out .entry))))) ⌝ }
-    ensures { λ r. ⌜ now (out .exit) ≡ draftOut (sentDraft Trace (standard (now (contents .entry))))
-        (now (out .entry)) ⌝ }
-{
-    write_standard(Origin::Trace, contents, out)
-}
-
-// How many bytes a standard frame takes that stands in a trace. Refusal 2.
-#[no_mangle]
-pub extern "C" fn csafe_trace_standard_length(contents: &[u8]) -> u64
-    ensures { λ r. ⌜ Tells r (writeFields (through length (sentDraft Trace (standard (now (contents .entry)))))) ⌝ }
-{
-    standard_length(Origin::Trace, contents)
-}
-
-// Reads one frame of a trace. Refusals 6, 2, 3, 4, 5 and 1.
-#[no_mangle]
-pub extern "C" fn csafe_trace_read(wire: &[u8], out: &mut [u8]) -> u64
-    ensures { λ r. ⌜ Tells r
-        (readFields (readAnswer (admit Trace (verdict (now (wire .entry)))) (length (now (out .entry))))) ⌝ }
-    ensures { λ r. ⌜ now (out .exit) ≡ readOut (admit Trace (verdict (now (wire .entry)))) (now (out .entry)) ⌝ }
-{
-    read(Origin::Trace, wire, out)
-}
-
-// Feeds a chunk of a trace to a line reader, as `csafe_feed` does one of the live line. `csafe_finish` ends its input.
-#[no_mangle]
-pub extern "C" fn csafe_trace_feed(
-    bytes: &mut [u8; 118],
-    state: &mut u64,
-    input: &[u8],
-    taken: &mut u64,
-) -> u64
-    ensures { λ r. ⌜ FedAs r (now (bytes .exit)) (now (state .exit)) (now (taken .exit))
-        (fedTo Trace (now (bytes .entry)) (now (state .entry)) (now (input .entry))) ⌝ }
-{
-    feed(Origin::Trace, bytes, state, input, taken)
 }
 
 // Writes the contents of a workout over a distance. Refusals 12 and 1.
@@ -283,7 +240,8 @@ pub extern "C" fn csafe_stop(table: &[u8], address: u32, token: u64, out: &mut [
 
 // ---- frames, at an origin
 
-fn write_standard(origin: Origin, contents: &[u8], out: &mut [u8]) -> u64
+// Writes a standard frame. Refusals 17, live, then 2 and 1.
+pub fn write_standard(origin: Origin, contents: &[u8], out: &mut [u8]) -> u64
     ensures { λ r. ⌜ Tells r (writeFields
         (draftAnswer (sentDraft origin (standard (now (contents .entry)))) (length (now (out .entry))))) ⌝ }
     ensures { λ r. ⌜ now (out .exit) ≡ draftOut (sentDraft origin (standard (now (contents .entry))))
@@ -293,14 +251,16 @@ fn write_standard(origin: Origin, contents: &[u8], out: &mut [u8]) -> u64
     packed::of_written(written)
 }
 
-fn standard_length(origin: Origin, contents: &[u8]) -> u64
+// How many bytes a standard frame takes on the wire. Refusals 17, live, and 2.
+pub fn standard_length(origin: Origin, contents: &[u8]) -> u64
     ensures { λ r. ⌜ Tells r (writeFields (through length (sentDraft origin (standard (now (contents .entry)))))) ⌝ }
 {
     let length = frame::standard_length(origin, contents);
     packed::of_length(length)
 }
 
-fn read(origin: Origin, wire: &[u8], out: &mut [u8]) -> u64
+// Reads one frame. Refusals 6, 2, 3, 4 and 5, live 17, and 1.
+pub fn read(origin: Origin, wire: &[u8], out: &mut [u8]) -> u64
     ensures { λ r. ⌜ Tells r
         (readFields (readAnswer (admit origin (verdict (now (wire .entry)))) (length (now (out .entry))))) ⌝ }
     ensures { λ r. ⌜ now (out .exit) ≡ readOut (admit origin (verdict (now (wire .entry)))) (now (out .entry)) ⌝ }
@@ -309,7 +269,8 @@ fn read(origin: Origin, wire: &[u8], out: &mut [u8]) -> u64
     packed::of_read(read)
 }
 
-fn feed(
+// Feeds a chunk to the line reader of this origin that the array and the number are, as `csafe_feed` does to a live one.
+pub fn feed(
     origin: Origin,
     bytes: &mut [u8; 118],
     state: &mut u64,

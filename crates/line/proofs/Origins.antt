@@ -1,6 +1,5 @@
 -- Document 02, No. 9, of the line reader's calls, in each form that a caller has: a reader keeps its origin, a live one
--- never tells a standard frame, one of a trace is never
--- answered 17, and otherwise the two origins are answered alike.
+-- never tells a standard frame, one of a trace is never answered 17, and otherwise the two origins are answered alike.
 use mathlib.Core.Path.{_≡_, refl, sym, ap, _∙_, subst}
 use mathlib.Core.List.{List, [], _∷_, map}
 use native.Mathlib.Omega.{arith}

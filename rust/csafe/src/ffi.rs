@@ -1,7 +1,7 @@
-//! The boundary to the static library, and the only module with unsafe code.
+//! The boundary to the two static libraries, and the only module with unsafe code.
 //!
-//! The declarations stand in the order and with the names of `csafe.h`. The test `declarations` compares both with the
-//! exported functions of the Rattle source, name by name and type by type.
+//! The declarations stand in the order and with the names of `csafe.h`, those of the library for traces last. The test
+//! `declarations` compares both with the exported functions of the Rattle source, name by name and type by type.
 
 use core::sync::atomic::{compiler_fence, Ordering};
 
@@ -19,10 +19,6 @@ mod exported {
         pub fn csafe_read(wire: *const u8, wire_len: usize, out: *mut u8, out_len: usize) -> u64;
         pub fn csafe_feed(bytes: *mut u8, state: *mut u64, input: *const u8, input_len: usize, taken: *mut u64) -> u64;
         pub fn csafe_finish(state: *mut u64) -> u64;
-        pub fn csafe_trace_write_standard(contents: *const u8, contents_len: usize, out: *mut u8, out_len: usize) -> u64;
-        pub fn csafe_trace_standard_length(contents: *const u8, contents_len: usize) -> u64;
-        pub fn csafe_trace_read(wire: *const u8, wire_len: usize, out: *mut u8, out_len: usize) -> u64;
-        pub fn csafe_trace_feed(bytes: *mut u8, state: *mut u64, input: *const u8, input_len: usize, taken: *mut u64) -> u64;
         pub fn csafe_write_distance_workout(metres: u32, split_metres: u32, watts: u16, out: *mut u8, out_len: usize) -> u64;
         pub fn csafe_write_time_workout(seconds: u32, split_hundredths: u32, watts: u16, out: *mut u8, out_len: usize) -> u64;
         pub fn csafe_write_distance_workout_frame(address: u32, metres: u32, split_metres: u32, watts: u16, out: *mut u8, out_len: usize) -> u64;
@@ -30,6 +26,10 @@ mod exported {
         pub fn csafe_hold(table: *mut u8, table_len: usize, address: u32, token: u64) -> u64;
         pub fn csafe_release(table: *mut u8, table_len: usize, address: u32, token: u64) -> u64;
         pub fn csafe_stop(table: *const u8, table_len: usize, address: u32, token: u64, out: *mut u8, out_len: usize) -> u64;
+        pub fn csafe_trace_write_standard(contents: *const u8, contents_len: usize, out: *mut u8, out_len: usize) -> u64;
+        pub fn csafe_trace_standard_length(contents: *const u8, contents_len: usize) -> u64;
+        pub fn csafe_trace_read(wire: *const u8, wire_len: usize, out: *mut u8, out_len: usize) -> u64;
+        pub fn csafe_trace_feed(bytes: *mut u8, state: *mut u64, input: *const u8, input_len: usize, taken: *mut u64) -> u64;
     }
 }
 

@@ -1,11 +1,15 @@
-//! The C header, as programs in C and C++ see it: `portal.c` is compiled against `csafe.h` and the archive, and run.
+//! The C header, as programs in C and C++ see it: `portal.c` is compiled against `csafe.h` and the archives, and run.
 
 use std::collections::BTreeSet;
+use std::fs;
 use std::path::{Path, PathBuf};
 use std::process::Command;
 
 const HEADER: &str = include_str!("../csafe.h");
 const PROGRAM: &str = include_str!("portal.c");
+
+const LIVE_ARCHIVE: &str = "libexports.a";
+const TRACE_ARCHIVE: &str = "libtrace_exports.a";
 
 const EXPECTED: &str = "\
 write_standard: 17 unnamed to=00 from=00 len=0
@@ -144,7 +148,7 @@ fn functions(source: &str) -> BTreeSet<&str> {
 #[test]
 fn the_program_calls_every_function_of_the_header() {
     let declared = functions(HEADER);
-    // Eighteen of the archive, and five that take an answer apart.
+    // Eighteen of the archives, and five that take an answer apart.
     assert_eq!(declared.len(), 23);
     assert_eq!(functions(PROGRAM), declared);
 }
@@ -157,6 +161,22 @@ fn a_c_program_gets_the_expected_answers() {
 #[test]
 fn a_cpp_program_gets_the_expected_answers() {
     check(&compiled("c++", "-std=c++11", "c++"));
+}
+
+/// A portal that links the archive of the live line alone has no function that takes a standard frame.
+#[test]
+fn the_functions_for_traces_stand_in_an_archive_of_their_own() {
+    let names_a_trace = |archive: &str| {
+        let bytes = fs::read(archive_in(archive)).expect("the archive is read");
+        let name = b"csafe_trace_";
+        bytes.windows(name.len()).any(|window| window == name)
+    };
+    assert!(!names_a_trace(LIVE_ARCHIVE));
+    assert!(names_a_trace(TRACE_ARCHIVE));
+}
+
+fn archive_in(archive: &str) -> PathBuf {
+    Path::new(env!("CSAFE_ARCHIVES")).join(archive)
 }
 
 fn check(program: &Path) {
@@ -178,7 +198,7 @@ fn compiled(compiler: &str, standard: &str, language: &str) -> PathBuf {
         .args(["-x", language])
         .arg(package.join("tests").join("portal.c"))
         .args(["-x", "none"])
-        .arg(env!("CSAFE_ARCHIVE"))
+        .args([LIVE_ARCHIVE, TRACE_ARCHIVE].map(archive_in))
         .arg("-o")
         .arg(&program)
         .output()

@@ -1,4 +1,4 @@
-//! Changed copies of the three files, each of which has to be told apart.
+//! Changed copies of the files, each of which has to be told apart.
 
 use crate::Texts;
 

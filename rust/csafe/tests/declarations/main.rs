@@ -1,7 +1,7 @@
-//! The declarations of the exported functions, in `src/ffi.rs` and in `csafe.h`, against the Rattle source: name by
-//! name, parameter by parameter, type by type, in order and both ways.
+//! The declarations of the exported functions, in `src/ffi.rs` and in `csafe.h`, against the Rattle source of both
+//! static libraries: name by name, parameter by parameter, type by type, in order and both ways.
 //!
-//! The readers of the three files know what stands there and nothing else. Anything else fails the tests.
+//! The readers of the files know what stands there and nothing else. Anything else fails the tests.
 
 mod changes;
 mod extern_block;
@@ -21,7 +21,10 @@ use signature::{compare, without_array_lengths};
 /// The refusals that the exported functions give.
 const GIVEN: [u8; 13] = [1, 2, 3, 4, 5, 6, 9, 10, 11, 12, 14, 17, 18];
 
-/// The three files.
+/// The crates whose functions are exported: those of the live line first, then those of stored traces.
+const CRATES: [&str; 2] = ["exports", "trace_exports"];
+
+/// The files. The sources of the crates stand one after the other.
 struct Texts {
     source: String,
     ffi: String,
@@ -31,7 +34,9 @@ struct Texts {
 impl Texts {
     fn read() -> Texts {
         Texts {
-            source: text(&exports().join("lib.rt")),
+            source: CRATES
+                .map(|name| text(&source_of(name).join("lib.rt")))
+                .concat(),
             ffi: text(&package().join("src/ffi.rs")),
             header: text(&package().join("csafe.h")),
         }
@@ -55,8 +60,8 @@ fn package() -> &'static Path {
     Path::new(env!("CARGO_MANIFEST_DIR"))
 }
 
-fn exports() -> PathBuf {
-    package().join("../../crates/exports/src")
+fn source_of(name: &str) -> PathBuf {
+    package().join("../../crates").join(name).join("src")
 }
 
 fn text(path: &Path) -> String {
@@ -73,7 +78,8 @@ fn the_declarations_are_those_of_the_source() {
 
 #[test]
 fn no_other_file_of_the_source_exports() {
-    for entry in fs::read_dir(exports()).expect("the source is there") {
+    let sources = CRATES.map(|name| fs::read_dir(source_of(name)).expect("the source is there"));
+    for entry in sources.into_iter().flatten() {
         let path = entry.expect("a file of the source").path();
         if path.file_name().is_some_and(|name| name != "lib.rt") {
             let exported = rattle::exported(&text(&path));
