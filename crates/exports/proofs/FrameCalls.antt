@@ -5,17 +5,17 @@
 use Prim.Native.Nat.{ℕ, _≤_}
 use mathlib.Core.Path.{_≡_, refl, ap, _∙_, subst}
 use mathlib.Core.List.{List, _++_}
-use lib.ListN.{length, getD, take, drop}
+use lib.ListN.{length, take, drop}
 use contract.Lifetimes.{Lfts}
 use denote.Ref.{RefT}
 use Rattle.lists.specs.Choice.{Exactly}
 use Rattle.answer.specs.Answer.{Answer, result, refused, through}
 use Rattle.answer.specs.Draft.{Draft, Writes, Foretells}
 use Rattle.answer.proofs.Drafts.{foretold}
-use Rattle.frame.specs.Flags.{startFlag}
 use Rattle.frame.specs.Frame.{Frame, standard, extended, contentsOf, frameKind, wireOf}
 use Rattle.frame.specs.Answers.{FrameOutline, standardOutline, outlineOf, sentDraft, frameRead, Reads}
-use Rattle.frame.specs.Conditions.{SenderNamed, Sound, SoundFrame, ReadJudged, WriteJudged, notSent, LengthJudged}
+use Rattle.frame.specs.Conditions.{SenderNamed, Sound, SoundFrame, NoStandard, ReadJudged, WriteJudged, notSent}
+use Rattle.frame.specs.Conditions.{LengthJudged}
 use Rattle.frame.specs.declared.Origin.{Origin}
 use Rattle.frame.specs.declared.Origin.the-variants.{Live, Trace}
 use Rattle.frame.specs.declared.Kind.the-variants.{Standard}
@@ -149,9 +149,9 @@ pub exported-live-extended : {w out last : List ℕ} {a : Answer FrameOutline} �
     → (len : ℕ) → a ≡ result (standardOutline len) → ⊥
 exported-live-extended {w} {out} {last} {a} k = live-extended w out a last (exported-reads k)
 
--- Calls at any two origins that read a slice which does not begin with F1 are answered alike, and leave the same.
+-- Calls at any two origins that read a slice which is no sound standard frame are answered alike, and leave the same.
 pub exported-agree : {o p : Origin} {w out last left : List ℕ} {a b : Answer FrameOutline} → ExportedRead o w out a last
-    → ExportedRead p w out b left → (getD w 0 0 ≡ startFlag Standard → ⊥) → (a ≡ b) × (last ≡ left)
+    → ExportedRead p w out b left → NoStandard w → (a ≡ b) × (last ≡ left)
 exported-agree {o} {p} {w} {out} {last} {left} {a} {b} k l =
     origins-agree o p w out a b last left (exported-reads k) (exported-reads l)
 

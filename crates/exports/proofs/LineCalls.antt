@@ -2,20 +2,23 @@
 -- nothing but what the contracts tell the portal. It has the number that is answered, the array, the number of the state
 -- and the count.
 use mathlib.Core.Path.{_≡_, refl, sym, ap, ap₂, _∙_, subst}
-use mathlib.Core.List.{List, [], _∷_, map}
+use mathlib.Core.List.{List, [], _∷_, _++_, map}
 use native.Mathlib.Omega.{arith}
 use Prim.Native.Nat.{ℕ}
 use contract.Lifetimes.{Lfts}
 use denote.Ref.{RefT}
-use Rattle.lists.specs.Choice.{Every}
+use Rattle.lists.specs.Choice.{Every, EachPair, Exactly}
 use Rattle.lists.specs.Machine.{RanBy, Through, AnsweredBy}
 use Rattle.lists.proofs.Machines.{ran-by-run, through-ran}
 use Rattle.framing.specs.Reference.{Call, finish}
 use Rattle.framing.specs.Demand3.{feed, Demand3}
 use Rattle.framing.proofs.Restart.{demand3-of}
+use Rattle.answer.specs.Answer.{refused}
+use Rattle.frame.specs.Frame.{standard}
+use Rattle.frame.specs.Conditions.{Terminated, SoundFrame}
 use Rattle.frame.specs.declared.Origin.{Origin}
 use Rattle.frame.specs.declared.Origin.the-variants.{Live, Trace}
-use Rattle.line.specs.Outcome.{Outcome, Summary, outcomeOf, NamesSender, Not17}
+use Rattle.line.specs.Outcome.{Outcome, judged, Summary, outcomeOf, NotStandard, Not17}
 use Rattle.line.specs.Rowing.{rowing, outcomeFrom, UnnamedLive}
 use Rattle.line.specs.Reader.{outcomeAt, nextAfter, AsNew}
 use Rattle.line.specs.Feed.{cutChunk}
@@ -25,7 +28,7 @@ use Rattle.line.proofs.Follows.{as-new-follows}
 use Rattle.line.proofs.FeedBounds.{feed-origin}
 use Rattle.line.proofs.ChunkLaws.{takes-to-answer, takes-first}
 use Rattle.line.proofs.ChunkCalls.{feed-whole}
-use Rattle.line.proofs.Origins.{live-run, trace-run, every-unnamed, reference-from}
+use Rattle.line.proofs.Origins.{live-run, trace-run, each-unnamed, reference-from, judged-last}
 use Rattle.exports.specs.Told.{toldLine}
 use Rattle.exports.specs.LineState.{readerIn}
 use Rattle.exports.specs.LentLine.{LentLine, lentLine, newLine, readerOf}
@@ -142,9 +145,9 @@ new-line-as-new o = record { array = refl; outside-is = refl; origin-is = refl }
 
 -- No call in a row of `csafe_feed` and `csafe_finish`, from any array and any number, tells a standard frame.
 pub exported-live-named : {l last : LentLine} {calls : List Call} {outcomes : List Outcome}
-    → RanBy (ExportedLine Live) l calls outcomes last → Every NamesSender outcomes
+    → RanBy (ExportedLine Live) l calls outcomes last → Every NotStandard outcomes
 exported-live-named {l} {last} {calls} k =
-    subst (Every NamesSender) (sym (exported-singly k .outcomes-are)) (live-run (readerOf Live l) refl calls)
+    subst (Every NotStandard) (sym (exported-singly k .outcomes-are)) (live-run (readerOf Live l) refl calls)
 
 -- The same calls, live and of a trace, on readers that are as new: each outcome of the live ones is that of the trace,
 -- with 17 in place of a standard frame.
@@ -156,13 +159,22 @@ exported-origins-alike {calls} {outcomes} {traced} k t =
     exported-demand-3 Live .same calls outcomes k ∙ reference-from Live calls
     ∙ ap (map (outcomeFrom Live)) (sym (exported-demand-3 Trace .same calls traced t))
 
--- A live outcome is 17 exactly where that of the trace is a standard frame.
+-- Call by call the live outcome is 17 exactly where that of the trace is a standard frame, and is the same everywhere else.
 pub exported-line-17-exactly : {calls : List Call} {outcomes traced : List Outcome}
     → AnsweredBy (ExportedLine Live) (λ l. AsNew Live (readerOf Live l)) calls outcomes
     → AnsweredBy (ExportedLine Trace) (λ l. AsNew Trace (readerOf Trace l)) calls traced
-    → (outcomes ≡ map (outcomeFrom Live) traced) × Every UnnamedLive traced
-exported-line-17-exactly {calls} {outcomes} {traced} k t = (
-  exported-origins-alike k t,
-  every-unnamed traced (subst (Every Not17) (sym (exported-singly (t .ran) .outcomes-are))
-      (trace-run (readerOf Trace (t .start)) refl calls)),
-)
+    → EachPair UnnamedLive outcomes traced
+exported-line-17-exactly {calls} {outcomes} {traced} k t =
+    each-unnamed outcomes traced (exported-origins-alike k t)
+    (subst (Every Not17) (sym (exported-singly (t .ran) .outcomes-are))
+    (trace-run (readerOf Trace (t .start)) refl calls))
+
+-- Whatever calls came before, the last byte of a whole candidate is answered 17 exactly on the live line, where the
+-- candidate is a sound standard frame in a trace.
+pub exported-candidate-17-exactly : (o : Origin) (calls : List Call) (w : List ℕ) (earlier : List Outcome)
+    (last : Outcome)
+    → Terminated w
+    → AnsweredBy (ExportedLine o) (λ l. AsNew o (readerOf o l)) (calls ++ feed w) (earlier ++ last ∷ [])
+    → Exactly (last ≡ judged (refused 17)) ((o ≡ Live) × ((c : List ℕ) × SoundFrame Trace w (standard c)))
+exported-candidate-17-exactly o calls w earlier last t k =
+    judged-last o calls w t earlier last (exported-demand-3 o .same (calls ++ feed w) (earlier ++ last ∷ []) k)

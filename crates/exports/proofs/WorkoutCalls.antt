@@ -2,7 +2,8 @@
 -- `csafe_write_time_workout`, `csafe_write_distance_workout_frame` and `csafe_write_time_workout_frame`, known by nothing
 -- but what their contracts tell a caller, with the answers that their numbers tell.
 use Prim.Native.Nat.{ℕ, _≤_}
-use mathlib.Core.Path.{_≡_, ap, _∙_}
+use mathlib.Core.Path.{_≡_, refl, ap, _∙_}
+use mathlib.Core.Logic.{_⊎_}
 use mathlib.Core.List.{List, [], _∷_}
 use lib.ListN.{length, take}
 use contract.Lifetimes.{Lfts}
@@ -18,15 +19,15 @@ use Rattle.line.specs.Outcome.{Outcome, answersIn}
 use Rattle.line.specs.Rowing.{rowing}
 use Rattle.line.specs.Reader.{AsNew}
 use Rattle.line.proofs.WrittenTold.{reference-told-frame}
-use Rattle.answer.specs.Answer.{Answer, result}
+use Rattle.answer.specs.Answer.{Answer, result, refused}
 use Rattle.workout.specs.Limits.{pm3Limits}
 use Rattle.workout.specs.Workout.{Programmed, distance, time, workoutBytes, workoutFrame}
 use Rattle.workout.specs.Answers.{workoutAnswer}
 use Rattle.workout.specs.Contracts.{WritesWorkout, WritesWorkoutFrame}
 use Rattle.workout.specs.Conditions.{WorkoutWritten, WorkoutFrameWritten}
-use Rattle.workout.proofs.Table.{writes-exactly, frame-writes-exactly}
+use Rattle.workout.proofs.Table.{writes-exactly, frame-writes-exactly, frame-refusals}
 use Rattle.workout.proofs.FrameBack.{frame-back, frame-reads-back}
-use Rattle.workout.proofs.CallLaws.{pm3-writes-read-back}
+use Rattle.workout.proofs.CallLaws.{pm3-writes-read-back, frame-writes-short}
 use Rattle.workout.proofs.Calls.{CalledRead, call-reads}
 use Rattle.exports.specs.Told.{toldWritten}
 use Rattle.exports.specs.LentLine.{readerOf}
@@ -109,6 +110,18 @@ pub exported-workout-frame-exactly : {to : ℕ} {w : Programmed} {out last : Lis
     → Exactly ((a ≡ b) × (last ≡ left)) (WorkoutFrameWritten pm3Limits to w out b left)
 exported-workout-frame-exactly {to} {w} {out} {last} {a} k b left =
     frame-writes-exactly pm3Limits to w out a b last left (exported-workout-frames k .writes)
+
+-- It is refused with 9, 12 or 1 alone.
+pub exported-workout-frame-refusals : {to : ℕ} {w : Programmed} {out last : List ℕ} {n : ℕ}
+    → ExportedWorkoutFrame to w out (refused n) last → (n ≡ 9) ⊎ (n ≡ 12) ⊎ (n ≡ 1)
+exported-workout-frame-refusals {to} {w} {out} {last} {n} k =
+    frame-refusals pm3Limits to w out n last (exported-workout-frame-exactly k (refused n) last .0 (refl, refl))
+
+-- A frame that a call wrote has at most 54 bytes.
+pub exported-workout-frame-short : {to : ℕ} {w : Programmed} {out last : List ℕ} {n : ℕ}
+    → ExportedWorkoutFrame to w out (result n) last → n ≤ 54
+exported-workout-frame-short {to} {w} {out} {last} {n} k =
+    frame-writes-short pm3Limits to w out last n (exported-workout-frames k)
 
 -- The bytes that a workout went out in are read back by `csafe_read`, and by `read` at any origin, with room for 23 bytes:
 -- the frame from 00 to the address, and its contents, by the library's `read_workout`, as the workout.

@@ -24,10 +24,10 @@ modeOf n = pick (eqb n 0) Outside (pick (eqb n 1) InStandard (pick (eqb n 2) InE
 abbrev pub packedState : State → ℕ
 packedState s = digitOf (s .mode) + 4 * s .len
 
--- The state of an origin that a number is. Every number is one.
+-- A number as a state of an origin. Every number is one.
 abbrev pub stateIn : Origin → ℕ → State
 stateIn o n = record { len = n / 4; mode = modeOf (n % 4); origin = o }
 
--- The reader of an origin that an array and a number are.
+-- An array and a number as a reader of an origin.
 abbrev pub readerIn : Origin → List ℕ → ℕ → LineReader
 readerIn o bytes n = lentReader bytes (stateIn o n)

@@ -240,7 +240,7 @@ pub extern "C" fn csafe_stop(table: &[u8], address: u32, token: u64, out: &mut [
 
 // ---- frames, at an origin
 
-// Writes a standard frame. Refusals 17, live, then 2 and 1.
+// Writes a standard frame. Refusals 17, on the live line alone, 2 and 1.
 pub fn write_standard(origin: Origin, contents: &[u8], out: &mut [u8]) -> u64
     ensures { λ r. ⌜ Tells r (writeFields
         (draftAnswer (sentDraft origin (standard (now (contents .entry)))) (length (now (out .entry))))) ⌝ }
@@ -251,7 +251,7 @@ pub fn write_standard(origin: Origin, contents: &[u8], out: &mut [u8]) -> u64
     packed::of_written(written)
 }
 
-// How many bytes a standard frame takes on the wire. Refusals 17, live, and 2.
+// How many bytes a standard frame takes on the wire. Refusals 17, on the live line alone, and 2.
 pub fn standard_length(origin: Origin, contents: &[u8]) -> u64
     ensures { λ r. ⌜ Tells r (writeFields (through length (sentDraft origin (standard (now (contents .entry)))))) ⌝ }
 {
@@ -259,7 +259,7 @@ pub fn standard_length(origin: Origin, contents: &[u8]) -> u64
     packed::of_length(length)
 }
 
-// Reads one frame. Refusals 6, 2, 3, 4 and 5, live 17, and 1.
+// Reads one frame. Refusals 6, 2, 3, 4, 5, 17, on the live line alone, and 1.
 pub fn read(origin: Origin, wire: &[u8], out: &mut [u8]) -> u64
     ensures { λ r. ⌜ Tells r
         (readFields (readAnswer (admit origin (verdict (now (wire .entry)))) (length (now (out .entry))))) ⌝ }

@@ -4,7 +4,7 @@
 use Prim.Native.Nat.{ℕ, _≤_}
 use mathlib.Core.Path.{_≡_, sym, ap, _∙_, subst}
 use mathlib.Core.List.{List, _++_}
-use lib.ListN.{length, getD, take, drop}
+use lib.ListN.{length, take, drop}
 use contract.Lifetimes.{Lfts}
 use denote.Ref.{RefT}
 use Rattle.lists.specs.Choice.{Exactly}
@@ -13,11 +13,11 @@ use Rattle.answer.specs.Draft.{Draft, Writes, Foretells, writtenMeans}
 use Rattle.answer.proofs.Drafts.{foretold}
 use Rattle.numbers.specs.Number.{bytesOf}
 use Rattle.answer.specs.declared.Written.{Written}
-use Rattle.frame.specs.Flags.{startFlag}
 use Rattle.frame.specs.Frame.{Frame, standard, extended, contentsOf, frameKind, wireOf}
 use Rattle.frame.specs.Answers.{FrameOutline, standardOutline, outlineOf, frameDraft, sentDraft, frameRead}
 use Rattle.frame.specs.Answers.{lengthMeans, readMeans, Reads}
-use Rattle.frame.specs.Conditions.{SenderNamed, Sound, SoundFrame, ReadJudged, WriteJudged, LengthJudged}
+use Rattle.frame.specs.Conditions.{SenderNamed, Sound, SoundFrame, NoStandard, ReadJudged, WriteJudged}
+use Rattle.frame.specs.Conditions.{LengthJudged}
 use Rattle.frame.specs.declared.Origin.{Origin}
 use Rattle.frame.specs.declared.Origin.the-variants.{Live, Trace}
 use Rattle.frame.specs.declared.Kind.the-variants.{Standard}
@@ -144,9 +144,9 @@ pub live-tells-extended : {w out last : List ℕ} {a : Answer FrameOutline} → 
     → a ≡ result (standardOutline len) → ⊥
 live-tells-extended {w} {out} {last} {a} k = unnamed.live-extended w out a last (call-reads k)
 
--- Calls at any two origins that read a slice which does not begin with F1 are answered alike, and leave the same.
+-- Calls at any two origins that read a slice which is no sound standard frame are answered alike, and leave the same.
 pub calls-agree : {o p : Origin} {w out last left : List ℕ} {a b : Answer FrameOutline} → CalledRead o w out a last
-    → CalledRead p w out b left → (getD w 0 0 ≡ startFlag Standard → ⊥) → (a ≡ b) × (last ≡ left)
+    → CalledRead p w out b left → NoStandard w → (a ≡ b) × (last ≡ left)
 calls-agree {o} {p} {w} {out} {last} {left} {a} {b} k l =
     unnamed.origins-agree o p w out a b last left (call-reads k) (call-reads l)
 

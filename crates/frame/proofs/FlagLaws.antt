@@ -72,6 +72,10 @@ role-tests b = by-flag (eqb b 0xF0) (eqb b 0xF1) (eqb b 0xF2) refl refl refl
         )
 
 -- The byte of a start flag is that of its kind, and only the stop flag stops.
+pub start-role : (kind : Kind) → roleOf (startFlag kind) ≡ starts
+start-role Standard = refl
+start-role Extended = refl
+
 pub role-start : (b : ℕ) → roleOf b ≡ starts → startFlag (kindOf b) ≡ b
 role-start b e = start-kind b (is-start .0) (is-start .1)
   where

@@ -10,16 +10,16 @@ use denote.Ref.{RefT}
 use Rattle.lists.specs.Choice.{Exactly}
 use Rattle.lists.proofs.Cases.{exactly}
 use Rattle.answer.specs.Answer.{Answer, result, refused}
-use Rattle.frame.specs.Flags.{startFlag, candidateOf}
+use Rattle.frame.specs.Flags.{candidateOf}
 use Rattle.frame.specs.Frame.{Frame, standard, frameKind}
 use Rattle.frame.specs.Verdict.{Verdict, verdict}
 use Rattle.frame.specs.Origin.{admit}
 use Rattle.frame.specs.Answers.{FrameOutline, readMeans, judgeAnswer, leftIn, frameRead}
-use Rattle.frame.specs.Conditions.{Judged, SoundFrame}
+use Rattle.frame.specs.Conditions.{Judged, SoundFrame, NoStandard}
 use Rattle.frame.specs.declared.Origin.{Origin}
 use Rattle.frame.specs.declared.Origin.the-variants.{Live, Trace}
 use Rattle.frame.specs.declared.Kind.{Kind}
-use Rattle.frame.specs.declared.Kind.the-variants.{Standard, Extended}
+use Rattle.frame.specs.declared.Kind.the-variants.{Extended}
 use Rattle.frame.specs.declared.Read.{Read}
 use Rattle.frame.proofs.OriginLaws.{admit-means}
 use Rattle.frame.proofs.Table.{verdict-by-table}
@@ -70,11 +70,22 @@ module _ (κs : Lfts 1) (o : Origin) (kind : Kind) (ρ ρ′ : RefT (List ℕ)) 
   judged-live-extended l f e =
       admit-means o (verdict (candidateOf kind (take len (ρ .now)))) f (sym judged-is ∙ e) .1 l
 
-  -- An extended candidate is answered and left as it is judged by itself, at either origin.
-  pub judged-alike : kind ≡ Extended
+  -- Bytes that are no sound standard frame are answered and left as the candidate is judged by itself, at either
+  -- origin.
+  pub judged-alike : NoStandard (candidateOf kind (take len (ρ .now)))
       → (readMeans r ≡ judgeAnswer (verdict (candidateOf kind (take len (ρ .now)))))
       × (ρ′ .now ≡ leftIn (verdict (candidateOf kind (take len (ρ .now)))) (ρ .now))
-  judged-alike e =
-      let same = one-verdict o (candidateOf kind (take len (ρ .now)))
-      (λ q. let z : startFlag Extended ≡ startFlag Standard = ap startFlag (sym e) ∙ q in omega arith) in
+  judged-alike n =
+      let same = one-verdict o (candidateOf kind (take len (ρ .now))) n in
       (k .0 ∙ ap judgeAnswer same, k .1 ∙ ap (λ (v : Verdict). leftIn v (ρ .now)) same)
+
+-- So two calls on the same bytes, at any origins, are answered alike and leave the same.
+pub judges-agree : (κs : Lfts 1) (o p : Origin) (kind : Kind) (ρ ρ′ σ′ : RefT (List ℕ)) (len : ℕ) (r s : Read)
+    → judge-array-reads.Learnt κs (o, (kind, (ρ, (len, tt)))) r (o, (kind, (ρ′, (len, tt))))
+    → judge-array-reads.Learnt κs (p, (kind, (ρ, (len, tt)))) s (p, (kind, (σ′, (len, tt))))
+    → NoStandard (candidateOf kind (take len (ρ .now)))
+    → (readMeans r ≡ readMeans s) × (ρ′ .now ≡ σ′ .now)
+judges-agree κs o p kind ρ ρ′ σ′ len r s k l n =
+    let a = judged-alike κs o kind ρ ρ′ len r k n in
+    let b = judged-alike κs p kind ρ σ′ len s l n in
+    (a .0 ∙ sym (b .0), a .1 ∙ sym (b .1))

@@ -45,7 +45,7 @@ sender Live Standard = inr (refl, refl)
 sender Live Extended = inl (extended-named Live)
 sender Trace kind = inl (trace-named kind)
 
--- exactly then it names none
+-- a kind names no sender exactly where the line is live and the kind is the standard one
 pub sender-missing : (o : Origin) (kind : Kind)
     → Exactly (SenderNamed o kind → ⊥) ((o ≡ Live) × (kind ≡ Standard))
 sender-missing Live Standard = ((λ n. (refl, refl)), (λ e. live-standard))
@@ -78,7 +78,7 @@ module _ (o : Origin) (v : Verdict) (f : Frame) where
   pub admit-unnamed : v ≡ result f → (SenderNamed o (frameKind f) → ⊥) → admit o v ≡ refused 17
   admit-unnamed e n = ap (admit o) e ∙ admit-no-sender o f n
 
--- what is accepted at an origin is accepted anyhow, and names its sender there
+-- what is accepted at an origin is what the slice is judged to be, and names its sender there
 pub admit-means : (o : Origin) (v : Verdict) (f : Frame) → admit o v ≡ result f
     → (v ≡ result f) × SenderNamed o (frameKind f)
 admit-means Live (refused n) f e = let z : _≡_ {A = ℕ} 0 1 = cc in absurd (omega arith)

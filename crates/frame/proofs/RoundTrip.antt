@@ -15,7 +15,7 @@ use Rattle.frame.specs.Frame.{Frame, standard, extended, contentsOf, fra
 use Rattle.frame.specs.Verdict.{judgeBytes, verdict}
 use Rattle.frame.specs.Answers.{FrameOutline, outlineOf, sentDraft, frameRead, Reads}
 use Rattle.frame.specs.Conditions.{SenderNamed, Sound, SoundFrame, ReadJudged, refusedBy, noRoom, fits}
-use Rattle.frame.specs.Conditions.{Sent, WriteJudged, notSent, overLimit, noRoomToWrite, written}
+use Rattle.frame.specs.Conditions.{Sendable, WriteJudged, notSent, overLimit, noRoomToWrite, written}
 use Rattle.frame.specs.Origin.{admit}
 use Rattle.frame.specs.declared.Origin.{Origin}
 use Rattle.frame.specs.declared.Origin.the-variants.{Trace}
@@ -120,7 +120,7 @@ module _ (o : Origin) (w out : List ℕ) (a : Answer FrameOutline) (last : List 
 -- the bytes of a frame that was written stand first in the output
 written-wire : (o : Origin) (f : Frame) (out : List ℕ) (a : Answer ℕ) (last : List ℕ) (n : ℕ)
     → WriteJudged o f out a last → a ≡ result n
-    → (take n last ≡ wireOf f) × (length (wireOf f) ≤ 120) × Sent o f
+    → (take n last ≡ wireOf f) × (length (wireOf f) ≤ 120) × Sendable o f
 written-wire o f out a last n (notSent m) e = let z : _≡_ {A = ℕ} 0 1 = cc in absurd (omega arith)
 written-wire o f out a last n (overLimit m l) e = let z : _≡_ {A = ℕ} 0 1 = cc in absurd (omega arith)
 written-wire o f out a last n (noRoomToWrite m l h) e = let z : _≡_ {A = ℕ} 0 1 = cc in absurd (omega arith)

@@ -4,7 +4,7 @@ use Rattle.frame.specs.Frame.{Frame, standard, extended, contentsOf, fra
 use Rattle.frame.specs.Answers.{frameDraft, sentDraft, readAnswer, readOut, Reads, FrameOutline}
 use Rattle.frame.specs.Conditions.{ReadJudged, refusedBy, noRoom, fits, Terminated, WithinLimit, EscapesSound, LongEnough}
 use Rattle.frame.specs.Conditions.{Unstuffs, none, plain, escape, fewest, ChecksumRight, SenderNamed, Sound}
-use Rattle.frame.specs.Conditions.{SoundFrame, Sent}
+use Rattle.frame.specs.Conditions.{SoundFrame, Sendable}
 use Rattle.frame.specs.Conditions.{Judged, truncated, long, badEscape as badEscapes, short, badSum, unnamed}
 use Rattle.frame.specs.Conditions.{sound}
 use Rattle.frame.specs.Conditions.{WriteJudged, notSent, overLimit, noRoomToWrite, written}
@@ -340,10 +340,10 @@ over-draft f n =
 
 -- the draft of a frame at an origin, by the first rule that fails
 module _ (o : Origin) (f : Frame) where
-  sent-over : Sent o f → (WithinLimit (wireOf f) → ⊥) → sentDraft o f ≡ refused 2
+  sent-over : Sendable o f → (WithinLimit (wireOf f) → ⊥) → sentDraft o f ≡ refused 2
   sent-over m n = sent-frame o f m ∙ over-draft f n
 
-  sent-fits : Sent o f → WithinLimit (wireOf f) → sentDraft o f ≡ result (wireOf f)
+  sent-fits : Sendable o f → WithinLimit (wireOf f) → sentDraft o f ≡ result (wireOf f)
   sent-fits m l = sent-frame o f m ∙ draft-fits f l
 
   -- A frame is never refused for want of room before it is written.
@@ -351,7 +351,7 @@ module _ (o : Origin) (f : Frame) where
   unfolding frameDraft
   draft-never-1 e = of-sender (sender o (frameKind f))
     where
-      of-sender : Sent o f ⊎ ((o ≡ Live) × (frameKind f ≡ Standard)) → ⊥
+      of-sender : Sendable o f ⊎ ((o ≡ Live) × (frameKind f ≡ Standard)) → ⊥
       of-sender (inl m) =
           let d : frameDraft f ≡ refused 1 = sym (sent-frame o f m) ∙ e in
           by-bool (leb (length (wireOf f)) 120)
@@ -373,7 +373,7 @@ module _ (o : Origin) (f : Frame) (out : List ℕ) where
       writes-done (sentDraft o f) (wireOf f) out _ (sent-fits o f m l) h (sym (simp zero-add))
 
   -- every frame has a line
-  write-line : Sent o f ⊎ ((o ≡ Live) × (frameKind f ≡ Standard))
+  write-line : Sendable o f ⊎ ((o ≡ Live) × (frameKind f ≡ Standard))
       → (a : Answer ℕ) × (last : List ℕ) × WriteJudged o f out a last
   write-line (inr m) = (refused 17, out, notSent (sender-missing o (frameKind f) .1 m))
   write-line (inl m) =
@@ -402,7 +402,7 @@ module _ (o : Origin) (f : Frame) where
   line-length a (tooLong m n) = ap (through length) (sym (sent-over o f m n))
   line-length a (takes m l) = ap (through length) (sym (sent-fits o f m l))
 
-  length-line : Sent o f ⊎ ((o ≡ Live) × (frameKind f ≡ Standard)) → (a : Answer ℕ) × LengthJudged o f a
+  length-line : Sendable o f ⊎ ((o ≡ Live) × (frameKind f ≡ Standard)) → (a : Answer ℕ) × LengthJudged o f a
   length-line (inr m) = (refused 17, notMeasured (sender-missing o (frameKind f) .1 m))
   length-line (inl m) =
       by-bool (leb (length (wireOf f)) 120) (λ y. (result (length (wireOf f)), takes m (leb-true _ _ y)))

@@ -10,11 +10,12 @@ use Rattle.lists.proofs.Cases.{by-bool}
 use Rattle.answer.specs.Answer.{Answer, result, refused, through}
 use Rattle.answer.specs.Draft.{Writes}
 use Rattle.frame.specs.Flags.{startFlag}
-use Rattle.frame.specs.Frame.{Frame, standard, extended, contentsOf, frameKind, wireOf}
+use Rattle.frame.specs.Frame.{Frame, standard, extended, contentsOf, frameKind}
 use Rattle.frame.specs.Verdict.{Verdict, verdict}
 use Rattle.frame.specs.Origin.{admit}
 use Rattle.frame.specs.Answers.{FrameOutline, standardOutline, outlineOf, sentDraft, readAnswer, readOut, Reads}
 use Rattle.frame.specs.Conditions.{Judged, truncated, long, badEscape, short, badSum, unnamed, sound, SoundFrame}
+use Rattle.frame.specs.Conditions.{NoStandard}
 use Rattle.frame.specs.Conditions.{ReadJudged, refusedBy, noRoom, fits}
 use Rattle.frame.specs.Conditions.{WriteJudged, notSent, overLimit, noRoomToWrite, written}
 use Rattle.frame.specs.Conditions.{LengthJudged, notMeasured, tooLong, takes}
@@ -25,7 +26,6 @@ use Rattle.frame.proofs.OriginLaws.{trace-live, trace-named, sender-mis
 use Rattle.frame.proofs.VerdictLaws.{answer-refused}
 use Rattle.frame.proofs.Table.{verdict-by-table, accepted-exactly, read-by-table, written-by-table, writes-exactly}
 use Rattle.frame.proofs.Table.{lengths-exactly}
-use Rattle.frame.proofs.RoundTrip.{writes-back}
 
 -- ---- reading
 
@@ -92,21 +92,24 @@ live-extended w out a last p len e = of-line a last (read-by-table Live w out a 
     of-line a last (noRoom s h) e = let z : _≡_ {A = ℕ} 0 1 = cc in omega arith
     of-line a last (fits {f = f} s h) e = let q : outlineOf f ≡ standardOutline len = cc in kind-of f s q
 
--- A slice that does not begin with F1 has one verdict at both origins.
-pub one-verdict : (o : Origin) (w : List ℕ) → (getD w 0 0 ≡ startFlag Standard → ⊥) → admit o (verdict w) ≡ verdict w
-unfolding wireOf
+-- A slice that does not begin with F1 is no sound standard frame.
+pub other-start : (w : List ℕ) → (getD w 0 0 ≡ startFlag Standard → ⊥) → NoStandard w
+other-start w n c s =
+    n (ap (λ (l : List ℕ). getD l 0 0) (s .slice .candidate .shape) ∙ ap startFlag (s .kind-is))
+
+-- A slice that is no sound standard frame has one verdict at both origins.
+pub one-verdict : (o : Origin) (w : List ℕ) → NoStandard w → admit o (verdict w) ≡ verdict w
 one-verdict Trace w n = refl
 one-verdict Live w n = of-verdict (verdict w) refl
   where
     of-verdict : (v : Verdict) → verdict w ≡ v → admit Live v ≡ v
     of-verdict (refused m) e = refl
-    of-verdict (result (standard c)) e =
-        absurd (n (ap (λ (l : List ℕ). getD l 0 0) (sym (writes-back w (standard c) e .0))))
+    of-verdict (result (standard c)) e = absurd (n c (accepted-exactly Trace w (standard c) .0 e))
     of-verdict (result (extended to from c)) e = refl
 
 -- So calls that read it into equal outputs are answered alike, and leave the same.
 pub origins-agree : (o p : Origin) (w out : List ℕ) (a b : Answer FrameOutline) (last left : List ℕ)
-    → Reads o w out a last → Reads p w out b left → (getD w 0 0 ≡ startFlag Standard → ⊥) → (a ≡ b) × (last ≡ left)
+    → Reads o w out a last → Reads p w out b left → NoStandard w → (a ≡ b) × (last ≡ left)
 origins-agree o p w out a b last left k l n =
     let same = one-verdict o w n ∙ sym (one-verdict p w n) in (
       k .0 ∙ ap (λ (v : Verdict). readAnswer v (length out)) same ∙ sym (l .0),

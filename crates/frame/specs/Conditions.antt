@@ -6,12 +6,12 @@ use mathlib.Core.Path.{_≡_}
 use mathlib.Core.List.{List, [], _∷_, _++_}
 use lib.ListN.{length, getD, drop}
 use Rattle.frame.specs.Checksum.{checksum}
-use Rattle.frame.specs.Frame.{Frame, contentsOf, frameKind, payload, wireOf}
+use Rattle.frame.specs.Frame.{Frame, standard, contentsOf, frameKind, payload, wireOf}
 use Rattle.frame.specs.Verdict.{Verdict}
 use Rattle.answer.specs.Answer.{result, refused, Answer}
 use Rattle.frame.specs.Answers.{outlineOf, FrameOutline}
 use Rattle.frame.specs.declared.Origin.{Origin}
-use Rattle.frame.specs.declared.Origin.the-variants.{Live}
+use Rattle.frame.specs.declared.Origin.the-variants.{Live, Trace}
 use Rattle.frame.specs.declared.Kind.{Kind}
 use Rattle.frame.specs.declared.Kind.the-variants.{Standard, Extended}
 use Rattle.framing.specs.Reference.{FlagFree}
@@ -75,6 +75,10 @@ pub record SoundFrame (o : Origin) (w : List ℕ) (f : Frame) : Type 0 where
   pub kind-is : slice .candidate .kind ≡ frameKind f
   pub bytes-are : slice .unstuffed ≡ payload f
 
+-- A slice that demand 2 does not accept in a trace as a standard frame.
+abbrev pub NoStandard : List ℕ → Type 0
+NoStandard w = (contents : List ℕ) → SoundFrame Trace w (standard contents) → ⊥
+
 -- The papers' table with its order: each answer with the rule that fails, where every rule before it holds.
 pub data Judged (o : Origin) (w : List ℕ) : Verdict → Type 0 where
   truncated : (Terminated w → ⊥) → Judged o w (refused 6)
@@ -98,23 +102,23 @@ pub data ReadJudged (o : Origin) (w out : List ℕ) : Answer FrameOutline → Li
   fits : {f : Frame} → SoundFrame o w f → length (contentsOf f) ≤ length out
       → ReadJudged o w out (result (outlineOf f)) (contentsOf f ++ drop (length (contentsOf f)) out)
 
--- A frame that may go to an origin.
-abbrev pub Sent : Origin → Frame → Type 0
-Sent o f = SenderNamed o (frameKind f)
+-- A frame that may be written to an origin.
+abbrev pub Sendable : Origin → Frame → Type 0
+Sendable o f = SenderNamed o (frameKind f)
 
 -- What writing a frame is answered, and the output afterwards: live 17 where it names no sender, then 2 where it is over
 -- the limit, then 1, then its length.
 pub data WriteJudged (o : Origin) (f : Frame) (out : List ℕ) : Answer ℕ → List ℕ → Type 0 where
-  notSent : (Sent o f → ⊥) → WriteJudged o f out (refused 17) out
-  overLimit : Sent o f → (WithinLimit (wireOf f) → ⊥) → WriteJudged o f out (refused 2) out
-  noRoomToWrite : Sent o f → WithinLimit (wireOf f) → length out < length (wireOf f)
+  notSent : (Sendable o f → ⊥) → WriteJudged o f out (refused 17) out
+  overLimit : Sendable o f → (WithinLimit (wireOf f) → ⊥) → WriteJudged o f out (refused 2) out
+  noRoomToWrite : Sendable o f → WithinLimit (wireOf f) → length out < length (wireOf f)
       → WriteJudged o f out (refused 1) out
-  written : Sent o f → WithinLimit (wireOf f) → length (wireOf f) ≤ length out
+  written : Sendable o f → WithinLimit (wireOf f) → length (wireOf f) ≤ length out
       → WriteJudged o f out (result (length (wireOf f))) (wireOf f ++ drop (length (wireOf f)) out)
 
 -- What asking for a frame's length on the wire is answered: live 17 where it names no sender, then 2 where it is over
 -- the limit, else its length.
 pub data LengthJudged (o : Origin) (f : Frame) : Answer ℕ → Type 0 where
-  notMeasured : (Sent o f → ⊥) → LengthJudged o f (refused 17)
-  tooLong : Sent o f → (WithinLimit (wireOf f) → ⊥) → LengthJudged o f (refused 2)
-  takes : Sent o f → WithinLimit (wireOf f) → LengthJudged o f (result (length (wireOf f)))
+  notMeasured : (Sendable o f → ⊥) → LengthJudged o f (refused 17)
+  tooLong : Sendable o f → (WithinLimit (wireOf f) → ⊥) → LengthJudged o f (refused 2)
+  takes : Sendable o f → WithinLimit (wireOf f) → LengthJudged o f (result (length (wireOf f)))

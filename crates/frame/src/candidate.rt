@@ -1,4 +1,5 @@
-// A candidate for a frame, looked at before anything is written: its shape, its escapes, its length and its checksum.
+// A candidate for a frame, looked at before anything is written: its shape, its escapes, its length, its checksum and
+// whether it names its sender.
 use crate::Header;
 use crate::Kind;
 use crate::Origin;

@@ -72,7 +72,8 @@ pub struct Leading {
     pub taken: usize,
 }
 
-// How many bytes a standard frame takes on the wire, which is the room that writing it needs. Refusals 17, live, and 2.
+// How many bytes a standard frame takes on the wire, which is the room that writing it needs. Refusals 17, on the
+// live line alone, and 2.
 pub fn standard_length(origin: Origin, contents: &[u8]) -> WireLength
     ensures { λ r. ⌜ lengthMeans r ≡ through length (sentDraft origin (standard (now (contents .entry)))) ⌝ }
 {
@@ -89,7 +90,7 @@ pub fn extended_length(to: u8, from: u8, contents: &[u8]) -> WireLength
     wire_length(Header::Addressed { to, from }, contents)
 }
 
-// Writes a standard frame. Refusals 17, live, then 2 and 1.
+// Writes a standard frame. Refusals 17, on the live line alone, 2 and 1.
 pub fn write_standard(origin: Origin, contents: &[u8], out: &mut [u8]) -> Written
     ensures { λ r. ⌜ writtenMeans r ≡ draftAnswer (sentDraft origin (standard (now (contents .entry))))
         (length (now (out .entry))) ⌝ }
@@ -136,8 +137,8 @@ pub fn write_extended_number(to: u8, from: u8, number: u64, width: usize, out: &
     }
 }
 
-// Reads a slice that is to be one frame, and puts its contents first in the output. Refusals 6, 2, 3, 4 and 5, live 17,
-// and 1.
+// Reads a slice that is to be one frame, and puts its contents first in the output. Refusals 6, 2, 3, 4, 5, 17, on the
+// live line alone, and 1.
 pub fn read_frame(origin: Origin, wire: &[u8], out: &mut [u8]) -> Read
     ensures { λ r. ⌜ readMeans r ≡ readAnswer (admit origin (verdict (now (wire .entry)))) (length (now (out .entry))) ⌝ }
     ensures { λ r. ⌜ now (out .exit) ≡ readOut (admit origin (verdict (now (wire .entry)))) (now (out .entry)) ⌝ }
@@ -160,7 +161,7 @@ pub fn read_frame(origin: Origin, wire: &[u8], out: &mut [u8]) -> Read
 
 // Reads the candidate that a slice begins with: a start flag, and the stop flag as the next flag, with any number of
 // bytes between them. What follows does not matter. A slice that begins with no closed candidate has 0 bytes taken and
-// is refused with 6. Refusals 6, 2, 3, 4 and 5, live 17, and 1.
+// is refused with 6. Refusals 6, 2, 3, 4, 5, 17, on the live line alone, and 1.
 pub fn read_leading(origin: Origin, s: &[u8], out: &mut [u8]) -> Leading
     ensures { λ r. ⌜ r .taken ≡ leadingCount (now (s .entry)) ⌝ }
     ensures { λ r. ⌜ readMeans (r .read) ≡ readAnswer (admit origin (verdict (take (r .taken) (now (s .entry)))))
@@ -176,8 +177,8 @@ pub fn read_leading(origin: Origin, s: &[u8], out: &mut [u8]) -> Leading
 }
 
 // Judges the candidate that a start flag of this kind, the first `len` bytes of an array (all where it has fewer) and
-// the stop flag make: refusals 6, 2, 3, 4 and 5, and live 17. The contents of an accepted frame are brought to the
-// front; a refusal changes nothing.
+// the stop flag make. The contents of an accepted frame are brought to the front; a refusal changes nothing. Refusals 6,
+// 2, 3, 4, 5 and, on the live line alone, 17.
 pub fn judge_array(origin: Origin, kind: Kind, bytes: &mut [u8; 118], len: usize) -> Read
     ensures { λ r. ⌜ readMeans r
         ≡ judgeAnswer (admit origin (verdict (candidateOf kind (take len (now (bytes .entry)))))) ⌝ }

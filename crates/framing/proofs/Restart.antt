@@ -130,7 +130,7 @@ module _ {A : Type 0} (P : Protocol A) where
     nothing = λ n. rw e (not-left-open D w (fed none D) refl n);
   }
 
-  -- ---- after a candidate that was terminated, and after a finish
+  -- ---- a whole candidate
 
   -- the bytes of an open candidate are answered with nothing
   held-silently : (s body : List ℕ) (rest : List Call) → FlagFree (P .role) body
@@ -144,16 +144,41 @@ module _ {A : Type 0} (P : Protocol A) where
       ∙ ap (λ (t : List ℕ). map (λ (b : ℕ). P .nothing) body ++ from (opened t) rest)
       (append-assoc s (b ∷ []) body)))
 
-  -- A whole candidate is judged at its stop flag, and nothing is answered before it.
-  pub reference-candidate : (flag : ℕ) (body : List ℕ) (b : ℕ) → P .role flag ≡ starts → FlagFree (P .role) body
-      → P .role b ≡ stops
-      → Reference P (feed (flag ∷ (body ++ b ∷ [])))
-      ≡ P .nothing ∷ (map (λ (x : ℕ). P .nothing) body ++ P .judge (flag ∷ (body ++ b ∷ [])) ∷ [])
-  reference-candidate flag body b s f e =
-      rw s (ap (λ (xs : List A). P .nothing ∷ xs)
-      (ap (from (opened (flag ∷ []))) (feed-append body (b ∷ []))
-      ∙ held-silently (flag ∷ []) body (byte b ∷ []) f
-      ∙ ap (λ (xs : List A). map (λ (x : ℕ). P .nothing) body ++ xs) (rw e refl)))
+  module _ (flag : ℕ) (body : List ℕ) (b : ℕ) (s : P .role flag ≡ starts) (f : FlagFree (P .role) body)
+      (e : P .role b ≡ stops) where
+    -- whatever was open, it is judged at its stop flag, and nothing is answered between the flags
+    candidate-from : (k : Candidate)
+        → from k (feed (flag ∷ (body ++ b ∷ [])))
+        ≡ answerTo P k (byte flag) ∷ (map (λ (x : ℕ). P .nothing) body ++ P .judge (flag ∷ (body ++ b ∷ [])) ∷ [])
+    candidate-from k =
+        ap (λ (c : Candidate). answerTo P k (byte flag) ∷ from c (feed (body ++ b ∷ []))) (opens k flag s)
+        ∙ ap (λ (xs : List A). answerTo P k (byte flag) ∷ xs)
+        (ap (from (opened (flag ∷ []))) (feed-append body (b ∷ []))
+        ∙ held-silently (flag ∷ []) body (byte b ∷ []) f
+        ∙ ap (λ (xs : List A). map (λ (x : ℕ). P .nothing) body ++ xs) (rw e refl))
+
+    -- A whole candidate is judged at its stop flag, and nothing is answered before it.
+    pub reference-candidate : Reference P (feed (flag ∷ (body ++ b ∷ [])))
+        ≡ P .nothing ∷ (map (λ (x : ℕ). P .nothing) body ++ P .judge (flag ∷ (body ++ b ∷ [])) ∷ [])
+    reference-candidate =
+        candidate-from none
+        ∙ ap (λ (a : A). a ∷ (map (λ (x : ℕ). P .nothing) body ++ P .judge (flag ∷ (body ++ b ∷ [])) ∷ [])) (rw s refl)
+
+    -- After any calls, too, it is judged at its stop flag.
+    pub reference-judges : (calls : List Call)
+        → (earlier : List A)
+        × (Reference P (calls ++ feed (flag ∷ (body ++ b ∷ []))) ≡ earlier ++ P .judge (flag ∷ (body ++ b ∷ [])) ∷ [])
+    reference-judges calls =
+        let k = leftAfter (candidateAfter P) none calls in
+        let between = answerTo P k (byte flag) ∷ map (λ (x : ℕ). P .nothing) body in
+        let judged = P .judge (flag ∷ (body ++ b ∷ [])) ∷ [] in (
+          Reference P calls ++ between,
+          run-append (answerTo P) (candidateAfter P) none calls (feed (flag ∷ (body ++ b ∷ [])))
+              ∙ ap (λ (xs : List A). Reference P calls ++ xs) (candidate-from k)
+              ∙ sym (append-assoc (Reference P calls) between judged),
+        )
+
+  -- ---- after a candidate that was terminated, and after a finish
 
   -- A call that leaves none open leaves the decoder as new; so does everything that answers as it does.
   pub as-new : (c : Call) → ((k : Candidate) → candidateAfter P k c ≡ none) → (f : List Call → List A)

@@ -1,32 +1,35 @@
 -- Document 02, No. 9, of the line reader's calls, in each form that a caller has: a reader keeps its origin, a live one
 -- never tells a standard frame, one of a trace is never answered 17, and otherwise the two origins are answered alike.
 use mathlib.Core.Path.{_≡_, refl, sym, ap, _∙_, subst}
-use mathlib.Core.List.{List, [], _∷_, map}
+use mathlib.Core.List.{List, [], _∷_, _++_, map}
 use native.Mathlib.Omega.{arith}
 use Prim.Native.Nat.{ℕ}
 use lib.ListN.{take}
-use Rattle.lists.specs.Choice.{Every}
+use Rattle.lists.specs.Choice.{Every, EachPair, Exactly}
 use Rattle.lists.specs.Machine.{run, leftAfter, RanBy, AnsweredBy}
 use Rattle.framing.specs.Reference.{Call, byte, finish, Role, starts, stops, plain, Protocol, Reference}
 use Rattle.framing.specs.Bounded.{BoundedMode, outside, inside, overlong, truncatedIn, terminatedIn}
-use Rattle.framing.specs.Demand3.{toldBy}
-use Rattle.framing.proofs.Restart.{reference-told}
+use Rattle.framing.specs.Demand3.{toldBy, feed}
+use Rattle.framing.proofs.Restart.{reference-told, reference-judges}
 use Rattle.answer.specs.Answer.{result, refused}
-use Rattle.frame.specs.Flags.{roleOf, candidateOf}
+use Rattle.frame.specs.Flags.{startFlag, stopFlag, roleOf, candidateOf}
 use Rattle.frame.specs.Frame.{standard, extended}
 use Rattle.frame.specs.Verdict.{Verdict, verdict}
 use Rattle.frame.specs.Origin.{admit}
+use Rattle.frame.specs.Conditions.{Terminated, SoundFrame}
 use Rattle.frame.specs.declared.Origin.{Origin}
 use Rattle.frame.specs.declared.Origin.the-variants.{Live, Trace}
 use Rattle.frame.specs.declared.Kind.{Kind}
 use Rattle.frame.specs.declared.Kind.the-variants.{Standard, Extended}
 use Rattle.frame.proofs.OriginLaws.{admit-means}
-use Rattle.frame.proofs.Unnamed.{not-17}
-use Rattle.line.specs.Outcome.{Outcome, nothing, judged, NamesSender, Not17}
+use Rattle.frame.proofs.FlagLaws.{start-role}
+use Rattle.frame.proofs.Unnamed.{not-17, unnamed-verdict}
+use Rattle.line.specs.Outcome.{Outcome, nothing, judged, NotStandard, Not17}
 use Rattle.line.specs.Rowing.{rowing, rowingBounds, outcomeFrom, UnnamedLive}
-use Rattle.line.specs.Reader.{originOf, modeSeen, roleStep, turnOf, outcomeAt, nextAfter, AsNew}
+use Rattle.line.specs.Reader.{originOf, modeSeen, roleStep, outcomeAt, nextAfter, AsNew}
 use Rattle.line.specs.declared.LineReader.{LineReader}
 use Rattle.line.proofs.ReaderLaws.{origin-kept}
+use Rattle.line.proofs.Calls.{Made}
 use Rattle.line.proofs.ChunkCalls.{CalledOn, chunks-singly, chunks-demand-3}
 
 -- ---- a reader keeps its origin
@@ -34,6 +37,10 @@ use Rattle.line.proofs.ChunkCalls.{CalledOn, chunks-singly, chunks-dema
 left-origin : (r : LineReader) (calls : List Call) → originOf (leftAfter nextAfter r calls) ≡ originOf r
 left-origin r [] = refl
 left-origin r (c ∷ calls) = left-origin (nextAfter r c) calls ∙ origin-kept r c
+
+-- A reader that `new` made has the origin that it was made for.
+pub made-origin : {o : Origin} {r : LineReader} → Made o r → originOf r ≡ o
+made-origin k = ap originOf k
 
 -- Any calls in a row, in any form and order, leave a reader of the origin that it had.
 pub calls-keep-origin : {r last : LineReader} {calls : List Call} {outcomes : List Outcome}
@@ -82,13 +89,13 @@ module _ (o : Origin) (P : Outcome → Type 0) (none : P nothing) (cut : P (judg
 
 -- ---- a live reader tells no standard frame
 
-silence : NamesSender nothing
+silence : NotStandard nothing
 silence c e = let z : _≡_ {A = ℕ} 0 1 = cc in omega arith
 
-refusal : (n : ℕ) → NamesSender (judged (refused n))
+refusal : (n : ℕ) → NotStandard (judged (refused n))
 refusal n c e = let z : _≡_ {A = ℕ} 0 1 = cc in omega arith
 
-live-verdict : (v : Verdict) → NamesSender (judged (admit Live v))
+live-verdict : (v : Verdict) → NotStandard (judged (admit Live v))
 live-verdict v c e =
     let q : admit Live v ≡ result (standard c) = cc in
     let k : Standard ≡ Extended = admit-means Live v (standard c) q .1 refl in
@@ -96,14 +103,19 @@ live-verdict v c e =
 
 -- a live reader tells no standard frame, whatever its other fields are
 pub live-run : (r : LineReader) → originOf r ≡ Live → (calls : List Call)
-    → Every NamesSender (run outcomeAt nextAfter r calls)
-live-run = every-run Live NamesSender silence (refusal 6) (refusal 2) (λ w. live-verdict (verdict w))
+    → Every NotStandard (run outcomeAt nextAfter r calls)
+live-run = every-run Live NotStandard silence (refusal 6) (refusal 2) (λ w. live-verdict (verdict w))
 
 -- No call in a row on a live reader, in whichever form, tells a standard frame.
 pub live-calls-named : {r last : LineReader} {calls : List Call} {outcomes : List Outcome}
-    → RanBy CalledOn r calls outcomes last → originOf r ≡ Live → Every NamesSender outcomes
+    → RanBy CalledOn r calls outcomes last → originOf r ≡ Live → Every NotStandard outcomes
 live-calls-named {r} {last} {calls} k live =
-    subst (Every NamesSender) (sym (chunks-singly k .outcomes-are)) (live-run r live calls)
+    subst (Every NotStandard) (sym (chunks-singly k .outcomes-are)) (live-run r live calls)
+
+-- So no call on a reader that `new` made for the live line tells one, nor on what such calls left.
+pub live-made-named : {r last : LineReader} {calls : List Call} {outcomes : List Outcome} → Made Live r
+    → RanBy CalledOn r calls outcomes last → Every NotStandard outcomes
+live-made-named m k = live-calls-named k (made-origin m)
 
 -- ---- a trace is never answered 17
 
@@ -149,28 +161,87 @@ origins-alike o {calls} {outcomes} {traced} k t =
     chunks-demand-3 o .same calls outcomes k ∙ reference-from o calls
     ∙ ap (map (outcomeFrom o)) (sym (chunks-demand-3 Trace .same calls traced t))
 
--- an outcome of a trace is 17 on the live line exactly where it is a standard frame
-unnamed-outcome : (a : Outcome) → Not17 a → UnnamedLive a
-unnamed-outcome nothing n = (
-  (λ e. let z : _≡_ {A = ℕ} 0 1 = cc in absurd (omega arith)),
-  (λ (c, e). let z : _≡_ {A = ℕ} 0 1 = cc in absurd (omega arith)),
-)
-unnamed-outcome (judged (refused m)) n =
-    ((λ e. absurd (n e)), (λ (c, e). let z : _≡_ {A = ℕ} 0 1 = cc in absurd (omega arith)))
-unnamed-outcome (judged (result (standard c))) n = ((λ e. (c, refl)), (λ p. refl))
-unnamed-outcome (judged (result (extended to from c))) n = (
-  (λ e. let z : _≡_ {A = ℕ} 0 1 = cc in absurd (omega arith)),
-  (λ (d, e). let z : _≡_ {A = ℕ} 0 1 = cc in absurd (omega arith)),
-)
+-- an outcome of a trace, and the same as it is on the live line
+unnamed-outcome : (a : Outcome) → Not17 a → UnnamedLive (outcomeFrom Live a) a
+unnamed-outcome nothing n = record {
+  unnamed = (
+    (λ e. let z : _≡_ {A = ℕ} 0 1 = cc in absurd (omega arith)),
+    (λ (c, e). let z : _≡_ {A = ℕ} 0 1 = cc in absurd (omega arith)),
+  );
+  same = λ m. refl;
+}
+unnamed-outcome (judged (refused k)) n = record {
+  unnamed = ((λ e. absurd (n e)), (λ (c, e). let z : _≡_ {A = ℕ} 0 1 = cc in absurd (omega arith)));
+  same = λ m. refl;
+}
+unnamed-outcome (judged (result (standard c))) n = record {
+  unnamed = ((λ e. (c, refl)), (λ p. refl));
+  same = λ m. absurd (m c refl);
+}
+unnamed-outcome (judged (result (extended to from c))) n = record {
+  unnamed = (
+    (λ e. let z : _≡_ {A = ℕ} 0 1 = cc in absurd (omega arith)),
+    (λ (d, e). let z : _≡_ {A = ℕ} 0 1 = cc in absurd (omega arith)),
+  );
+  same = λ m. refl;
+}
 
-pub every-unnamed : (traced : List Outcome) → Every Not17 traced → Every UnnamedLive traced
-every-unnamed [] h = tt
-every-unnamed (a ∷ traced) h = (unnamed-outcome a (h .0), every-unnamed traced (h .1))
+-- of every call, where the live outcomes are those of a trace as they are at the live line
+pub each-unnamed : (outcomes traced : List Outcome) → outcomes ≡ map (outcomeFrom Live) traced → Every Not17 traced
+    → EachPair UnnamedLive outcomes traced
+each-unnamed outcomes traced e h =
+    subst (λ (l : List Outcome). EachPair UnnamedLive l traced) (sym e) (each traced h)
+  where
+    each : (traced : List Outcome) → Every Not17 traced → EachPair UnnamedLive (map (outcomeFrom Live) traced) traced
+    each [] h = tt
+    each (a ∷ traced) h = (unnamed-outcome a (h .0), each traced (h .1))
 
--- The same calls on a live reader and on one of a trace, both as new: a live outcome is 17 exactly where that of the
--- trace is a standard frame, and every other outcome is the same.
+-- The same calls on a live reader and on one of a trace, both as new: call by call the live outcome is 17 exactly where
+-- that of the trace is a standard frame, and is the same everywhere else.
 pub line-17-exactly : {calls : List Call} {outcomes traced : List Outcome}
     → AnsweredBy CalledOn (AsNew Live) calls outcomes → AnsweredBy CalledOn (AsNew Trace) calls traced
-    → (outcomes ≡ map (outcomeFrom Live) traced) × Every UnnamedLive traced
+    → EachPair UnnamedLive outcomes traced
 line-17-exactly {calls} {outcomes} {traced} k t =
-    (origins-alike Live k t, every-unnamed traced (trace-calls-not-17 (t .ran) (t .made .origin-is)))
+    each-unnamed outcomes traced (origins-alike Live k t) (trace-calls-not-17 (t .ran) (t .made .origin-is))
+
+-- ---- one reader alone
+
+-- the last of a list that is not empty
+abbrev last-of : Outcome → List Outcome → Outcome
+last-of a [] = a
+last-of a (b ∷ s) = last-of b s
+
+last-is : (a b : Outcome) (s : List Outcome) → last-of a (s ++ b ∷ []) ≡ b
+last-is a b [] = refl
+last-is a b (c ∷ s) = last-is c b s
+
+-- what the last outcome is that the reference decoder gives to any calls and then a whole candidate
+pub judged-last : (o : Origin) (calls : List Call) (w : List ℕ) → Terminated w → (earlier : List Outcome) (last : Outcome)
+    → earlier ++ last ∷ [] ≡ Reference (rowing o) (calls ++ feed w)
+    → Exactly (last ≡ judged (refused 17)) ((o ≡ Live) × ((c : List ℕ) × SoundFrame Trace w (standard c)))
+judged-last o calls w t earlier last e = (
+  (λ q. let j : judged (admit o (verdict w)) ≡ judged (refused 17) = sym is ∙ q in
+      let z : admit o (verdict w) ≡ refused 17 = cc in unnamed-verdict o w .0 z),
+  (λ k. is ∙ ap judged (unnamed-verdict o w .1 k)),
+)
+  where
+    ends : (before : List Outcome)
+        × (Reference (rowing o) (calls ++ feed w) ≡ before ++ judged (admit o (verdict w)) ∷ [])
+    ends =
+        subst (λ (u : List ℕ). (before : List Outcome)
+        × (Reference (rowing o) (calls ++ feed u) ≡ before ++ judged (admit o (verdict u)) ∷ [])) (sym (t .shape))
+        (reference-judges (rowing o) (startFlag (t .kind)) (t .body) stopFlag (start-role (t .kind)) (t .inside) refl
+        calls)
+
+    is : last ≡ judged (admit o (verdict w))
+    is =
+        sym (last-is nothing last earlier) ∙ ap (last-of nothing) (e ∙ ends .1)
+        ∙ last-is nothing (judged (admit o (verdict w))) (ends .0)
+
+-- Whatever calls came before, in whichever form, the last byte of a whole candidate is answered 17 exactly on the live
+-- line, where the candidate is a sound standard frame in a trace.
+pub candidate-17-exactly : (o : Origin) (calls : List Call) (w : List ℕ) (earlier : List Outcome) (last : Outcome)
+    → Terminated w → AnsweredBy CalledOn (AsNew o) (calls ++ feed w) (earlier ++ last ∷ [])
+    → Exactly (last ≡ judged (refused 17)) ((o ≡ Live) × ((c : List ℕ) × SoundFrame Trace w (standard c)))
+candidate-17-exactly o calls w earlier last t k =
+    judged-last o calls w t earlier last (chunks-demand-3 o .same (calls ++ feed w) (earlier ++ last ∷ []) k)

@@ -4,21 +4,19 @@ use mathlib.Core.List.{List, [], _∷_, _++_, map}
 use Prim.Native.Nat.{ℕ, _≤_}
 use lib.ListN.{length}
 use Rattle.lists.specs.Machine.{AnsweredBy}
-use Rattle.framing.specs.Reference.{starts, Reference}
+use Rattle.framing.specs.Reference.{Reference}
 use Rattle.framing.specs.Demand3.{feed}
 use Rattle.framing.proofs.Restart.{reference-candidate}
 use Rattle.answer.specs.Answer.{result}
 use Rattle.frame.specs.Stuffing.{stuff}
-use Rattle.frame.specs.Flags.{startFlag, stopFlag, roleOf}
+use Rattle.frame.specs.Flags.{startFlag, stopFlag}
 use Rattle.frame.specs.Frame.{Frame, frameKind, payload, wireOf}
 use Rattle.frame.specs.Verdict.{Verdict, verdict}
 use Rattle.frame.specs.Origin.{admit}
-use Rattle.frame.specs.Conditions.{Sent}
+use Rattle.frame.specs.Conditions.{Sendable}
 use Rattle.frame.specs.declared.Origin.{Origin}
-use Rattle.frame.specs.declared.Kind.{Kind}
-use Rattle.frame.specs.declared.Kind.the-variants.{Standard, Extended}
 use Rattle.frame.proofs.StuffingLaws.{flagless-stuff}
-use Rattle.frame.proofs.FlagLaws.{flagless-free}
+use Rattle.frame.proofs.FlagLaws.{start-role, flagless-free}
 use Rattle.frame.proofs.OriginLaws.{admit-result}
 use Rattle.frame.proofs.RoundTrip.{reads-back}
 use Rattle.line.specs.Outcome.{Outcome, nothing, judged, answersIn}
@@ -31,12 +29,8 @@ one-answer : (body : List ℕ) (v : Verdict) → answersIn (map (λ (b : ℕ). n
 one-answer [] v = refl
 one-answer (b ∷ body) v = one-answer body v
 
-start-role : (kind : Kind) → roleOf (startFlag kind) ≡ starts
-start-role Standard = refl
-start-role Extended = refl
-
-module _ (o : Origin) (f : Frame) (sent : Sent o f) (short : length (wireOf f) ≤ 120) where
-  -- The reference decoder answers the bytes of a frame that may go to an origin with that frame alone.
+module _ (o : Origin) (f : Frame) (sent : Sendable o f) (short : length (wireOf f) ≤ 120) where
+  -- The reference decoder answers the bytes of a frame that may be written to an origin with that frame alone.
   pub reference-told-frame : answersIn (Reference (rowing o) (feed (wireOf f))) ≡ result f ∷ []
   unfolding wireOf
   reference-told-frame =

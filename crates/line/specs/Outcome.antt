@@ -38,9 +38,9 @@ Never1 outcomes = Every Not1 outcomes
 abbrev pub Not17 : Outcome → Type 0
 Not17 o = o ≡ judged (refused 17) → ⊥
 
--- An outcome is no standard frame, which names no sender.
-abbrev pub NamesSender : Outcome → Type 0
-NamesSender o = (contents : List ℕ) → o ≡ judged (result (standard contents)) → ⊥
+-- An outcome is no standard frame.
+abbrev pub NotStandard : Outcome → Type 0
+NotStandard o = (contents : List ℕ) → o ≡ judged (result (standard contents)) → ⊥
 
 -- An outcome without the contents: what the enum `Told` holds.
 pub data Summary : Type 0 where

@@ -12,9 +12,8 @@ use Rattle.frame.specs.Origin.{admit}
 use Rattle.frame.specs.Answers.{leftIn}
 use Rattle.frame.specs.Frame.{standard}
 use Rattle.frame.specs.declared.Origin.{Origin}
-use Rattle.frame.specs.declared.Origin.the-variants.{Live}
 use Rattle.frame.specs.declared.Kind.{Kind}
-use Rattle.line.specs.Outcome.{Outcome, nothing, judged, capacity}
+use Rattle.line.specs.Outcome.{Outcome, nothing, judged, NotStandard, capacity}
 
 -- A terminated candidate is judged as the slice that it is, in frame reading's order without 1.
 abbrev pub rowing : Origin → Protocol Outcome
@@ -31,10 +30,12 @@ abbrev pub outcomeFrom : Origin → Outcome → Outcome
 outcomeFrom o nothing = nothing
 outcomeFrom o (judged v) = judged (admit o v)
 
--- An outcome of a trace is 17 on the live line exactly where it is a standard frame.
-abbrev pub UnnamedLive : Outcome → Type 0
-UnnamedLive a =
-    Exactly (outcomeFrom Live a ≡ judged (refused 17)) ((contents : List ℕ) × (a ≡ judged (result (standard contents))))
+-- The outcomes of one call, on a live reader and on one of a trace: the live one is 17 exactly where that of the trace is
+-- a standard frame, and is the same everywhere else.
+pub record UnnamedLive (live traced : Outcome) : Type 0 where
+  pub unnamed : Exactly (live ≡ judged (refused 17))
+      ((contents : List ℕ) × (traced ≡ judged (result (standard contents))))
+  pub same : NotStandard traced → live ≡ traced
 
 -- The array after an answer: an accepted frame's contents stand first.
 abbrev pub leftBy : Outcome → List ℕ → List ℕ

@@ -33,6 +33,13 @@ abbrev pub Every : {A : Type 0} → (A → Type 0) → List A → Type 0
 Every P [] = Unit {0}
 Every P (x ∷ s) = P x × Every P s
 
+-- Two lists are equally long, and the elements at each index have a relation.
+abbrev pub EachPair : {A B : Type 0} → (A → B → Type 0) → List A → List B → Type 0
+EachPair R [] [] = Unit {0}
+EachPair R [] (y ∷ t) = ⊥
+EachPair R (x ∷ s) [] = ⊥
+EachPair R (x ∷ s) (y ∷ t) = R x y × EachPair R s t
+
 -- One holds exactly when the other does.
 abbrev pub Exactly : Type 0 → Type 0 → Type 0
 Exactly P Q = (P → Q) × (Q → P)

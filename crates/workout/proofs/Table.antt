@@ -1,4 +1,4 @@
--- Which answer is given exactly when: document 01's table of refusals for workouts.
+-- Which answer is given exactly when: the papers' tables of refusals for workouts, alone and in a frame.
 use Prim.Native.Nat.{ℕ}
 use mathlib.Core.Path.{_≡_, refl, sym, ap, ap₂, _∙_, subst}
 use mathlib.Core.Logic.{_⊎_, inl, inr}
@@ -10,7 +10,7 @@ use lib.Dec.{leb, eqb}
 use lib.ListN.{length, getD, drop}
 use lib.Seq.{take-all}
 use borrow.Author.Tests.{leb-true, leb-false, le-leb, eqb-true, eq-eqb}
-use Rattle.answer.specs.Draft.{Draft, draftAnswer, Writes}
+use Rattle.answer.specs.Draft.{draftAnswer, Writes}
 use Rattle.answer.proofs.Drafts.{writes-refusal, writes-no-room, writes-done, written-first, lines-exactly}
 use Rattle.answer.specs.Answer.{result, refused, Answer}
 use Rattle.lists.specs.Choice.{Exactly}

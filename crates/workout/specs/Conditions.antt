@@ -1,4 +1,4 @@
--- The form of a workout's contents and its limits, each rule by itself, and document 01's tables of reading and writing
+-- The form of a workout's contents and its limits, each rule by itself, and the papers' tables of reading and writing
 -- over them. The workout that contents say is `workoutAs`, as in the answer. `Encoded` says apart from it which contents
 -- stand for which workout.
 use Prim.Native.Nat.{ℕ, _*_, _≤_, _<_}
