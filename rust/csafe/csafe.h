@@ -1,5 +1,5 @@
 /*
- * CSAFE frames, also from a live line and in stored traces, programmed workouts and machine leases.
+ * CSAFE frames of a live line and of stored traces, programmed workouts and machine leases.
  *
  * Link target/staticlib/libexports.a, which `rt staticlib exports` makes. The functions for stored traces, at the end,
  * stand in target/staticlib/libtrace_exports.a, which `rt staticlib trace_exports` makes.
@@ -27,7 +27,10 @@ extern "C" {
 /* The most bytes of a frame on the wire, its flags and escapes included. */
 #define CSAFE_WIRE_LIMIT 120
 
-/* The most bytes of a frame's contents. An output of this length has room for every frame that is read. */
+/*
+ * The most bytes of a frame's contents. Only a standard frame has so many, and only a trace has standard frames; an
+ * extended one has at most 115. An output of this length has room for every frame that is read.
+ */
 #define CSAFE_CONTENTS_LIMIT 117
 
 /* The bytes of a line reader. */
@@ -39,7 +42,7 @@ extern "C" {
 /* The bytes of a workout's contents. */
 #define CSAFE_WORKOUT_LEN 23
 
-/* The most bytes of a workout's frame on the wire. */
+/* No workout's frame has more bytes than this on the wire, so an output of this length has room for every one. */
 #define CSAFE_WORKOUT_FRAME_LIMIT 54
 
 /* The most bytes of a stop on the wire. */
@@ -109,7 +112,8 @@ static inline uint32_t csafe_length(uint64_t answer) { return (uint32_t)(answer 
 
 /*
  * Writes nothing. A standard frame names no sender, so none goes out on a live line, and a program that asks for one is
- * told so. What it has to send goes through csafe_write_extended.
+ * told so. What it has to send goes through csafe_write_extended. csafe_trace_write_standard writes one into a stored
+ * trace.
  * Refused: CSAFE_UNNAMED, always.
  */
 uint64_t csafe_write_standard(const uint8_t *contents, size_t contents_len, uint8_t *out, size_t out_len);
@@ -124,6 +128,7 @@ uint64_t csafe_write_extended(uint8_t to, uint8_t from, const uint8_t *contents,
 
 /*
  * Tells no length, because csafe_write_standard writes no frame. A program that asks for it is told why.
+ * csafe_trace_standard_length tells the length in a stored trace.
  * Refused: CSAFE_UNNAMED, always.
  */
 uint64_t csafe_standard_length(const uint8_t *contents, size_t contents_len);
@@ -148,7 +153,9 @@ uint64_t csafe_read(const uint8_t *wire, size_t wire_len, uint8_t *out, size_t o
  * Feeds bytes of a live line to a reader up to the first that is answered, and sets `taken` to how many were taken.
  *
  * A reader is CSAFE_LINE_LEN bytes and a number that goes with them, its state. A new one has state 0. Any bytes and
- * any number are a reader.
+ * any number are a reader. The number says how many of the bytes are held, and more than there are counts as all. No
+ * call holds a flag. Where the caller's own bytes have one among those held, the candidate is refused at its stop flag
+ * as CSAFE_TRUNCATED.
  *
  * A candidate for a frame begins at a start flag. At its stop flag it is answered as csafe_read answers a slice, its
  * contents being the first bytes of the reader, or refused. Where nothing is told, the kind is CSAFE_NOTHING and all
@@ -233,8 +240,8 @@ uint64_t csafe_stop(const uint8_t *table, size_t table_len, uint32_t address, ui
 
 /*
  * The functions for stored traces, in which standard frames are read as they stand. They are for traces that are kept
- * on disk and for tests. Bytes that go to a machine or come from one never go through them, and a program that has no
- * trace to read does not link their library.
+ * on disk and for tests. Bytes that go to a machine or come from one must not go through them. A program that has no
+ * trace to read or write does without their library.
  */
 
 /*

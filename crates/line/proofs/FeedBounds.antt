@@ -1,5 +1,5 @@
--- What every chunk that was fed leaves within bounds: a frame's contents fit between two flags, the length held stays
--- short, and the origin stays.
+-- What holds after every chunk that was fed: a frame's contents fit between two flags, the length held is short, and the
+-- origin is the one before.
 use mathlib.Core.Path.{_≡_, refl}
 use mathlib.Core.Bool.{Bool, true, false}
 use mathlib.Core.List.{List, [], _∷_}

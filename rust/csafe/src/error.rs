@@ -56,8 +56,8 @@ pub enum Error {
     ZeroToken = 14,
     /// There is no n-th command or item.
     Absent = 15,
-    /// A standard frame was read or was to be written on a live line. It has no addresses, so it names no sender. The
-    /// functions of [`trace`](crate::trace) take it.
+    /// A standard frame was read or was to be written on a live line, or its length there was asked for. It has no
+    /// addresses, so it names no sender. The functions of [`trace`](crate::trace) take it.
     Unnamed = 17,
     /// The lent lease table is not 2,048 bytes long.
     BadTable = 18,

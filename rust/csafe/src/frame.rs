@@ -11,7 +11,8 @@ use crate::{ffi, Error};
 /// The most bytes that a frame has on the wire, its flags and escapes included.
 pub const WIRE_LIMIT: usize = 120;
 
-/// The most bytes of contents that fit into a frame. An output of this length has room for every frame that is read.
+/// The most bytes of contents that fit into a frame. Only a standard frame has so many, and only a trace has standard
+/// frames; an extended one has at most 115. An output of this length has room for every frame that is read.
 pub const CONTENTS_LIMIT: usize = 117;
 
 /// What a frame is apart from its contents.

@@ -1,4 +1,4 @@
-//! CSAFE frames, also from a live line, programmed workouts and machine leases for a portal's server.
+//! CSAFE frames of a live line and of stored traces, programmed workouts and machine leases for a portal's server.
 //!
 //! The work is done by functions that are proved: each takes any bytes and any numbers, returns, and answers a
 //! result or one numbered refusal, an [`Error`]. A refusal leaves every lent byte as it was, but that a line reader

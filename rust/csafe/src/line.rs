@@ -92,12 +92,14 @@ impl<'a> Fed<'a> {
 }
 
 /// As [`LineReader::feed`] of a reader for a live line, on lent bytes and the number that goes with them, which is 0
-/// for a new reader. Any number and any bytes are a reader. The contents of a frame that is told are the first of the
-/// bytes. A chunk longer than [`CHUNK_LIMIT`] is cut here too.
+/// for a new reader. Any number and any bytes are a reader. The number says how many of the bytes are held, and more
+/// than there are counts as all. The contents of a frame that is told are the first of the bytes. A chunk longer than
+/// [`CHUNK_LIMIT`] is cut here too.
 ///
 /// # Errors
 ///
-/// What is told is refused as by [`LineReader::feed`].
+/// What is told is refused as by [`LineReader::feed`]. No call holds a flag. Where the caller's own bytes have one
+/// among those held, the candidate is told as [`Error::Truncated`] at its stop flag.
 ///
 /// ```
 /// use csafe::line::{self, HELD_LEN};

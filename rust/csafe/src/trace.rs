@@ -1,10 +1,10 @@
 //! Stored traces, in which standard frames are read as they stand.
 //!
 //! A standard frame names no sender, so [`frame`](crate::frame) and [`line`](mod@crate::line) refuse it as
-//! [`Error::Unnamed`]. A trace that was kept has such frames all the same, and who reads it wants to see them. The
-//! functions of this module take them. In everything else they do what the functions of the same names do there.
+//! [`Error::Unnamed`]. A trace that was kept has such frames all the same, and whoever reads it wants to see them.
+//! The functions of this module take them. In everything else they do what the functions of the same names do there.
 //!
-//! They are for traces that are kept on disk and for tests. Bytes that go to a machine or come from one never go
+//! They are for traces that are kept on disk and for tests. Bytes that go to a machine or come from one must not go
 //! through them.
 //!
 //! [`LineReader::for_trace`](crate::LineReader::for_trace) reads a trace in chunks, and [`feed`] does so on lent bytes.

@@ -5,7 +5,7 @@ use crate::{ffi, Error};
 /// The length of a workout's contents.
 pub const LEN: usize = 23;
 
-/// The most bytes of a workout's frame on the wire. An output of this length has room for every one.
+/// No workout's frame has more bytes than this on the wire, so an output of this length has room for every one.
 pub const FRAME_LIMIT: usize = 54;
 
 /// A distance in metres.

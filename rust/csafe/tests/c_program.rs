@@ -112,6 +112,7 @@ write_time_workout: 0 ok to=00 from=00 len=23 20 03 00 14 00 1A 07 05 05 00 C0 5
 write_time_workout: 12 out of limits to=00 from=00 len=0
 write_time_workout: 1 no room to=00 from=00 len=0
 write_distance_workout_frame: 0 ok to=00 from=00 len=29 F0 F3 01 00 21 03 D1 07 24 1A 07 05 05 80 F4 01 00 00 34 03 C8 00 58 24 02 00 00 39 F2
+write_distance_workout_frame: 0 ok to=00 from=00 len=34 F0 F3 00 00 21 03 F3 00 30 24 1A 07 05 05 80 F3 00 10 00 00 34 03 F3 00 F3 00 58 24 02 00 00 F3 02 F2
 write_distance_workout_frame: 9 bad address to=00 from=00 len=0
 write_distance_workout_frame: 12 out of limits to=00 from=00 len=0
 write_distance_workout_frame: 1 no room to=00 from=00 len=0
@@ -163,7 +164,7 @@ fn a_cpp_program_gets_the_expected_answers() {
     check(&compiled("c++", "-std=c++11", "c++"));
 }
 
-/// A portal that links the archive of the live line alone has no function that takes a standard frame.
+/// No name with `csafe_trace_`, as all functions for traces have, stands in the archive of the live line.
 #[test]
 fn the_functions_for_traces_stand_in_an_archive_of_their_own() {
     let names_a_trace = |archive: &str| {

@@ -198,13 +198,15 @@ static void workouts(void)
     print_answer("write_time_workout", csafe_write_time_workout(1200, 24000, 100, out, 22), out);
 }
 
+/* The second frame has an escape for each byte that can need one, and no workout's is longer. */
 static void workout_frames(void)
 {
-    uint8_t out[CSAFE_WIRE_LIMIT];
+    uint8_t out[CSAFE_WORKOUT_FRAME_LIMIT];
     const size_t len = sizeof out;
     const char *distance = "write_distance_workout_frame";
     const char *time = "write_time_workout_frame";
     print_answer(distance, csafe_write_distance_workout_frame(0xF1, 2001, 500, 200, out, len), out);
+    print_answer(distance, csafe_write_distance_workout_frame(0xF0, 12528, 4336, 0xF0F0, out, len), out);
     print_answer(distance, csafe_write_distance_workout_frame(0x105, 99, 500, 200, out, 0), out);
     print_answer(distance, csafe_write_distance_workout_frame(0x05, 99, 500, 200, out, 0), out);
     print_answer(distance, csafe_write_distance_workout_frame(0x05, 2001, 500, 200, out, 27), out);

@@ -36,7 +36,7 @@ struct Reader {
 impl Reader {
     fn new(origin: Origin) -> Reader {
         let lent = Output::new(HELD_LEN);
-        let held = Held::new(held_bytes(&lent));
+        let held = Held::new(held_bytes(&lent), 0);
         Reader {
             origin,
             lent,

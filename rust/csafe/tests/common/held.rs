@@ -13,10 +13,13 @@ pub fn first_of(chunk: &[u8]) -> &[u8] {
 }
 
 /// The modes of a reader, as its state counts them.
-const OUTSIDE: u64 = 0;
-const IN_STANDARD: u64 = 1;
-const IN_EXTENDED: u64 = 2;
-const OVERLONG: u64 = 3;
+pub const OUTSIDE: u64 = 0;
+pub const IN_STANDARD: u64 = 1;
+pub const IN_EXTENDED: u64 = 2;
+pub const OVERLONG: u64 = 3;
+
+/// How many modes there are. A state has the mode in its lowest two bits and the length above them.
+pub const MODES: u64 = 4;
 
 /// What a reader's bytes and state have to be: each byte of an open candidate where it belongs, a frame's contents
 /// first once it is told, and all others as they were.
@@ -28,12 +31,12 @@ pub struct Held {
 }
 
 impl Held {
-    /// A new reader with these bytes.
-    pub fn new(bytes: [u8; HELD_LEN]) -> Held {
+    /// The reader with these bytes and this state, which may be any. It is 0 for a new one.
+    pub fn new(bytes: [u8; HELD_LEN], state: u64) -> Held {
         Held {
             bytes,
-            len: 0,
-            mode: OUTSIDE,
+            len: (state / MODES) as usize,
+            mode: state % MODES,
         }
     }
 
@@ -47,7 +50,7 @@ impl Held {
                 (0, OUTSIDE)
             }
             _ if self.mode == OUTSIDE || self.mode == OVERLONG => (self.len, self.mode),
-            _ if self.len == HELD_LEN => (0, OVERLONG),
+            _ if self.len >= HELD_LEN => (0, OVERLONG),
             _ => {
                 self.bytes[self.len] = byte;
                 (self.len + 1, self.mode)
@@ -65,6 +68,6 @@ impl Held {
     }
 
     pub fn state(&self) -> u64 {
-        self.mode + 4 * self.len as u64
+        self.mode + MODES * self.len as u64
     }
 }

@@ -2,6 +2,7 @@
 //! byte by byte.
 
 mod chunks;
+mod lent;
 
 use std::fmt;
 
@@ -108,7 +109,7 @@ impl Readers {
             iterated: our_reader(origin),
             theirs: Line::new(origin),
             theirs_by_chunk: Line::new(origin),
-            held: Held::new(bytes.expect("the room is that of a reader")),
+            held: Held::new(bytes.expect("the room is that of a reader"), 0),
             tally: Tally::default(),
         }
     }

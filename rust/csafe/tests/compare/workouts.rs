@@ -2,7 +2,7 @@
 //! by our live calls.
 
 use csafe::frame::{self, Frame, Kind};
-use csafe::workout::{Goal, Hundredths, Metres, Seconds, Workout, LEN};
+use csafe::workout::{Goal, Hundredths, Metres, Seconds, Workout, FRAME_LIMIT, LEN};
 use csafe::{Error, LineReader};
 use plain::workout as plain_rust;
 
@@ -216,19 +216,40 @@ fn the_papers_thirty_splits() {
 /// Lengths of outputs up to one that has room for every frame with a workout.
 const FRAME_ROOMS: std::ops::RangeInclusive<usize> = 0..=60;
 
-/// Within the limits, with bytes among them that are escaped, and outside of each limit.
-fn workouts() -> [Workout; 10] {
+/// A workout whose frame to the address F0 has an escape in each place that can have one. No workout's is longer.
+const LONGEST: (u32, u32, u16) = (12_528, 4_336, 0xF0F0);
+const LONGEST_LEN: usize = 34;
+
+/// Within the limits, with bytes among them that are escaped.
+fn within() -> [Workout; 6] {
+    let (metres, split, watts) = LONGEST;
     [
         distance(2_000, 500, 200),
         distance(50_000, 1_667, 0xF2F3),
         distance(2_001, 0xF1, 0xF0F1),
+        distance(metres, split, watts),
         time(1_200, 24_000, 100),
         time(35_999, 119_997, 0xF3F0),
+    ]
+}
+
+/// Outside of each limit by itself: the least and the greatest goal, the least and the greatest split, and thirty
+/// splits. A goal under the least has no split within the limits, so it stands with one below them and one above.
+fn outside() -> [Workout; 13] {
+    [
         distance(99, 99, 200),
-        distance(50_000, 1_666, 200),
+        distance(99, 100, 200),
+        distance(50_001, 1_667, 200),
         distance(u32::MAX, u32::MAX, 0xFFFF),
-        time(1_200, 3_999, 100),
+        distance(2_000, 99, 200),
+        distance(2_000, 2_001, 200),
+        distance(50_000, 1_666, 200),
+        time(19, 1_900, 100),
+        time(19, 2_000, 100),
         time(36_000, 120_000, 100),
+        time(500, 1_999, 100),
+        time(1_200, 120_001, 100),
+        time(1_200, 3_999, 100),
     ]
 }
 
@@ -271,13 +292,27 @@ fn check_read_live(address: u8, workout: Workout, wire: &[u8]) {
 fn workouts_are_framed_alike_for_every_address_and_room() {
     let mut tally = Tally::default();
     for address in 0..=u8::MAX {
-        for workout in workouts() {
+        for workout in within().into_iter().chain(outside()) {
             for room in FRAME_ROOMS {
                 tally.add(&framed_on_both(address, workout, room));
             }
         }
     }
     tally.has_each(&[0, 1, 9, 12], 1_000);
+}
+
+#[test]
+fn workouts_outside_of_each_limit_are_refused() {
+    for workout in within() {
+        assert_eq!(write_on_both(workout, LEN), Ok(LEN), "{workout:?}");
+        let framed = framed_on_both(0x05, workout, FRAME_LIMIT);
+        assert!(framed.is_ok(), "{workout:?}: {framed:?}");
+    }
+    for workout in outside() {
+        assert_eq!(write_on_both(workout, LEN), Err(12), "{workout:?}");
+        let framed = framed_on_both(0x05, workout, FRAME_LIMIT);
+        assert_eq!(framed, Err(12), "{workout:?}");
+    }
 }
 
 /// The address is looked at first, then the limits, then the room.
@@ -310,4 +345,49 @@ fn random_workouts_are_framed_alike() {
         }
     }
     tally.has_each(&[0, 1, 9, 12], 1_000);
+}
+
+/// A number below the limit, in half of all cases with F0 to F3 as its lowest byte.
+fn often_escaped(random: &mut Xorshift, limit: usize) -> u32 {
+    let number = random.below(limit) as u32;
+    match random.below(2) {
+        0 => number,
+        _ => number & !0xFF | (0xF0 + random.below(4) as u32),
+    }
+}
+
+/// Writes a workout in a frame on both sides, with an output of the limit's length, and answers what both said.
+fn framed_in_limit(address: u8, workout: Workout) -> Result<usize, u8> {
+    let framed = framed_on_both(address, workout, FRAME_LIMIT);
+    assert_ne!(framed, Err(1), "{workout:?} to {address:02X}");
+    framed
+}
+
+#[test]
+fn an_output_of_the_limit_has_room_for_the_longest_frame() {
+    let (metres, split, watts) = LONGEST;
+    let framed = framed_in_limit(0xF0, distance(metres, split, watts));
+    assert_eq!(framed, Ok(LONGEST_LEN));
+}
+
+#[test]
+fn an_output_of_the_limit_has_room_for_random_frames() {
+    let mut random = Xorshift::new();
+    let mut tally = Tally::default();
+    let mut longest = 0;
+    for _ in 0..200_000 {
+        let address = often_escaped(&mut random, 0xFC) as u8;
+        let watts = random.bytes(2, 50).try_into().map(u16::from_le_bytes);
+        let watts = watts.expect("there are two");
+        let goal = often_escaped(&mut random, 60_000);
+        let split = often_escaped(&mut random, 60_000);
+        let hundredths = often_escaped(&mut random, 3_600_000);
+        for workout in [distance(goal, split, watts), time(goal, hundredths, watts)] {
+            let framed = framed_in_limit(address, workout);
+            longest = longest.max(framed.unwrap_or(0));
+            tally.add(&framed);
+        }
+    }
+    tally.has_each(&[0, 9, 12], 100);
+    assert_eq!(longest, LONGEST_LEN);
 }
