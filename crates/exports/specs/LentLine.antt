@@ -18,6 +18,6 @@ lentLine bytes state = record { bytes = bytes; state = state }
 abbrev pub newLine : LentLine
 newLine = lentLine zeros 0
 
--- It as a reader of an origin.
+-- The array and the number as a reader of an origin.
 abbrev pub readerOf : Origin → LentLine → LineReader
 readerOf o l = readerIn o (l .bytes) (l .state)

@@ -112,7 +112,7 @@ pub live-calls-named : {r last : LineReader} {calls : List Call} {outcomes : Lis
 live-calls-named {r} {last} {calls} k live =
     subst (Every NotStandard) (sym (chunks-singly k .outcomes-are)) (live-run r live calls)
 
--- So no call on a reader that `new` made for the live line tells one, nor on what such calls left.
+-- So no call in a row on a reader that `new` made for the live line tells one.
 pub live-made-named : {r last : LineReader} {calls : List Call} {outcomes : List Outcome} → Made Live r
     → RanBy CalledOn r calls outcomes last → Every NotStandard outcomes
 live-made-named m k = live-calls-named k (made-origin m)

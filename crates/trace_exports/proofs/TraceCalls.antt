@@ -3,7 +3,6 @@
 -- on calls at either origin is one on them.
 use Prim.Native.Nat.{ℕ}
 use mathlib.Core.List.{List}
-use lib.ListN.{length}
 use contract.Lifetimes.{Lfts}
 use denote.Ref.{RefT}
 use Rattle.framing.specs.Demand3.{feed}

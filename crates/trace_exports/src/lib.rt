@@ -1,6 +1,6 @@
 // The functions for stored traces, called with numbers and byte slices: in a trace standard frames are read as they
-// stand. They answer as the live ones of `exports`, and are a static library of their own, so that the portal's has no
-// function that takes a standard frame. Document 02, No. 9.
+// stand. Their answers are numbers of the same layout as those of `exports`. They are a static library of their own, so
+// that the portal's has no function that takes a standard frame. Document 02, No. 9.
 use frame::Origin;
 ghost use mathlib.Core.Path.{_≡_};
 ghost use lib.ListN.{length};

@@ -21,8 +21,9 @@ write-frame-requires c κs = search needs
 returns : tie.Need-returns
 returns c =
     let s : tie.Start = search needs in
+    let t : tie.After-enum-told = search needs in
     writes-refusal _ 17 (s .args .out .now)
-    (ap (λ (o : Origin). sentDraft o (standard (s .args .contents .now))) (c .enum-told .given .1))
+    (ap (λ (o : Origin). sentDraft o (standard (s .args .contents .now))) (t .enum-told .given .1))
 
 same-length : tie.Need-same-length
 same-length c = search needs
