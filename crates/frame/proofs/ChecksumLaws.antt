@@ -6,7 +6,7 @@ use native.Mathlib.Numerals.{add-one}
 use native.Mathlib.Omega.{arith}
 use lib.Bits.{bitXor, xor-self, xor-comm, xor-zero-l, xor-zero-r, xor-shr, xor-mod, xor-shifted, xor-add-and, and-le-l}
 use lib.Bits.{and-le-r}
-use lib.ListN.{length, getD, take, drop, length-drop, drop-of-length-le}
+use lib.ListN.{length, getD, set, take, drop, length-drop, drop-of-length-le}
 use lib.Seq.{take-suc, drop-cons, take-all, getD-drop}
 use Rattle.lists.proofs.Lists.{last-apart}
 use Rattle.frame.specs.Checksum.{sumFrom, checksum}
@@ -123,3 +123,34 @@ sum-after a b s =
 -- an escape's two bytes, the first taken as F0, have the exclusive or of the byte that they stand for
 pub sum-escape : (acc e : ℕ) → e ≤ 3 → bitXor acc (0xF0 + e) ≡ bitXor (bitXor acc 0xF0) e
 sum-escape acc e h = ap (bitXor acc) (sym (xor-shifted 15 4 e (omega arith))) ∙ sym (xor-assoc acc 0xF0 e)
+
+-- ---- one byte changed
+
+xor-back : (a c : ℕ) → bitXor (bitXor a c) c ≡ a
+xor-back a c = xor-assoc a c c ∙ ap (bitXor a) (xor-self c) ∙ xor-zero-r a
+
+xor-cancel : (a b c : ℕ) → bitXor a c ≡ bitXor b c → a ≡ b
+xor-cancel a b c e = sym (xor-back a c) ∙ ap (λ (x : ℕ). bitXor x c) e ∙ xor-back b c
+
+-- Lists that differ at one place alone have different sums.
+pub sum-set : (acc : ℕ) (s : List ℕ) (i b : ℕ) → i < length s → (b ≡ getD s i 0 → ⊥)
+    → sumFrom acc (set s i b) ≡ sumFrom acc s → ⊥
+unfolding sumFrom
+sum-set acc [] i b h n e = omega arith
+sum-set acc (x ∷ s) zero b h n e =
+    let q : bitXor acc b ≡ bitXor acc x =
+    xor-cancel (bitXor acc b) (bitXor acc x) (checksum s)
+    (sym (sum-onto (bitXor acc b) s) ∙ e ∙ sum-onto (bitXor acc x) s) in
+    n (xor-cancel b x acc (xor-comm b acc ∙ q ∙ xor-comm acc x))
+sum-set acc (x ∷ s) (suc i) b h n e = sum-set (bitXor acc x) s i b (omega arith) n e
+
+-- Contents and their checksum have the sum 0.
+pub sum-whole : (c : List ℕ) → checksum (c ++ (checksum c ∷ [])) ≡ 0
+sum-whole c = sumFrom-last 0 c (checksum c) ∙ xor-self (checksum c)
+
+-- So bytes with the right checksum are none where one of them, or the checksum, is changed.
+pub sum-changed : (c d : List ℕ) (i b : ℕ) → i < length (c ++ (checksum c ∷ []))
+    → (b ≡ getD (c ++ (checksum c ∷ [])) i 0 → ⊥)
+    → set (c ++ (checksum c ∷ [])) i b ≡ d ++ (checksum d ∷ []) → ⊥
+sum-changed c d i b h n e =
+    sum-set 0 (c ++ (checksum c ∷ [])) i b h n (ap checksum e ∙ sum-whole d ∙ sym (sum-whole c))

@@ -1,5 +1,6 @@
 pub mod FlagLaws
 pub mod StuffingLaws
+pub mod UnstuffsLaws
 pub mod ChecksumLaws
 pub mod EscapeLaws
 pub mod UndoLaws

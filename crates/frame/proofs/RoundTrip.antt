@@ -22,10 +22,11 @@ use Rattle.frame.specs.declared.Origin.the-variants.{Trace}
 use Rattle.frame.specs.declared.Kind.{Kind}
 use Rattle.frame.proofs.OriginLaws.{admit-means, admit-result}
 use Rattle.frame.proofs.StuffingLaws.{unstuff-stuff, flagless-stuff, stuff-unstuff}
+use Rattle.frame.proofs.UnstuffsLaws.{unstuffs-bytes}
 use Rattle.frame.proofs.FlagLaws.{free-flagless}
 use Rattle.frame.proofs.VerdictLaws.{whole-length, whole-verdict, judge-bytes, judge-payload}
 use Rattle.frame.proofs.ContentsLaws.{admitted-short}
-use Rattle.frame.proofs.Table.{accepted-exactly, accepted-when, unstuffs-bytes, read-by-table, reads-exactly}
+use Rattle.frame.proofs.Table.{accepted-exactly, accepted-when, read-by-table, reads-exactly}
 use Rattle.frame.proofs.Table.{written-by-table, writes-exactly}
 
 -- ---- frames and verdicts
@@ -77,8 +78,8 @@ told-whole (standard c) out =
 told-whole (extended to from c) out =
     ap (λ (l : List ℕ). result (extended to from l)) (take-at c (drop (length c) out) (length c) refl)
 
--- what was told is sound
-told-sound : (o : Origin) (w out : List ℕ) (a : Answer FrameOutline) (last : List ℕ) (f : Frame)
+-- What was told is sound.
+pub told-sound : (o : Origin) (w out : List ℕ) (a : Answer FrameOutline) (last : List ℕ) (f : Frame)
     → ReadJudged o w out a last → frameRead a last ≡ result f → SoundFrame o w f
 unfolding frameRead
 told-sound o w out a last f (refusedBy j) e = let z : _≡_ {A = ℕ} 0 1 = cc in absurd (omega arith)

@@ -3,29 +3,29 @@
 use Rattle.frame.specs.Frame.{Frame, standard, extended, contentsOf, frameKind, addressesOf, payload, wireOf}
 use Rattle.frame.specs.Answers.{frameDraft, sentDraft, readAnswer, readOut, Reads, FrameOutline}
 use Rattle.frame.specs.Conditions.{ReadJudged, refusedBy, noRoom, fits, Terminated, WithinLimit, EscapesSound, LongEnough}
-use Rattle.frame.specs.Conditions.{Unstuffs, none, plain, escape, fewest, ChecksumRight, SenderNamed, Sound}
+use Rattle.frame.specs.Conditions.{Unstuffs, fewest, ChecksumRight, SenderNamed, Sound}
 use Rattle.frame.specs.Conditions.{SoundFrame, Sendable}
 use Rattle.frame.specs.Conditions.{Judged, truncated, long, badEscape as badEscapes, short, badSum, unnamed}
 use Rattle.frame.specs.Conditions.{sound}
 use Rattle.frame.specs.Conditions.{WriteJudged, notSent, overLimit, noRoomToWrite, written}
 use Rattle.frame.specs.Conditions.{LengthJudged, notMeasured, tooLong, takes}
-use Prim.Native.Nat.{ℕ, zero, suc, _+_, _≤_}
+use Prim.Native.Nat.{ℕ, _+_, _≤_}
 use mathlib.Core.Path.{_≡_, refl, sym, ap, _∙_, subst}
-use mathlib.Core.Bool.{Bool, true, false, true≢false}
+use mathlib.Core.Bool.{true, false, true≢false}
 use mathlib.Core.Logic.{_⊎_, inl, inr}
 use mathlib.Core.List.{List, [], _∷_, _++_}
 use native.Mathlib.Nat.{zero-add}
 use native.Mathlib.Omega.{arith}
 use lib.Dec.{leb, eqb}
 use lib.ListN.{length, getD}
-use borrow.Author.Tests.{leb-true, leb-false, eqb-true, eqb-false, le-leb, ne-eqb}
-use Rattle.lists.specs.Choice.{pick, Exactly}
+use borrow.Author.Tests.{leb-true, leb-false, eqb-true, eqb-false}
+use Rattle.lists.specs.Choice.{Exactly}
 use Rattle.lists.proofs.Cases.{by-bool, both-exactly}
 use Rattle.lists.proofs.Lists.{drop-two}
 use Rattle.answer.specs.Draft.{draftOut, Writes}
 use Rattle.answer.proofs.Drafts.{writes-refusal, writes-no-room, writes-done, lines-exactly}
 use Rattle.frame.specs.Flags.{kindOf}
-use Rattle.frame.specs.Stuffing.{Unstuffed, badEscape, bytes, prepend, unstuff}
+use Rattle.frame.specs.Stuffing.{Unstuffed, badEscape, bytes, unstuff}
 use Rattle.frame.specs.Checksum.{checksum}
 use Rattle.frame.specs.Verdict.{Verdict, addressCount, contentsIn, lastOf, judgeBytes, judge, bodyOf}
 use Rattle.frame.specs.Verdict.{isTerminated, verdict}
@@ -35,7 +35,7 @@ use Rattle.frame.specs.declared.Origin.{Origin}
 use Rattle.frame.specs.declared.Origin.the-variants.{Live}
 use Rattle.frame.specs.declared.Kind.{Kind}
 use Rattle.frame.specs.declared.Kind.the-variants.{Standard, Extended}
-use Rattle.frame.proofs.StuffingLaws.{prepend-inv}
+use Rattle.frame.proofs.UnstuffsLaws.{unstuffs-bytes, bytes-unstuffs, unstuffs-sound, sound-unstuffs}
 use Rattle.frame.proofs.WireLaws.{draft-long, draft-fits}
 use Rattle.frame.proofs.OriginLaws.{sender, sender-missing, admit-refused, admit-result, admit-unnamed}
 use Rattle.frame.proofs.OriginLaws.{sent-frame, sent-unnamed}
@@ -47,67 +47,6 @@ use Rattle.frame.proofs.ChecksumLaws.{contents-last}
 use Rattle.frame.proofs.FlagLaws.{flagless-free, free-flagless}
 
 -- ---- the conditions, and what the definitions compute
-
--- undoing escapes, as a relation and as a function
-pub unstuffs-bytes : {s u : List ℕ} → Unstuffs s u → unstuff false s ≡ bytes u
-unfolding unstuff prepend
-unstuffs-bytes none = refl
-unstuffs-bytes (plain {b = b} n r) = simp (ne-eqb b 0xF3 n, unstuffs-bytes r)
-unstuffs-bytes (escape {k = k} h r) = simp (le-leb k 3 h, unstuffs-bytes r)
-
-bytes-unstuffs : (t : Bool) (s u : List ℕ) → unstuff t s ≡ bytes u → Unstuffs (pick t (0xF3 ∷ s) s) u
-unfolding unstuff
-bytes-unstuffs false [] u e = let q : [] ≡ u = cc in subst (λ (v : List ℕ). Unstuffs [] v) q none
-bytes-unstuffs true [] u e = let z : _≡_ {A = ℕ} 0 1 = cc in absurd (omega arith)
-bytes-unstuffs false (x ∷ s) u e =
-    by-bool (eqb x 0xF3)
-    (λ y. subst (λ (b : ℕ). Unstuffs (b ∷ s) u) (sym (eqb-true x 0xF3 y)) (bytes-unstuffs true s u (simp y at e)))
-    (λ n. let p = prepend-inv x (unstuff false s) u (simp n at e) in
-    subst (λ (v : List ℕ). Unstuffs (x ∷ s) v) (sym (p .2))
-    (plain (eqb-false x 0xF3 n) (bytes-unstuffs false s (p .0) (p .1))))
-bytes-unstuffs true (x ∷ s) u e =
-    by-bool (leb x 3)
-    (λ y. let p = prepend-inv (0xF0 + x) (unstuff false s) u (simp y at e) in
-    subst (λ (v : List ℕ). Unstuffs (0xF3 ∷ x ∷ s) v) (sym (p .2))
-    (escape (leb-true x 3 y) (bytes-unstuffs false s (p .0) (p .1))))
-    (λ m. let q : badEscape ≡ bytes u = simp m at e in
-    let z : _≡_ {A = ℕ} 0 1 = cc in absurd (omega arith))
-
--- what stands after an index, in a list with one element more before it
-after-cons : (b : ℕ) (s : List ℕ) (i : ℕ) → getD (b ∷ s) (suc i + 1) 0 ≡ getD s (i + 1) 0
-after-cons b s i = let e : suc i + 1 ≡ suc (i + 1) = omega arith in ap (λ (n : ℕ). getD (b ∷ s) n 0) e
-
--- every F3 is followed by 00 to 03 in bytes that unstuff
-unstuffs-sound : {s u : List ℕ} → Unstuffs s u → EscapesSound s
-unstuffs-sound none i h e = absurd (omega arith)
-unstuffs-sound (plain n r) zero h e = absurd (n e)
-unstuffs-sound (plain {b = b} {s = s} n r) (suc i) h e =
-    let q = unstuffs-sound r i (omega arith) e in (omega (arith, q .0), omega (arith, q .1, after-cons b s i))
-unstuffs-sound (escape k r) zero h e = (omega arith, k)
-unstuffs-sound (escape k r) (suc zero) h e = absurd (omega arith)
-unstuffs-sound (escape {k = k} {s = s} l r) (suc (suc i)) h e =
-    let q = unstuffs-sound r i (omega arith) e in
-    (omega (arith, q .0), omega (arith, q .1, after-cons 0xF3 (k ∷ s) (suc i), after-cons k s i))
-
--- and bytes where it is so unstuff
-sound-unstuffs : (s : List ℕ) → EscapesSound s → (u : List ℕ) × (unstuff false s ≡ bytes u)
-unfolding unstuff prepend
-sound-unstuffs [] h = ([], refl)
-sound-unstuffs (b ∷ []) h =
-    by-bool (eqb b 0xF3)
-    (λ y. absurd (omega (arith, h 0 (omega arith) (eqb-true b 0xF3 y) .0)))
-    (λ n. (b ∷ [], simp n))
-sound-unstuffs (b ∷ k ∷ s) h =
-    by-bool (eqb b 0xF3)
-    (λ y. let low : k ≤ 3 = h 0 (omega arith) (eqb-true b 0xF3 y) .1 in
-    let r = sound-unstuffs s
-    (λ i l e. let q = h (suc (suc i)) (omega arith) e in
-    (omega (arith, q .0), omega (arith, q .1, after-cons b (k ∷ s) (suc i), after-cons k s i))) in
-    ((0xF0 + k) ∷ r .0, simp (y, le-leb k 3 low, r .1)))
-    (λ n. let r = sound-unstuffs (k ∷ s)
-    (λ i l e. let q = h (suc i) (omega arith) e in (omega (arith, q .0), omega (arith, q .1, after-cons b (k ∷ s) i)))
-    in
-    (b ∷ r .0, (simp n) ∙ ap (prepend b) (r .1)))
 
 pub fewest-is : (kind : Kind) → fewest kind ≡ addressCount kind + 1
 fewest-is Standard = refl

@@ -8,4 +8,5 @@ pub mod Origin
 pub mod Leading
 pub mod Answers
 pub mod Conditions
+pub mod Places
 pub mod Private

@@ -146,35 +146,47 @@ module _ {A : Type 0} (P : Protocol A) where
 
   module _ (flag : ℕ) (body : List ℕ) (b : ℕ) (s : P .role flag ≡ starts) (f : FlagFree (P .role) body)
       (e : P .role b ≡ stops) where
-    -- whatever was open, it is judged at its stop flag, and nothing is answered between the flags
-    candidate-from : (k : Candidate)
-        → from k (feed (flag ∷ (body ++ b ∷ [])))
-        ≡ answerTo P k (byte flag) ∷ (map (λ (x : ℕ). P .nothing) body ++ P .judge (flag ∷ (body ++ b ∷ [])) ∷ [])
-    candidate-from k =
-        ap (λ (c : Candidate). answerTo P k (byte flag) ∷ from c (feed (body ++ b ∷ []))) (opens k flag s)
+    -- whatever was open, it is judged at its stop flag, nothing is answered between the flags, and none is open after it
+    candidate-from : (k : Candidate) (rest : List Call)
+        → from k (feed (flag ∷ (body ++ b ∷ [])) ++ rest)
+        ≡ answerTo P k (byte flag)
+        ∷ (map (λ (x : ℕ). P .nothing) body ++ P .judge (flag ∷ (body ++ b ∷ [])) ∷ from none rest)
+    candidate-from k rest =
+        ap (λ (c : Candidate). answerTo P k (byte flag) ∷ from c (feed (body ++ b ∷ []) ++ rest)) (opens k flag s)
         ∙ ap (λ (xs : List A). answerTo P k (byte flag) ∷ xs)
-        (ap (from (opened (flag ∷ []))) (feed-append body (b ∷ []))
-        ∙ held-silently (flag ∷ []) body (byte b ∷ []) f
+        (ap (λ (calls : List Call). from (opened (flag ∷ [])) (calls ++ rest)) (feed-append body (b ∷ []))
+        ∙ ap (from (opened (flag ∷ []))) (append-assoc (feed body) (byte b ∷ []) rest)
+        ∙ held-silently (flag ∷ []) body (byte b ∷ rest) f
         ∙ ap (λ (xs : List A). map (λ (x : ℕ). P .nothing) body ++ xs) (rw e refl))
 
     -- A whole candidate is judged at its stop flag, and nothing is answered before it.
     pub reference-candidate : Reference P (feed (flag ∷ (body ++ b ∷ [])))
         ≡ P .nothing ∷ (map (λ (x : ℕ). P .nothing) body ++ P .judge (flag ∷ (body ++ b ∷ [])) ∷ [])
     reference-candidate =
-        candidate-from none
+        ap (Reference P) (sym (append-nil (feed (flag ∷ (body ++ b ∷ [])))))
+        ∙ candidate-from none []
         ∙ ap (λ (a : A). a ∷ (map (λ (x : ℕ). P .nothing) body ++ P .judge (flag ∷ (body ++ b ∷ [])) ∷ [])) (rw s refl)
+
+    -- Any calls, a whole candidate and any calls: the first are answered as they are alone, the candidate's start flag as
+    -- it is after them, its other bytes with nothing and its stop flag with the judgement, and the last as they are alone.
+    pub reference-around : (calls rest : List Call)
+        → Reference P (calls ++ (feed (flag ∷ (body ++ b ∷ [])) ++ rest))
+        ≡ Reference P calls ++ (answerTo P (leftAfter (candidateAfter P) none calls) (byte flag)
+        ∷ (map (λ (x : ℕ). P .nothing) body ++ P .judge (flag ∷ (body ++ b ∷ [])) ∷ Reference P rest))
+    reference-around calls rest =
+        run-append (answerTo P) (candidateAfter P) none calls (feed (flag ∷ (body ++ b ∷ [])) ++ rest)
+        ∙ ap (λ (xs : List A). Reference P calls ++ xs) (candidate-from (leftAfter (candidateAfter P) none calls) rest)
 
     -- After any calls, too, it is judged at its stop flag.
     pub reference-judges : (calls : List Call)
         → (earlier : List A)
         × (Reference P (calls ++ feed (flag ∷ (body ++ b ∷ []))) ≡ earlier ++ P .judge (flag ∷ (body ++ b ∷ [])) ∷ [])
     reference-judges calls =
-        let k = leftAfter (candidateAfter P) none calls in
-        let between = answerTo P k (byte flag) ∷ map (λ (x : ℕ). P .nothing) body in
+        let between = answerTo P (leftAfter (candidateAfter P) none calls) (byte flag) ∷ map (λ (x : ℕ). P .nothing) body in
         let judged = P .judge (flag ∷ (body ++ b ∷ [])) ∷ [] in (
           Reference P calls ++ between,
-          run-append (answerTo P) (candidateAfter P) none calls (feed (flag ∷ (body ++ b ∷ [])))
-              ∙ ap (λ (xs : List A). Reference P calls ++ xs) (candidate-from k)
+          ap (λ (l : List Call). Reference P (calls ++ l)) (sym (append-nil (feed (flag ∷ (body ++ b ∷ [])))))
+              ∙ reference-around calls []
               ∙ sym (append-assoc (Reference P calls) between judged),
         )
 

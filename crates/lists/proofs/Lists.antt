@@ -9,7 +9,7 @@ use lib.ListN.{length, getD, take, drop, set, length-drop, take-append-drop}
 use lib.Seq.{take-suc, drop-cons, set-at, length-take-le, drop-drop, drop-append-add, drop-append-le, getD-drop}
 use lib.Seq.{take-all, take-add, drop-at}
 use borrow.Author.Tests.{leb-true, leb-false}
-use Rattle.lists.specs.Choice.{pick}
+use Rattle.lists.specs.Choice.{pick, Every}
 use Rattle.lists.proofs.Cases.{by-bool}
 
 -- The two elements at an index, and the rest.
@@ -129,3 +129,9 @@ pub drop-take : (a k : ℕ) (s : List ℕ) → a + k ≤ length s → drop a (ta
 drop-take a k s h =
     let n : length (take a s) ≡ a = length-take-le a s (omega arith) in
     ap (drop a) (take-add a k s) ∙ drop-at (take a s) (take k (drop a s)) a n
+
+-- Every element has a property where one is exchanged for another that has it.
+pub every-set : {A : Type 0} (P : A → Type 0) (s : List A) (i : ℕ) (a : A) → Every P s → P a → Every P (set s i a)
+every-set P [] i a h k = h
+every-set P (x ∷ s) zero a h k = (k, h .1)
+every-set P (x ∷ s) (suc i) a h k = (h .0, every-set P s i a (h .1) k)

@@ -2,7 +2,7 @@
 use mathlib.Core.Path.{_≡_, refl, sym, ap, ap₂, _∙_, subst}
 use mathlib.Core.Bool.{Bool, true, false}
 use mathlib.Core.List.{List, [], _∷_, _++_, map, append-assoc}
-use Prim.Native.Nat.{ℕ, _≤_}
+use Prim.Native.Nat.{ℕ, suc, _≤_}
 use lib.ListN.{length, take, drop, take-append-drop}
 use lib.Seq.{drop-append-le}
 use Rattle.lists.specs.Machine.{run, leftAfter, only, answersOnly, Ran, ended, call, RanBy, ended-by, call-by}
@@ -17,6 +17,11 @@ module _ {S C A : Type 0} (answer : S → C → A) (next : S → C → S) where
       → run answer next s (calls ++ rest) ≡ run answer next s calls ++ run answer next (leftAfter next s calls) rest
   run-append s [] rest = refl
   run-append s (c ∷ calls) rest = ap (λ (l : List A). answer s c ∷ l) (run-append (next s c) calls rest)
+
+  -- As many answers as calls.
+  pub run-length : (s : S) (calls : List C) → length (run answer next s calls) ≡ length calls
+  run-length s [] = refl
+  run-length s (c ∷ calls) = ap suc (run-length (next s c) calls)
 
   -- A call that leaves one state, whatever was before it, leaves the machine as it is from there.
   pub runs-anew : (new : S) (c : C) → ((s : S) → next s c ≡ new) → (s : S) (calls rest : List C)

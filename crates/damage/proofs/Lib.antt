@@ -1,0 +1,4 @@
+pub mod Places
+pub mod Example
+pub mod Slices
+pub mod Calls
