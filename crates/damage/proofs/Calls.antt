@@ -1,54 +1,63 @@
--- Document 02, No. 13, of the functions themselves: calls that read a slice, that judge bytes between flags, and that feed
--- the line by the byte and by the chunk, in each form that a caller has, known by nothing but what the contracts tell a
--- caller.
+-- Document 02, No. 13, of the functions themselves: calls that read a slice or the candidate that one begins with, that
+-- judge bytes between flags, and that feed the line by the byte and by the chunk, known by nothing but what the contracts
+-- tell a caller. Calls of `trace_exports` are exported ones at the origin of traces.
 use Prim.Native.Nat.{ℕ, _+_}
 use mathlib.Core.Path.{_≡_, refl, sym, ap, _∙_, subst}
 use mathlib.Core.List.{List, _∷_, _++_, map, append-assoc}
 use native.Mathlib.Omega.{arith}
-use lib.ListN.{length, set, take, length-append, length-map}
-use lib.Seq.{map-set-same}
+use lib.ListN.{length, set, take, length-set, length-append, length-map}
+use lib.Seq.{map-set-same, take-at}
 use contract.Lifetimes.{Lfts}
 use denote.Ref.{RefT}
-use Rattle.lists.specs.Machine.{AnsweredBy, leftAfter}
+use Rattle.lists.specs.Machine.{Answered, AnsweredBy, leftAfter}
 use Rattle.lists.proofs.Machines.{run-length}
-use Rattle.framing.specs.Reference.{Call, byte, FlagFree, Reference, none, answerTo, candidateAfter}
-use Rattle.framing.specs.Demand3.{feed, Demand3}
+use Rattle.framing.specs.Reference.{Call, byte, FlagFree, Protocol, Reference, none, answerTo, candidateAfter}
+use Rattle.framing.specs.Demand3.{feed, toldBy, Demand3}
 use Rattle.framing.proofs.Restart.{reference-around}
 use Rattle.answer.specs.Answer.{Answer, result, refused}
 use Rattle.frame.specs.Flags.{startFlag, stopFlag, roleOf, candidateOf}
-use Rattle.frame.specs.Frame.{Frame}
+use Rattle.frame.specs.Frame.{Frame, extended}
+use Rattle.frame.specs.Leading.{leadingCount}
 use Rattle.frame.specs.Verdict.{Verdict, verdict}
 use Rattle.frame.specs.Origin.{admit}
-use Rattle.frame.specs.Answers.{FrameOutline, standardOutline, extendedOutline, Reads, frameRead, readMeans}
-use Rattle.frame.specs.Conditions.{SoundFrame, Judged, sound, refusedBy, noRoom, fits}
+use Rattle.frame.specs.Answers.{FrameOutline, Reads, frameRead, readMeans, judgeAnswer, leftIn}
+use Rattle.frame.specs.Conditions.{SoundFrame, refusedBy, noRoom, fits}
 use Rattle.frame.specs.declared.Origin.{Origin}
 use Rattle.frame.specs.declared.Kind.{Kind}
+use Rattle.frame.specs.declared.Leading.{Leading}
 use Rattle.frame.specs.declared.Read.{Read}
-use Rattle.frame.proofs.FlagLaws.{start-role}
+use Rattle.frame.proofs.FlagLaws.{start-role, free-flagless}
 use Rattle.frame.proofs.OriginLaws.{admit-means}
 use Rattle.frame.proofs.VerdictLaws.{whole-length}
+use Rattle.frame.proofs.LeadingLaws.{leading-exactly}
 use Rattle.frame.proofs.Table.{accepted-exactly, read-by-table, reads-exactly}
 use Rattle.frame.proofs.RoundTrip.{told-sound}
-use Rattle.frame.proofs.Calls.{CalledRead, call-reads}
-use Rattle.frame.proofs.JudgeCalls.{judged-by-table, judged-untouched}
+use Rattle.frame.proofs.Calls.{CalledRead, read-first, call-reads}
 use Rattle.frame.proofs.judge_array.Reads as judge-array-reads
-use Rattle.line.specs.Outcome.{Outcome, nothing, judged}
+use Rattle.frame.proofs.read_leading.Reads as read-leading-reads
+use Rattle.line.specs.Outcome.{Outcome, nothing, judged, ValueAnswer, valueAnswerOf}
 use Rattle.line.specs.Rowing.{rowing}
 use Rattle.line.specs.Reader.{AsNew}
+use Rattle.line.proofs.Calls.{Made, Called, demand-3}
 use Rattle.line.proofs.ChunkCalls.{CalledOn, chunks-demand-3}
 use Rattle.exports.specs.LentLine.{readerOf}
 use Rattle.exports.proofs.FrameCalls.{ExportedRead, exported-reads}
 use Rattle.exports.proofs.LineCalls.{ExportedLine, exported-demand-3}
-use Rattle.damage.specs.Damage.{partAt, OneChange, effectOf, Shows, Accepts, Catches, OneAnswer}
+use Rattle.damage.specs.Damage.{Part, inDestination, inSource, inContents, inChecksum, partAt, OneChange}
+use Rattle.damage.specs.Damage.{effectOf, effectAt, Shows, Tells, Accepts, Catches, ReadShows, OneAnswer}
 use Rattle.damage.proofs.Slices.{shows-as, slice-damaged, verdict-damaged, both-candidates}
 
 -- ---- reading a slice
 
+-- what a call told was sound
+was-sound : (p : Origin) (w : List ℕ) (f : Frame) (out : List ℕ) (a : Answer FrameOutline) (last : List ℕ)
+    → Reads p w out a last → frameRead a last ≡ result f → SoundFrame p w f
+was-sound p w f out a last k = told-sound p w out a last f (read-by-table p w out a last .0 k)
+
 module _ (p o : Origin) (w : List ℕ) (f : Frame) (i b : ℕ) (c : OneChange w i b) where
-  -- One byte of a sound slice is changed, and it is read into any output.
+  -- one byte of a sound slice is changed, and it is read into any output
   reads-damaged : SoundFrame p w f → (out : List ℕ) (a : Answer FrameOutline) (last : List ℕ)
-      → Reads o (set w i b) out a last
-      → Shows (λ (g : Frame). Accepts g out a last) (Catches out a last) (effectOf (partAt w i) f b)
+      → Reads o (set w i b) out a last → ReadShows out a last (effectAt w f i b)
   reads-damaged s out a last k =
       shows-as
       (λ g h. (
@@ -56,139 +65,184 @@ module _ (p o : Origin) (w : List ℕ) (f : Frame) (i b : ℕ) (c : OneChange w 
         (λ short. reads-exactly o (set w i b) out a _ last _ k .1 (noRoom h short)),
       ))
       (λ j. reads-exactly o (set w i b) out a _ last _ k .1 (refusedBy j))
-      (effectOf (partAt w i) f b) (slice-damaged p o w f i b s c)
-
-  -- what was told was sound
-  was-sound : (out : List ℕ) (a : Answer FrameOutline) (last : List ℕ) → Reads p w out a last
-      → frameRead a last ≡ result f → SoundFrame p w f
-  was-sound out a last k = told-sound p w out a last f (read-by-table p w out a last .0 k)
+      (effectAt w f i b) (slice-damaged p o w f i b s c)
 
   -- One byte of a sound slice is changed, and it is read, from any origin and into any output.
   pub read-damaged : {out last : List ℕ} {a : Answer FrameOutline} → SoundFrame p w f
-      → CalledRead o (set w i b) out a last
-      → Shows (λ (g : Frame). Accepts g out a last) (Catches out a last) (effectOf (partAt w i) f b)
+      → CalledRead o (set w i b) out a last → ReadShows out a last (effectAt w f i b)
   read-damaged {out} {last} {a} s k = reads-damaged s out a last (call-reads k)
 
   -- A slice was read as a frame. One byte of it is changed, and it is read again.
   pub read-again-damaged : {out last out₀ last₀ : List ℕ} {a a₀ : Answer FrameOutline} → CalledRead p w out₀ a₀ last₀
-      → frameRead a₀ last₀ ≡ result f → CalledRead o (set w i b) out a last
-      → Shows (λ (g : Frame). Accepts g out a last) (Catches out a last) (effectOf (partAt w i) f b)
-  read-again-damaged {out} {last} {out₀} {last₀} {a} {a₀} k e l = read-damaged (was-sound out₀ a₀ last₀ (call-reads k) e) l
+      → frameRead a₀ last₀ ≡ result f → CalledRead o (set w i b) out a last → ReadShows out a last (effectAt w f i b)
+  read-again-damaged {out} {last} {out₀} {last₀} {a} {a₀} k e l =
+      read-damaged (was-sound p w f out₀ a₀ last₀ (call-reads k) e) l
 
   -- The same of the exported calls.
   pub exported-read-damaged : {out last : List ℕ} {a : Answer FrameOutline} → SoundFrame p w f
-      → ExportedRead o (set w i b) out a last
-      → Shows (λ (g : Frame). Accepts g out a last) (Catches out a last) (effectOf (partAt w i) f b)
+      → ExportedRead o (set w i b) out a last → ReadShows out a last (effectAt w f i b)
   exported-read-damaged {out} {last} {a} s k = reads-damaged s out a last (exported-reads k)
 
   pub exported-read-again-damaged : {out last out₀ last₀ : List ℕ} {a a₀ : Answer FrameOutline}
       → ExportedRead p w out₀ a₀ last₀ → frameRead a₀ last₀ ≡ result f → ExportedRead o (set w i b) out a last
-      → Shows (λ (g : Frame). Accepts g out a last) (Catches out a last) (effectOf (partAt w i) f b)
+      → ReadShows out a last (effectAt w f i b)
   exported-read-again-damaged {out} {last} {out₀} {last₀} {a} {a₀} k e l =
-      exported-read-damaged (was-sound out₀ a₀ last₀ (exported-reads k) e) l
+      exported-read-damaged (was-sound p w f out₀ a₀ last₀ (exported-reads k) e) l
 
--- ---- judging in place
+  -- A slice begins with the changed candidate, whatever follows it: `read_leading` takes that candidate and answers it as
+  -- a call on it alone is answered.
+  pub leading-damaged : (κs : Lfts 2) (ρ out out′ : RefT (List ℕ)) (r : Leading) (rest : List ℕ)
+      → read-leading-reads.Learnt κs (o, (ρ, (out, tt))) r (o, (ρ, (out′, tt))) → SoundFrame p w f
+      → ρ .now ≡ set w i b ++ rest
+      → (r .taken ≡ length w) × ReadShows (out .now) (readMeans (r .read)) (out′ .now) (effectAt w f i b)
+  leading-damaged κs ρ out out′ r rest k s e =
+      let m = both-candidates p w f i b s c in
+      let body = set (m .body) (m .index) b in
+      let taken : r .taken ≡ length (set w i b) =
+      k .0 ∙ ap leadingCount (e ∙ ap (λ (v : List ℕ). v ++ rest) (m .shape-after))
+      ∙ leading-exactly (m .kind) body rest (free-flagless body (m .free-after))
+      ∙ sym (ap length (m .shape-after) ∙ whole-length (m .kind) body) in
+      let first : take (r .taken) (ρ .now) ≡ set w i b =
+      ap (take (r .taken)) e ∙ take-at (set w i b) rest (r .taken) (sym taken) in (
+        taken ∙ length-set w i b,
+        read-damaged s (subst (λ (v : List ℕ). CalledRead o v (out .now) (readMeans (r .read)) (out′ .now)) first
+            (read-first r κs ρ out out′ k)),
+      )
 
--- an answer and bytes that tell a refusal are that refusal
-refusal-told : (a : Answer FrameOutline) (s : List ℕ) (n : ℕ) → frameRead a s ≡ refused n → a ≡ refused n
-unfolding frameRead
-refusal-told (result (standardOutline len)) s n e = let z : _≡_ {A = ℕ} 0 1 = cc in absurd (omega arith)
-refusal-told (result (extendedOutline to from len)) s n e = let z : _≡_ {A = ℕ} 0 1 = cc in absurd (omega arith)
-refusal-told (refused m) s n e = let q : m ≡ n = cc in ap refused q
+  -- The bytes between the flags of the changed candidate, judged in place.
+  pub judged-damaged : (κs : Lfts 1) (kind : Kind) (ρ ρ′ : RefT (List ℕ)) (len : ℕ) (r : Read)
+      → judge-array-reads.Learnt κs (o, (kind, (ρ, (len, tt)))) r (o, (kind, (ρ′, (len, tt)))) → SoundFrame p w f
+      → set w i b ≡ candidateOf kind (take len (ρ .now))
+      → Shows (λ (g : Frame). Tells g (ρ .now) (readMeans r) (ρ′ .now)) (Catches (ρ .now) (readMeans r) (ρ′ .now))
+      (effectAt w f i b)
+  unfolding judgeAnswer leftIn
+  judged-damaged κs kind ρ ρ′ len r k s e =
+      let is : (v : Verdict) → admit o (verdict (set w i b)) ≡ v → admit o (verdict (candidateOf kind (take len (ρ .now)))) ≡ v =
+      λ v h. ap (λ (l : List ℕ). admit o (verdict l)) (sym e) ∙ h in
+      shows-as
+      (λ g h. (
+        k .0 ∙ ap judgeAnswer (is (result g) h),
+        k .1 ∙ ap (λ (v : Verdict). leftIn v (ρ .now)) (is (result g) h),
+      ))
+      (λ h. (
+        k .0 ∙ ap judgeAnswer (is (refused 5) h),
+        k .1 ∙ ap (λ (v : Verdict). leftIn v (ρ .now)) (is (refused 5) h),
+      ))
+      (effectAt w f i b) (verdict-damaged p o w f i b s c)
 
--- The bytes between the flags of a candidate that was sound before one byte of it was changed, judged in place: 5, and
--- no byte of them is changed, or the frame with only that address changed.
-pub judged-damaged : (κs : Lfts 1) (o : Origin) (kind : Kind) (ρ ρ′ : RefT (List ℕ)) (len : ℕ) (r : Read)
-    → judge-array-reads.Learnt κs (o, (kind, (ρ, (len, tt)))) r (o, (kind, (ρ′, (len, tt))))
-    → (p : Origin) (w : List ℕ) (f : Frame) (i b : ℕ) → SoundFrame p w f → OneChange w i b
-    → set w i b ≡ candidateOf kind (take len (ρ .now))
-    → Shows (λ (g : Frame). frameRead (readMeans r) (ρ′ .now) ≡ result g)
-    ((readMeans r ≡ refused 5) × (ρ′ .now ≡ ρ .now)) (effectOf (partAt w i) f b)
-judged-damaged κs o kind ρ ρ′ len r k p w f i b s c e =
-    shows-as
-    (λ g h. judged-by-table κs o kind ρ ρ′ len r k (result g) .1 (sound g (subst (λ (v : List ℕ). SoundFrame o v g) e h)))
-    (λ h. let told = judged-by-table κs o kind ρ ρ′ len r k (refused 5) .1
-    (subst (λ (v : List ℕ). Judged o v (refused 5)) e h) in
-    let five = refusal-told (readMeans r) (ρ′ .now) 5 told in
-    (five, judged-untouched κs o kind ρ ρ′ len r k 5 five))
-    (effectOf (partAt w i) f b) (slice-damaged p o w f i b s c)
+-- ---- the same, part by part
+
+module _ (p o : Origin) (w : List ℕ) (i b : ℕ) (c : OneChange w i b) {out last : List ℕ} {a : Answer FrameOutline}
+    (k : CalledRead o (set w i b) out a last) where
+  -- the effect at a place that is known
+  at-part : (f : Frame) (part : Part) → SoundFrame p w f → partAt w i ≡ part → ReadShows out a last (effectOf part f b)
+  at-part f part s e =
+      subst (λ (q : Part). ReadShows out a last (effectOf q f b)) e (read-damaged p o w f i b c s k)
+
+  -- In the contents, and in the checksum, the change is answered 5.
+  pub contents-caught : (f : Frame) → SoundFrame p w f → partAt w i ≡ inContents → (a ≡ refused 5) × (last ≡ out)
+  contents-caught f s e = at-part f inContents s e
+
+  pub checksum-caught : (f : Frame) → SoundFrame p w f → partAt w i ≡ inChecksum → (a ≡ refused 5) × (last ≡ out)
+  checksum-caught f s e = at-part f inChecksum s e
+
+  -- A changed destination is told as the destination, and a changed source as the source.
+  pub destination-told : (to from : ℕ) (contents : List ℕ) → SoundFrame p w (extended to from contents)
+      → partAt w i ≡ inDestination → Accepts (extended b from contents) out a last
+  destination-told to from contents s e = at-part (extended to from contents) inDestination s e
+
+  pub source-told : (to from : ℕ) (contents : List ℕ) → SoundFrame p w (extended to from contents)
+      → partAt w i ≡ inSource → Accepts (extended to b contents) out a last
+  source-told to from contents s e = at-part (extended to from contents) inSource s e
 
 -- ---- the line
 
-module _ (o : Origin) (answered : List Call → List Outcome → Type 0) (d : Demand3 (rowing o) answered)
-    (before later : List Call) where
-  -- the answer to the start flag of a candidate after the first row of calls, and the outcomes before its stop flag
-  abbrev at-start : Kind → Outcome
-  at-start kind = answerTo (rowing o) (leftAfter (candidateAfter (rowing o)) none before) (byte (startFlag kind))
+module _ {A : Type 0} (tell : Outcome → A) (o : Origin) (answered : List Call → List A → Type 0)
+    (d : Demand3 (toldBy tell (rowing o)) answered) (before later : List Call) where
+  abbrev P : Protocol A
+  P = toldBy tell (rowing o)
 
-  abbrev silence : List ℕ → List Outcome
-  silence body = map (λ (x : ℕ). nothing) body
+  -- the answer to the start flag of a candidate after the first row of calls, and the answers before its stop flag
+  abbrev at-start : Kind → A
+  at-start kind = answerTo P (leftAfter (candidateAfter P) none before) (byte (startFlag kind))
 
-  abbrev up-to-stop : Kind → List ℕ → List Outcome
-  up-to-stop kind body = Reference (rowing o) before ++ at-start kind ∷ silence body
+  abbrev silence : List ℕ → List A
+  silence body = map (λ (x : ℕ). tell nothing) body
 
-  around : (kind : Kind) (body w : List ℕ) → w ≡ candidateOf kind body → FlagFree roleOf body → (outcomes : List Outcome)
-      → answered (before ++ (feed w ++ later)) outcomes
-      → outcomes ≡ up-to-stop kind body ++ judged (admit o (verdict w)) ∷ Reference (rowing o) later
-  around kind body w shape inside outcomes k =
-      d .same (before ++ (feed w ++ later)) outcomes k
-      ∙ ap (λ (v : List ℕ). Reference (rowing o) (before ++ (feed v ++ later))) shape
-      ∙ reference-around (rowing o) (startFlag kind) body stopFlag (start-role kind) inside refl before later
-      ∙ sym (append-assoc (Reference (rowing o) before) (at-start kind ∷ silence body)
-      (judged (admit o (verdict (candidateOf kind body))) ∷ Reference (rowing o) later))
-      ∙ ap (λ (v : List ℕ). up-to-stop kind body ++ judged (admit o (verdict v)) ∷ Reference (rowing o) later) (sym shape)
+  abbrev up-to-stop : Kind → List ℕ → List A
+  up-to-stop kind body = Reference P before ++ at-start kind ∷ silence body
+
+  around : (kind : Kind) (body w : List ℕ) → w ≡ candidateOf kind body → FlagFree roleOf body → (answers : List A)
+      → answered (before ++ (feed w ++ later)) answers
+      → answers ≡ up-to-stop kind body ++ tell (judged (admit o (verdict w))) ∷ Reference P later
+  around kind body w shape inside answers k =
+      d .same (before ++ (feed w ++ later)) answers k
+      ∙ ap (λ (v : List ℕ). Reference P (before ++ (feed v ++ later))) shape
+      ∙ reference-around P (startFlag kind) body stopFlag (start-role kind) inside refl before later
+      ∙ sym (append-assoc (Reference P before) (at-start kind ∷ silence body)
+      (tell (judged (admit o (verdict (candidateOf kind body)))) ∷ Reference P later))
+      ∙ ap (λ (v : List ℕ). up-to-stop kind body ++ tell (judged (admit o (verdict v))) ∷ Reference P later) (sym shape)
 
   count-to-stop : (kind : Kind) (body w : List ℕ) → w ≡ candidateOf kind body
       → length (up-to-stop kind body) + 1 ≡ length before + length w
   count-to-stop kind body w shape =
       omega (
         arith,
-        length-append (Reference (rowing o) before) (at-start kind ∷ silence body),
-        run-length (answerTo (rowing o)) (candidateAfter (rowing o)) none before,
-        length-map body (λ (x : ℕ). nothing),
+        length-append (Reference P before) (at-start kind ∷ silence body),
+        run-length (answerTo P) (candidateAfter P) none before,
+        length-map body (λ (x : ℕ). tell nothing),
         ap length shape ∙ whole-length kind body,
       )
 
-  -- Any calls, a sound frame and any calls, and the same with one byte of the frame changed, where the outcomes are those
-  -- of the reference decoder: they differ in the answer to the frame's stop flag alone.
+  -- Any calls, a sound frame and any calls, and the same with one byte of the frame changed, each answered as demand 3
+  -- says: the answers differ in that to the frame's stop flag alone.
   pub line-damaged : (p : Origin) (w : List ℕ) (f : Frame) (i b : ℕ) → SoundFrame p w f → OneChange w i b
-      → (intact damaged : List Outcome) → answered (before ++ (feed w ++ later)) intact
+      → (intact damaged : List A) → answered (before ++ (feed w ++ later)) intact
       → answered (before ++ (feed (set w i b) ++ later)) damaged
-      → OneAnswer o before w f i b intact damaged
+      → OneAnswer tell o before w f i b intact damaged
   line-damaged p w f i b s c intact damaged k l =
       let m = both-candidates p w f i b s c in
       let told : verdict w ≡ result f = admit-means p (verdict w) f (accepted-exactly p w f .1 s) .0 in
-      let answer = judged (admit o (verdict (set w i b))) in
-      let rest = Reference (rowing o) later in
+      let outcome = judged (admit o (verdict (set w i b))) in
+      let rest = Reference P later in
       record {
         earlier = up-to-stop (m .kind) (m .body);
         later = rest;
-        answer = answer;
+        outcome = outcome;
         at-stop = count-to-stop (m .kind) (m .body) w (m .shape-before);
         intact-is = around (m .kind) (m .body) w (m .shape-before) (m .free-before) intact k
-            ∙ ap (λ (v : Verdict). up-to-stop (m .kind) (m .body) ++ judged (admit o v) ∷ rest) told;
+            ∙ ap (λ (v : Verdict). up-to-stop (m .kind) (m .body) ++ tell (judged (admit o v)) ∷ rest) told;
         damaged-is =
             around (m .kind) (set (m .body) (m .index) b) (set w i b) (m .shape-after) (m .free-after) damaged l
-            ∙ ap (λ (xs : List Outcome). (Reference (rowing o) before ++ at-start (m .kind) ∷ xs) ++ answer ∷ rest)
-            (map-set-same (λ (x : ℕ). nothing) (m .body) (m .index) b 0 refl);
-        answer-is =
-            shows-as (λ g e. ap judged e) (λ e. ap judged e) (effectOf (partAt w i) f b) (verdict-damaged p o w f i b s c);
+            ∙ ap (λ (xs : List A). (Reference P before ++ at-start (m .kind) ∷ xs) ++ tell outcome ∷ rest)
+            (map-set-same (λ (x : ℕ). tell nothing) (m .body) (m .index) b 0 refl);
+        outcome-is = shows-as (λ g e. ap judged e) (λ e. ap judged e) (effectAt w f i b) (verdict-damaged p o w f i b s c);
       }
 
 module _ (p o : Origin) (before later : List Call) (w : List ℕ) (f : Frame) (i b : ℕ) (s : SoundFrame p w f)
-    (c : OneChange w i b) {intact damaged : List Outcome} where
+    (c : OneChange w i b) where
+  -- Calls of `step` and `finish` on readers that `new` made, with all 118 bytes of each answer.
+  pub steps-damaged : {intact damaged : List ValueAnswer}
+      → Answered Called (Made o) (before ++ (feed w ++ later)) intact
+      → Answered Called (Made o) (before ++ (feed (set w i b) ++ later)) damaged
+      → OneAnswer valueAnswerOf o before w f i b intact damaged
+  steps-damaged {intact} {damaged} =
+      line-damaged valueAnswerOf o (Answered Called (Made o)) (demand-3 o) before later p w f i b s c intact damaged
+
   -- Calls in a row on readers that are as new, by the byte, by the chunk and finishes, in any form and order.
-  pub chunks-damaged : AnsweredBy CalledOn (AsNew o) (before ++ (feed w ++ later)) intact
+  pub chunks-damaged : {intact damaged : List Outcome}
+      → AnsweredBy CalledOn (AsNew o) (before ++ (feed w ++ later)) intact
       → AnsweredBy CalledOn (AsNew o) (before ++ (feed (set w i b) ++ later)) damaged
-      → OneAnswer o before w f i b intact damaged
-  chunks-damaged =
-      line-damaged o (AnsweredBy CalledOn (AsNew o)) (chunks-demand-3 o) before later p w f i b s c intact damaged
+      → OneAnswer (λ (a : Outcome). a) o before w f i b intact damaged
+  chunks-damaged {intact} {damaged} =
+      line-damaged (λ (a : Outcome). a) o (AnsweredBy CalledOn (AsNew o)) (chunks-demand-3 o) before later p w f i b s c
+      intact damaged
 
   -- The same of the exported calls.
-  pub exported-line-damaged :
-      AnsweredBy (ExportedLine o) (λ l. AsNew o (readerOf o l)) (before ++ (feed w ++ later)) intact
+  pub exported-line-damaged : {intact damaged : List Outcome}
+      → AnsweredBy (ExportedLine o) (λ l. AsNew o (readerOf o l)) (before ++ (feed w ++ later)) intact
       → AnsweredBy (ExportedLine o) (λ l. AsNew o (readerOf o l)) (before ++ (feed (set w i b) ++ later)) damaged
-      → OneAnswer o before w f i b intact damaged
-  exported-line-damaged =
-      line-damaged o (AnsweredBy (ExportedLine o) (λ l. AsNew o (readerOf o l))) (exported-demand-3 o) before later p w f i b
-      s c intact damaged
+      → OneAnswer (λ (a : Outcome). a) o before w f i b intact damaged
+  exported-line-damaged {intact} {damaged} =
+      line-damaged (λ (a : Outcome). a) o (AnsweredBy (ExportedLine o) (λ l. AsNew o (readerOf o l)))
+      (exported-demand-3 o) before later p w f i b s c intact damaged

@@ -1,4 +1,4 @@
 pub mod Places
-pub mod Example
 pub mod Slices
+pub mod Example
 pub mod Calls

@@ -5,11 +5,10 @@ use mathlib.Core.Path.{_≡_, refl, sym, ap, ap₂, _∙_, subst}
 use mathlib.Core.List.{List, [], _∷_, _++_}
 use native.Mathlib.Omega.{arith}
 use lib.Dec.{eqb}
-use lib.ListN.{length, getD, take, length-append, List·getD-append}
+use lib.ListN.{length, getD, take, List·getD-append}
 use lib.Seq.{take-append-le, take-all}
 use borrow.Author.Tests.{eqb-true, eqb-false, ne-eqb, eq-eqb}
 use Rattle.lists.proofs.Cases.{by-bool}
-use Rattle.frame.specs.Checksum.{checksum}
 use Rattle.frame.specs.Flags.{startFlag, stopFlag, candidateOf}
 use Rattle.frame.specs.Frame.{Frame, standard, extended, contentsOf, addressesOf, frameKind, payload}
 use Rattle.frame.specs.Verdict.{bodyOf}
@@ -18,7 +17,8 @@ use Rattle.frame.specs.Places.{unstuffedIn, StandsFor}
 use Rattle.frame.specs.declared.Origin.{Origin}
 use Rattle.frame.specs.declared.Kind.{Kind}
 use Rattle.frame.proofs.FlagLaws.{kind-start}
-use Rattle.frame.proofs.UnstuffsLaws.{unstuffs-count, unstuffs-place, unstuffs-itself}
+use Rattle.frame.proofs.UnstuffsLaws.{unstuffs-count, unstuffs-place, unstuffs-itself, stands-once}
+use Rattle.frame.proofs.WireLaws.{payload-length}
 use Rattle.frame.proofs.VerdictLaws.{whole-length, whole-body}
 use Rattle.damage.specs.Damage.{Part, inDestination, inSource, inContents, inChecksum, Between, numberAt, partAfter}
 use Rattle.damage.specs.Damage.{partOf, partAt, LiesIn, PlaceIs, PlainAt}
@@ -30,12 +30,6 @@ pub after-part : (n all : ℕ) (P : Part → Type 0) → (n + 1 ≡ all → P in
     → P (partAfter n all)
 after-part n all P y k =
     by-bool (eqb (n + 1) all) (λ e. simp e (y (eqb-true _ _ e))) (λ e. simp e (k (eqb-false _ _ e)))
-
-payload-length : (f : Frame) → length (payload f) ≡ length (addressesOf f) + length (contentsOf f) + 1
-unfolding payload
-payload-length f =
-    let c = contentsOf f in
-    omega (arith, length-append (addressesOf f) (c ++ (checksum c ∷ [])), length-append c (checksum c ∷ []))
 
 -- a number lies in the part that it is said to lie in
 part-lies : (f : Frame) (n : ℕ) → n < length (payload f) → LiesIn (partOf (frameKind f) n (length (payload f))) f n
@@ -125,8 +119,11 @@ module _ (f : Frame) (body : List ℕ) (r : Unstuffs body (payload f)) (j : ℕ)
   place-inside h =
       let n = numberAt wire (suc j) in
       let k = stands-at h in
+      let one : suc j - 1 ≡ j = omega arith in
       record {
         stands = k;
+        once = λ m q. stands-once (suc j - 1) m q
+            ∙ ap unstuffedIn (ap₂ take one (whole-body (frameKind f) body)) ∙ sym (number-is h);
         lies = λ part. (
           (λ e. subst (λ (q : Part). LiesIn q f n) (sym part-is ∙ e) (part-lies f n (k .inside))),
           (λ l. part-is ∙ lies-part f n part l),
@@ -162,7 +159,7 @@ sound-body p w f s =
       t .shape ∙ ap (λ (k : Kind). candidateOf k (t .body)) (s .kind-is),
     )
 
--- An index between the flags of a sound frame is the place that it is said to be.
+-- `numberAt` and `partAt` are right at every index between the flags of a sound frame.
 pub place-right : (p : Origin) (w : List ℕ) (f : Frame) (i : ℕ) → SoundFrame p w f → Between w i → PlaceIs w f i
 place-right p w f zero s h = absurd (omega (arith, h .0))
 place-right p w f (suc j) s h =

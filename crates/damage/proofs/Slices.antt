@@ -25,9 +25,9 @@ use Rattle.frame.proofs.OriginLaws.{extended-named}
 use Rattle.frame.proofs.ChecksumLaws.{sum-changed}
 use Rattle.frame.proofs.UnstuffsLaws.{unstuffs-place, unstuffs-itself, unstuffs-changed, unstuffs-sound}
 use Rattle.frame.proofs.VerdictLaws.{whole-length}
-use Rattle.frame.proofs.Table.{verdict-by-table, accepted-exactly}
+use Rattle.frame.proofs.Table.{payload-sum, verdict-by-table, accepted-exactly}
 use Rattle.damage.specs.Damage.{Part, partAfter, partOf, partAt, Unreserved, OneChange, Effect, caught}
-use Rattle.damage.specs.Damage.{acceptedAs, noSuchPart, effectOf, Shows}
+use Rattle.damage.specs.Damage.{acceptedAs, noSuchPart, effectOf, effectAt, Shows}
 use Rattle.damage.proofs.Places.{after-part, number-is, part-is, plain-inside, sound-body}
 
 -- An effect that shows in one way shows in another that follows.
@@ -66,11 +66,6 @@ bytes-changed (extended to from c) (suc (suc n)) b h other =
     after-addresses (Readdressed f (suc (suc n)) b) (SumWrong f (suc (suc n)) b) (suc (suc n)) (length (payload f)) f b
     (λ (to′, from′, d, e). sum-changed c d n b (omega arith) other (ap (drop 2) e))
 
-payload-sum : (f : Frame) → ChecksumRight (frameKind f) (payload f)
-unfolding payload addressesOf contentsOf
-payload-sum (standard c) = (c, refl)
-payload-sum (extended to from c) = (to, from, c, refl)
-
 -- ---- between the flags
 
 unreserved-plain : (b : ℕ) → Unreserved b → (roleOf b ≡ plain) × (b ≡ 0xF3 → ⊥)
@@ -91,50 +86,50 @@ changed-free body j b free u =
 module _ (o : Origin) (f : Frame) (body : List ℕ) (free : FlagFree roleOf body) (r : Unstuffs body (payload f))
     (limit : length (candidateOf (frameKind f) body) ≤ 120) (enough : LongEnough (frameKind f) (payload f)) (j b : ℕ)
     (c : OneChange (candidateOf (frameKind f) body) (suc j) b) where
-  abbrev w : List ℕ
-  w = candidateOf (frameKind f) body
+  abbrev wire : List ℕ
+  wire = candidateOf (frameKind f) body
 
-  abbrev n : ℕ
-  n = unstuffedIn (take j body)
+  abbrev number : ℕ
+  number = unstuffedIn (take j body)
 
-  k : (j < length body) × (getD w (suc j) 0 ≡ getD body j 0) × (getD body j 0 ≡ 0xF3 → ⊥)
+  plain-at : (j < length body) × (getD wire (suc j) 0 ≡ getD body j 0) × (getD body j 0 ≡ 0xF3 → ⊥)
       × (getD (startFlag (frameKind f) ∷ body) j 0 ≡ 0xF3 → ⊥)
-  k = plain-inside f body r j (c .place)
+  plain-at = plain-inside f body r j (c .place)
 
   -- the changed slice is one terminated candidate, and stands for the changed bytes
-  candidate : Terminated (set w (suc j) b)
+  candidate : Terminated (set wire (suc j) b)
   candidate = record {
     kind = frameKind f;
     body = set body j b;
-    shape = changed-shape (frameKind f) body j b (k .0);
+    shape = changed-shape (frameKind f) body j b (plain-at .0);
     inside = changed-free body j b free (c .unreserved);
   }
 
-  stands : Unstuffs (set body j b) (set (payload f) n b)
-  stands = unstuffs-changed r (startFlag (frameKind f)) j (k .0) (k .2) (k .3) b
+  stands : Unstuffs (set body j b) (set (payload f) number b)
+  stands = unstuffs-changed r (startFlag (frameKind f)) j (plain-at .0) (plain-at .2) (plain-at .3) b
       (unreserved-plain b (c .unreserved) .1)
 
-  within : length (set w (suc j) b) ≤ 120
-  within = omega (arith, length-set w (suc j) b, limit)
+  within : length (set wire (suc j) b) ≤ 120
+  within = omega (arith, length-set wire (suc j) b, limit)
 
-  long-enough : LongEnough (frameKind f) (set (payload f) n b)
-  long-enough = omega (arith, enough, length-set (payload f) n b)
+  long-enough : LongEnough (frameKind f) (set (payload f) number b)
+  long-enough = omega (arith, enough, length-set (payload f) number b)
 
-  sum-wrong : SumWrong f n b → Judged o (set w (suc j) b) (refused 5)
+  sum-wrong : SumWrong f number b → Judged o (set wire (suc j) b) (refused 5)
   unfolding candidate
-  sum-wrong wrong = badSum candidate (set (payload f) n b) within (unstuffs-sound stands) stands long-enough wrong
+  sum-wrong wrong = badSum candidate (set (payload f) number b) within (unstuffs-sound stands) stands long-enough wrong
 
-  readdressed : (g : Frame) → Readdressed f n b g → SoundFrame o (set w (suc j) b) g
+  readdressed : (g : Frame) → Readdressed f number b g → SoundFrame o (set wire (suc j) b) g
   unfolding candidate
   readdressed g (kind-f, kind-g, e) = record {
     slice = record {
       candidate = candidate;
       limit = within;
       escapes = unstuffs-sound stands;
-      unstuffed = set (payload f) n b;
+      unstuffed = set (payload f) number b;
       unstuffs = stands;
       enough = long-enough;
-      sum = subst (λ (q : Kind). ChecksumRight q (set (payload f) n b)) (kind-g ∙ sym kind-f)
+      sum = subst (λ (q : Kind). ChecksumRight q (set (payload f) number b)) (kind-g ∙ sym kind-f)
           (subst (ChecksumRight (frameKind g)) (sym e) (payload-sum g));
       sender = subst (SenderNamed o) (sym kind-f) (extended-named o);
     };
@@ -142,25 +137,25 @@ module _ (o : Origin) (f : Frame) (body : List ℕ) (free : FlagFree roleOf body
     bytes-are = e;
   }
 
-  inside-damaged : Shows (SoundFrame o (set w (suc j) b)) (Judged o (set w (suc j) b) (refused 5))
-      (effectOf (partAt w (suc j)) f b)
+  inside-damaged : Shows (SoundFrame o (set wire (suc j) b)) (Judged o (set wire (suc j) b) (refused 5))
+      (effectAt wire f (suc j) b)
   inside-damaged =
-      let part : partAt w (suc j) ≡ partOf (frameKind f) n (length (payload f)) =
+      let part : partAt wire (suc j) ≡ partOf (frameKind f) number (length (payload f)) =
       part-is f body r j
       ∙ ap (λ (m : ℕ). partOf (frameKind f) m (length (payload f))) (number-is f body r j (c .place .between)) in
-      let same : getD (payload f) n 0 ≡ getD w (suc j) 0 =
-      unstuffs-itself r (startFlag (frameKind f)) j (k .0) (k .2) (k .3) ∙ sym (k .1) in
-      subst (λ (q : Part). Shows (SoundFrame o (set w (suc j) b)) (Judged o (set w (suc j) b) (refused 5)) (effectOf q f b))
+      let same : getD (payload f) number 0 ≡ getD wire (suc j) 0 =
+      unstuffs-itself r (startFlag (frameKind f)) j (plain-at .0) (plain-at .2) (plain-at .3) ∙ sym (plain-at .1) in
+      subst (λ (q : Part). Shows (SoundFrame o (set wire (suc j) b)) (Judged o (set wire (suc j) b) (refused 5)) (effectOf q f b))
       (sym part)
-      (shows-as readdressed sum-wrong (effectOf (partOf (frameKind f) n (length (payload f))) f b)
-      (bytes-changed f n b (unstuffs-place r j (k .0) .inside) (λ e. c .other (e ∙ same))))
+      (shows-as readdressed sum-wrong (effectOf (partOf (frameKind f) number (length (payload f))) f b)
+      (bytes-changed f number b (unstuffs-place r j (plain-at .0) .inside) (λ e. c .other (e ∙ same))))
 
 -- ---- the slice
 
 -- One byte of a slice that is sound at any origin is changed: at any origin it is then, by the papers' conditions, the
 -- frame with only that address changed, or refused with 5.
 pub slice-damaged : (p o : Origin) (w : List ℕ) (f : Frame) (i b : ℕ) → SoundFrame p w f → OneChange w i b
-    → Shows (SoundFrame o (set w i b)) (Judged o (set w i b) (refused 5)) (effectOf (partAt w i) f b)
+    → Shows (SoundFrame o (set w i b)) (Judged o (set w i b) (refused 5)) (effectAt w f i b)
 slice-damaged p o w f zero b s c = absurd (omega (arith, c .place .between .0))
 slice-damaged p o w f (suc j) b s c =
     let t = s .slice .candidate in
@@ -170,16 +165,16 @@ slice-damaged p o w f (suc j) b s c =
     (subst (LongEnough (t .kind)) (s .bytes-are) (s .slice .enough)) in
     let limit : length (candidateOf (frameKind f) (t .body)) ≤ 120 = omega (arith, ap length (k .1), s .slice .limit) in
     subst (λ (v : List ℕ). OneChange v (suc j) b
-    → Shows (SoundFrame o (set v (suc j) b)) (Judged o (set v (suc j) b) (refused 5)) (effectOf (partAt v (suc j)) f b))
+    → Shows (SoundFrame o (set v (suc j) b)) (Judged o (set v (suc j) b) (refused 5)) (effectAt v f (suc j) b))
     (sym (k .1)) (inside-damaged o f (t .body) (t .inside) (k .0) limit enough j b) c
 
--- So is the verdict on it.
+-- The verdict on the changed slice is that frame, or 5.
 pub verdict-damaged : (p o : Origin) (w : List ℕ) (f : Frame) (i b : ℕ) → SoundFrame p w f → OneChange w i b
     → Shows (λ (g : Frame). admit o (verdict (set w i b)) ≡ result g) (admit o (verdict (set w i b)) ≡ refused 5)
-    (effectOf (partAt w i) f b)
+    (effectAt w f i b)
 verdict-damaged p o w f i b s c =
     shows-as (λ g h. accepted-exactly o (set w i b) g .1 h) (λ h. verdict-by-table o (set w i b) (refused 5) .1 h)
-    (effectOf (partAt w i) f b) (slice-damaged p o w f i b s c)
+    (effectAt w f i b) (slice-damaged p o w f i b s c)
 
 -- The slice before and after is a candidate of one kind, with one byte between its flags changed.
 pub record BothCandidates (w : List ℕ) (i b : ℕ) : Type 0 where

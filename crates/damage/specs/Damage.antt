@@ -33,15 +33,15 @@ pub data Part : Type 0 where
 abbrev pub Between : List ℕ → ℕ → Type 0
 Between w i = (1 ≤ i) × (i + 1 < length w)
 
--- How many unstuffed bytes end between the start flag and an index.
+-- The number, from 0, of the unstuffed byte to which an index belongs: how many end between the start flag and it.
 abbrev pub numberAt : List ℕ → ℕ → ℕ
 numberAt w i = unstuffedIn (take (i - 1) (drop 1 w))
 
--- After the addresses stand the contents, and last of all the checksum.
+-- The part after the addresses in which the byte of a number lies, of `all` unstuffed bytes: the last is the checksum.
 abbrev pub partAfter : (number all : ℕ) → Part
 partAfter number all = pick (eqb (number + 1) all) inChecksum inContents
 
--- The part of a frame of a kind in which the unstuffed byte of a number lies, where there are so many of them.
+-- The part of a frame of a kind in which the byte of a number lies, of `all` unstuffed bytes.
 abbrev pub partOf : Kind → (number all : ℕ) → Part
 partOf Standard number all = partAfter number all
 partOf Extended zero all = inDestination
@@ -61,10 +61,12 @@ LiesIn inContents f number =
     (length (addressesOf f) ≤ number) × (number < length (addressesOf f) + length (contentsOf f))
 LiesIn inChecksum f number = number ≡ length (addressesOf f) + length (contentsOf f)
 
--- The place of an index between the flags of a slice that is a frame: its byte is among those that stand for the byte of
--- the frame with its number, and it lies in a part exactly when that number does.
+-- `numberAt` and `partAt` are right at an index between the flags of a slice that is a frame: the byte there is among
+-- those that stand for the byte of the frame with that number and for no other, and it lies in a part exactly when the
+-- number does.
 pub record PlaceIs (w : List ℕ) (f : Frame) (i : ℕ) : Type 0 where
   pub stands : StandsFor (bodyOf w) (payload f) (i - 1) (numberAt w i)
+  pub once : (number : ℕ) → StandsFor (bodyOf w) (payload f) (i - 1) number → number ≡ numberAt w i
   pub lies : (part : Part) → Exactly (partAt w i ≡ part) (LiesIn part f (numberAt w i))
 
 -- ---- the change
@@ -75,7 +77,7 @@ pub record PlainAt (w : List ℕ) (i : ℕ) : Type 0 where
   pub no-escape : getD w i 0 ≡ 0xF3 → ⊥
   pub not-escaped : getD w (i - 1) 0 ≡ 0xF3 → ⊥
 
--- A byte that is none of F0 to F3: no flag, and no escape.
+-- A byte is none of F0 to F3: no flag, and it begins no escape.
 abbrev pub Unreserved : ℕ → Type 0
 Unreserved b = (b < 0xF0) ⊎ (0xF3 < b)
 
@@ -87,7 +89,8 @@ pub record OneChange (w : List ℕ) (i b : ℕ) : Type 0 where
 
 -- ---- what follows
 
--- What a change does: it is caught, or another frame is accepted. There is no such change where there is no such part.
+-- What a change does: it is caught, or another frame is accepted. `noSuchPart` is left for parts that a frame has not,
+-- in which no byte of it lies.
 pub data Effect : Type 0 where
   caught : Effect
   acceptedAs : Frame → Effect
@@ -103,33 +106,45 @@ effectOf inSource (extended to from c) b = acceptedAs (extended to b c)
 effectOf inContents f b = caught
 effectOf inChecksum f b = caught
 
--- An effect shows, by what it means that a frame is accepted and that the change is caught.
-abbrev pub Shows : (accepted : Frame → Type 0) (refused5 : Type 0) → Effect → Type 0
-Shows accepted refused5 caught = refused5
-Shows accepted refused5 (acceptedAs g) = accepted g
-Shows accepted refused5 noSuchPart = ⊥
+-- What a change at an index of a slice that is a frame does.
+abbrev pub effectAt : List ℕ → Frame → (i b : ℕ) → Effect
+effectAt w f i b = effectOf (partAt w i) f b
 
--- A call that reads accepts a frame: given room for the contents, it tells the frame and puts the contents first in its
--- output; with less it answers 1 and leaves the output.
+-- What an effect says, given what it is that a frame is accepted and that the change is caught.
+abbrev pub Shows : (whenAccepted : Frame → Type 0) (whenCaught : Type 0) → Effect → Type 0
+Shows whenAccepted whenCaught caught = whenCaught
+Shows whenAccepted whenCaught (acceptedAs g) = whenAccepted g
+Shows whenAccepted whenCaught noSuchPart = ⊥
+
+-- A call tells a frame: its kind, its addresses and the number of its contents bytes. The contents stand first in the
+-- lent bytes, and all after them is as it was.
+abbrev pub Tells : Frame → (lent : List ℕ) → Answer FrameOutline → (last : List ℕ) → Type 0
+Tells f lent a last = (a ≡ result (outlineOf f)) × (last ≡ contentsOf f ++ drop (length (contentsOf f)) lent)
+
+-- A call that reads accepts a frame: it tells the frame, given room for the contents, and with less it answers 1 and
+-- leaves the output.
 abbrev pub Accepts : Frame → (out : List ℕ) → Answer FrameOutline → (last : List ℕ) → Type 0
 Accepts f out a last =
-    (length (contentsOf f) ≤ length out
-    → (a ≡ result (outlineOf f)) × (last ≡ contentsOf f ++ drop (length (contentsOf f)) out))
+    (length (contentsOf f) ≤ length out → Tells f out a last)
     × (length out < length (contentsOf f) → (a ≡ refused 1) × (last ≡ out))
 
--- A call that reads is answered 5, whatever room there is, and leaves its output.
-abbrev pub Catches : (out : List ℕ) → Answer FrameOutline → (last : List ℕ) → Type 0
-Catches out a last = (a ≡ refused 5) × (last ≡ out)
+-- A call is answered 5, and leaves the lent bytes.
+abbrev pub Catches : (lent : List ℕ) → Answer FrameOutline → (last : List ℕ) → Type 0
+Catches lent a last = (a ≡ refused 5) × (last ≡ lent)
 
--- The outcomes of the line to any calls, a sound frame and any calls, and to the same with one byte of the frame
--- changed: they differ in the answer to the frame's stop flag alone, and that is what the change does.
-pub record OneAnswer (o : Origin) (before : List Call) (w : List ℕ) (f : Frame) (i b : ℕ) (intact damaged : List Outcome)
-    : Type 0 where
-  pub earlier : List Outcome
-  pub later : List Outcome
-  pub answer : Outcome
+-- What a call that reads a changed slice answers and leaves.
+abbrev pub ReadShows : (out : List ℕ) → Answer FrameOutline → (last : List ℕ) → Effect → Type 0
+ReadShows out a last e = Shows (λ (g : Frame). Accepts g out a last) (Catches out a last) e
+
+-- The answers of the line to any calls, a sound frame and any calls, and to the same with one byte of the frame changed,
+-- each outcome told in some way: they differ in the answer to the frame's stop flag alone. That is the frame, or on the
+-- live line 17 for a standard one, and with the change what the change does.
+pub record OneAnswer {A : Type 0} (tell : Outcome → A) (o : Origin) (before : List Call) (w : List ℕ) (f : Frame) (i b : ℕ)
+    (intact damaged : List A) : Type 0 where
+  pub earlier : List A
+  pub later : List A
+  pub outcome : Outcome
   pub at-stop : length earlier + 1 ≡ length before + length w
-  pub intact-is : intact ≡ earlier ++ judged (admit o (result f)) ∷ later
-  pub damaged-is : damaged ≡ earlier ++ answer ∷ later
-  pub answer-is : Shows (λ (g : Frame). answer ≡ judged (result g)) (answer ≡ judged (refused 5))
-      (effectOf (partAt w i) f b)
+  pub intact-is : intact ≡ earlier ++ tell (judged (admit o (result f))) ∷ later
+  pub damaged-is : damaged ≡ earlier ++ tell outcome ∷ later
+  pub outcome-is : Shows (λ (g : Frame). outcome ≡ judged (result g)) (outcome ≡ judged (refused 5)) (effectAt w f i b)

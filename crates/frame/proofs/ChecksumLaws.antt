@@ -148,7 +148,7 @@ sum-set acc (x ∷ s) (suc i) b h n e = sum-set (bitXor acc x) s i b (omega arit
 pub sum-whole : (c : List ℕ) → checksum (c ++ (checksum c ∷ [])) ≡ 0
 sum-whole c = sumFrom-last 0 c (checksum c) ∙ xor-self (checksum c)
 
--- So bytes with the right checksum are none where one of them, or the checksum, is changed.
+-- Contents and their checksum, with one byte changed, are no contents and their checksum.
 pub sum-changed : (c d : List ℕ) (i b : ℕ) → i < length (c ++ (checksum c ∷ []))
     → (b ≡ getD (c ++ (checksum c ∷ [])) i 0 → ⊥)
     → set (c ++ (checksum c ∷ [])) i b ≡ d ++ (checksum d ∷ []) → ⊥

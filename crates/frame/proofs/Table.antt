@@ -71,6 +71,12 @@ unfolding payload addressesOf contentsOf
 parts-frame Standard u (c, e) = (standard c, refl, e)
 parts-frame Extended u (to, from, c, e) = (extended to from c, refl, e)
 
+-- and a frame's bytes have it
+pub payload-sum : (f : Frame) → ChecksumRight (frameKind f) (payload f)
+unfolding payload addressesOf contentsOf
+payload-sum (standard c) = (c, refl)
+payload-sum (extended to from c) = (to, from, c, refl)
+
 terminated-of : (w : List ℕ) → isTerminated w ≡ true → Terminated w
 terminated-of w h =
     record {

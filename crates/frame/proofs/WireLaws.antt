@@ -17,6 +17,14 @@ use Rattle.frame.specs.declared.Header.{Header}
 use Rattle.frame.specs.declared.Header.the-variants.{Plain, Addressed}
 use Rattle.frame.proofs.StuffingLaws.{stuff-append, stuff-one, stuff-between, stuffByte-between}
 
+-- ---- the parts of a frame
+
+pub payload-length : (f : Frame) → length (payload f) ≡ length (addressesOf f) + length (contentsOf f) + 1
+unfolding payload
+payload-length f =
+    let c = contentsOf f in
+    omega (arith, length-append (addressesOf f) (c ++ (checksum c ∷ [])), length-append c (checksum c ∷ []))
+
 -- ---- the parts of a frame on the wire
 
 abbrev tail : List ℕ → List ℕ

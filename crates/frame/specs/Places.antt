@@ -8,15 +8,16 @@ use lib.ListN.{length, getD, take, drop}
 use Rattle.lists.specs.Choice.{pick, countOf}
 use Rattle.frame.specs.Conditions.{Unstuffs}
 
--- Whether a stuffed byte is the last of those that stand for one unstuffed byte.
+-- Whether a stuffed byte is the last of those that stand for one unstuffed byte, where escapes are sound: all but F3.
 abbrev pub endsOne : ℕ → Bool
 endsOne b = pick (eqb b 0xF3) false true
 
--- How many unstuffed bytes end in stuffed bytes.
+-- How many unstuffed bytes have their last stuffed byte in a list.
 abbrev pub unstuffedIn : List ℕ → ℕ
 unstuffedIn s = countOf endsOne s
 
--- The stuffed bytes `s` stand for `u`, and the one at an index is among those that stand for the byte of a number.
+-- The stuffed bytes `s` stand for `u`, and the one at an index is among those that stand for the byte of a number, both
+-- counted from 0.
 pub record StandsFor (s u : List ℕ) (index number : ℕ) : Type 0 where
   pub inside : number < length u
   pub before : List ℕ

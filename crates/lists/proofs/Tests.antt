@@ -103,6 +103,11 @@ module _ (p : ℕ → Bool) where
   unfolding countOf
   count-end s i h = ap (countOf p) (drop-of-length-le s h)
 
+  pub count-append : (a b : List ℕ) → countOf p (a ++ b) ≡ countOf p a + countOf p b
+  unfolding countOf
+  count-append [] b = omega arith
+  count-append (x ∷ a) b = omega (arith, count-append a b)
+
   pub count-most : (s : List ℕ) → countOf p s ≤ length s
   unfolding countOf
   count-most [] = omega arith
