@@ -1,4 +1,4 @@
--- Which unstuffed byte a stuffed one belongs to: F3 and the byte after it stand for one, every other byte for itself.
+-- Which unstuffed byte a stuffed one belongs to. F3 and the byte after it stand for one, every other byte for itself.
 use Prim.Native.Nat.{ℕ, suc, _+_, _≤_, _<_}
 use mathlib.Core.Path.{_≡_}
 use mathlib.Core.Bool.{Bool, true, false}
