@@ -5,7 +5,7 @@ use crate::refusal;
 pub(crate) const START_EXTENDED: u8 = 0xF0;
 pub(crate) const START_STANDARD: u8 = 0xF1;
 pub(crate) const STOP: u8 = 0xF2;
-const ESCAPE: u8 = 0xF3;
+pub(crate) const ESCAPE: u8 = 0xF3;
 
 const WIRE_MAX: usize = 120;
 /// Bytes that may stand between the flags, escapes counted as two.
@@ -209,7 +209,7 @@ fn checksum(contents: &[u8]) -> u8 {
 }
 
 /// Whether `byte` is sent as two bytes: F0 to F3.
-fn is_special(byte: u8) -> bool {
+pub(crate) fn is_special(byte: u8) -> bool {
     byte & 0xFC == START_EXTENDED
 }
 

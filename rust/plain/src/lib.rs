@@ -1,12 +1,13 @@
 //! The independent implementation that the proved library is compared with:
 //! CSAFE frames of rowing machines measured, written and read, a line reader, the
-//! commands, replies and workouts inside, the lease table for stops, and a listing of
-//! recorded traces. Frames and the line reader are of a live line or of a trace,
-//! which an [`Origin`](frame::Origin) says.
+//! commands, replies and workouts inside, the lease table for stops, a listing of
+//! recorded traces, and what one changed byte does to a sound frame. Frames and the line
+//! reader are of a live line or of a trace, which an [`Origin`](frame::Origin) says.
 //!
 //! Every refusal is one of the numbers in [`refusal`].
 
 pub mod command;
+pub mod damage;
 pub mod frame;
 pub mod lease;
 pub mod line;

@@ -1,11 +1,14 @@
 //! Frames that are measured, written, read, damaged and read again.
 
+use csafe::frame::WIRE_LIMIT;
 use plain::frame::Origin;
 
 use crate::answer::{Answer, Function};
 use crate::both::{agreed, literal, make};
 use crate::common::Xorshift;
-use crate::frame_damage::{damage, damage_with_checksum, Plain, STANDARD_START, STOP};
+use crate::frame_damage::{
+    any_allowed_change, damage, damage_with_checksum, Plain, STANDARD_START, STOP,
+};
 use crate::tally::Tally;
 use crate::traces::ALPHABET;
 use crate::{ours, theirs, Comparison};
@@ -50,6 +53,7 @@ impl Comparison for Frames {
         let written = self.write(room, random, tally)?;
         self.check_length(length, room, written)?;
         self.read(random, tally)?;
+        self.read_changed(random, tally)?;
         self.spoil(random);
         self.read(random, tally)
     }
@@ -175,6 +179,30 @@ impl Frames {
         );
         let answer = made.check(function, || format!("wire {}\n", literal(wire)))?;
         tally.add(function, answer);
+        Ok(())
+    }
+
+    /// Reads the frame with one byte changed, unless it is over-long or the change that was drawn is not allowed. The
+    /// independent side foretells the answer from the frame as it is.
+    fn read_changed(&mut self, random: &mut Xorshift, tally: &mut Tally) -> Result<(), String> {
+        if self.wire.len() > WIRE_LIMIT {
+            return Ok(());
+        }
+        let Some((index, new)) = any_allowed_change(&self.wire, random) else {
+            return Ok(());
+        };
+        let (origin, function) = (self.origin, self.functions().read);
+        let (intact, contents) = (&self.wire, &self.plain.contents);
+        let mut changed = intact.clone();
+        changed[index] = new;
+        let wire = place(&mut self.placed, &changed, random);
+        let made = make(
+            any_room(random, contents.len()),
+            |out| ours::read(origin, wire, out),
+            |out| theirs::read_changed(origin, intact, (index, new), contents, out),
+        );
+        let arguments = || format!("wire {}\nchanged at {index}\n", literal(wire));
+        tally.add(function, made.check(function, arguments)?);
         Ok(())
     }
 

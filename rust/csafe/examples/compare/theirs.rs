@@ -1,8 +1,10 @@
 //! The same calls of the independent implementation.
 
+use plain::damage;
 use plain::frame::{self, Origin, Read};
 use plain::lease;
 use plain::line::{self, Line};
+use plain::refusal;
 use plain::workout::{self, Goal, Workout};
 
 use crate::answer::Answer;
@@ -28,6 +30,27 @@ pub fn read(origin: Origin, wire: &[u8], out: &mut [u8]) -> Answer {
         Ok(read) => frame_answer(read),
         Err(number) => Answer::refused(number),
     }
+}
+
+/// What is foretold of reading a sound frame with a new byte at an index. A frame that is still accepted has the
+/// contents that it had.
+pub fn read_changed(
+    origin: Origin,
+    intact: &[u8],
+    (index, new): (usize, u8),
+    contents: &[u8],
+    out: &mut [u8],
+) -> Answer {
+    let foretold = damage::read_changed(origin, intact, index, new);
+    let read = match foretold.expect("the frame is sound") {
+        Ok(read) => read,
+        Err(number) => return Answer::refused(number),
+    };
+    let Some(room) = out.get_mut(..contents.len()) else {
+        return Answer::refused(refusal::NO_ROOM);
+    };
+    room.copy_from_slice(contents);
+    frame_answer(read)
 }
 
 /// Feeds one byte.

@@ -1,5 +1,7 @@
 //! Frames that are sound, over-long or damaged.
 
+use plain::damage::is_allowed;
+
 use crate::common::Xorshift;
 
 pub const EXTENDED_START: u8 = 0xF0;
@@ -97,4 +99,17 @@ pub fn damage_with_checksum(wire: &mut [u8], random: &mut Xorshift) {
     let checksum = wire.len() - 2;
     wire[at] ^= change;
     wire[checksum] ^= change;
+}
+
+/// An index of a sound frame and a byte that the one there may be changed to. The index is often in an address or the
+/// checksum, of which a long frame has few bytes. `None` where the change that was drawn is not allowed.
+pub fn any_allowed_change(wire: &[u8], random: &mut Xorshift) -> Option<(usize, u8)> {
+    let between_flags = wire.len() - 2;
+    let index = 1 + match random.below(3) {
+        0 => random.below(between_flags.min(4)),
+        1 => between_flags - 1,
+        _ => random.below(between_flags),
+    };
+    let new = random.below(256) as u8;
+    is_allowed(wire, index, new).then_some((index, new))
 }

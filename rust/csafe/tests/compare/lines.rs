@@ -2,6 +2,7 @@
 //! byte by byte.
 
 mod chunks;
+mod damage;
 mod lent;
 
 use std::fmt;
@@ -194,7 +195,7 @@ impl Readers {
         Done::by_theirs(chunk.len(), Answer::Nothing, &self.theirs)
     }
 
-    fn finish(&mut self, input: &dyn Fn() -> String) {
+    fn finish(&mut self, input: &dyn Fn() -> String) -> Answer {
         let ours = line::finish(&mut self.state);
         self.held.finish();
         assert_eq!(ours, self.owned.finish(), "{}", told(input));
@@ -206,6 +207,7 @@ impl Readers {
         assert_eq!(answer, self.theirs.finish(), "{}", told(input));
         assert_eq!(answer, self.theirs_by_chunk.finish(), "{}", told(input));
         self.check_held(input);
+        answer
     }
 
     /// The answers have to have occurred this often, and 17 on a live line alone.

@@ -8,6 +8,7 @@
 mod by_origin;
 #[path = "../common/mod.rs"]
 mod common;
+mod damage;
 #[path = "../common/frame_damage.rs"]
 mod frame_damage;
 mod frames;
