@@ -46,7 +46,7 @@ part-lies (extended to from c) (suc (suc n)) h =
     (λ e. omega (arith, payload-length (extended to from c)))
     (λ k. (omega arith, omega (arith, k, payload-length (extended to from c))))
 
--- and in no other
+-- a number that lies in a part of a frame is said to lie in that part and in no other
 lies-part : (f : Frame) (n : ℕ) (part : Part) → LiesIn part f n → partOf (frameKind f) n (length (payload f)) ≡ part
 unfolding addressesOf contentsOf
 lies-part (standard c) n inDestination h = let z : _≡_ {A = ℕ} 0 1 = cc in absurd (omega arith)

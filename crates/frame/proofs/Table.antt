@@ -71,7 +71,7 @@ unfolding payload addressesOf contentsOf
 parts-frame Standard u (c, e) = (standard c, refl, e)
 parts-frame Extended u (to, from, c, e) = (extended to from c, refl, e)
 
--- and a frame's bytes have it
+-- the unstuffed bytes of a frame have the right checksum
 pub payload-sum : (f : Frame) → ChecksumRight (frameKind f) (payload f)
 unfolding payload addressesOf contentsOf
 payload-sum (standard c) = (c, refl)
