@@ -35,6 +35,8 @@ pub enum Refusal {
     ZeroToken,
     // No n-th command or item ("none").
     Absent,
+    // A byte that a line reader can't take, because it has counted as many as it counts.
+    Full,
     // A standard frame on the live line, which names no sender.
     Unnamed,
     // A lent lease table that is not 2,048 bytes long ("desk").
@@ -68,6 +70,7 @@ impl Refusal {
             Refusal::NotWorkout => 13,
             Refusal::ZeroToken => 14,
             Refusal::Absent => 15,
+            Refusal::Full => 16,
             Refusal::Unnamed => 17,
             Refusal::BadTable => 18,
         }

@@ -1,19 +1,22 @@
 -- Document 02, No. 13, of the functions themselves: calls that read a slice or the candidate that one begins with, that
 -- judge bytes between flags, and that feed the line by the byte and by the chunk, known by nothing but what the contracts
 -- tell a caller. Calls of `trace_exports` are exported ones at the origin of traces.
-use Prim.Native.Nat.{ℕ, _+_}
-use mathlib.Core.Path.{_≡_, refl, sym, ap, _∙_, subst}
-use mathlib.Core.List.{List, _∷_, _++_, map, append-assoc}
+use Prim.Native.Nat.{ℕ, _+_, _≤_}
+use mathlib.Core.Path.{_≡_, refl, sym, ap, ap₂, _∙_, subst}
+use mathlib.Core.List.{List, [], _∷_, _++_, map, append-assoc}
 use native.Mathlib.Omega.{arith}
 use lib.ListN.{length, set, take, length-set, length-append, length-map}
 use lib.Seq.{map-set-same, take-at}
 use contract.Lifetimes.{Lfts}
 use denote.Ref.{RefT}
-use Rattle.lists.specs.Machine.{Answered, AnsweredBy, leftAfter}
+use Rattle.lists.specs.Machine.{run, Answered, AnsweredBy, leftAfter}
 use Rattle.lists.proofs.Machines.{run-length}
-use Rattle.framing.specs.Reference.{Call, byte, FlagFree, Protocol, Reference, none, answerTo, candidateAfter}
-use Rattle.framing.specs.Demand3.{feed, toldBy, Demand3}
-use Rattle.framing.proofs.Restart.{reference-around}
+use Rattle.framing.specs.Reference.{Call, byte, finish, FlagFree}
+use Rattle.framing.specs.Demand3.{feed}
+use Rattle.framing.specs.Located.{Located, unlocated, located, noCandidate, Counted, counted, newCounted}
+use Rattle.framing.specs.Located.{LocatedProtocol, locatedAnswer, locatedAfter, LocatedReference}
+use Rattle.framing.specs.LocatedDemand3.{bytesSinceFinish, Within, locatedToldBy, LocatedDemand3}
+use Rattle.framing.proofs.LocatedCandidates.{within-since, within-fed, counted-since, located-around}
 use Rattle.answer.specs.Answer.{Answer, result, refused}
 use Rattle.frame.specs.Flags.{startFlag, stopFlag, roleOf, candidateOf}
 use Rattle.frame.specs.Frame.{Frame, extended}
@@ -35,8 +38,9 @@ use Rattle.frame.proofs.RoundTrip.{told-sound}
 use Rattle.frame.proofs.Calls.{CalledRead, read-first, call-reads}
 use Rattle.frame.proofs.judge_array.Reads as judge-array-reads
 use Rattle.frame.proofs.read_leading.Reads as read-leading-reads
-use Rattle.line.specs.Outcome.{Outcome, nothing, judged, ValueAnswer, valueAnswerOf}
-use Rattle.line.specs.Rowing.{rowing}
+use Rattle.candidate.specs.Outcome.{Outcome, nothing, judged}
+use Rattle.line.specs.Rowing.{mostBytes, locatedRowing}
+use Rattle.line.specs.Answers.{ValueAnswer, valueAnswerOf}
 use Rattle.line.specs.Reader.{AsNew}
 use Rattle.line.proofs.Calls.{Made, Called, demand-3}
 use Rattle.line.proofs.ChunkCalls.{CalledOn, chunks-demand-3}
@@ -117,7 +121,8 @@ module _ (p o : Origin) (w : List ℕ) (f : Frame) (i b : ℕ) (c : OneChange w 
       (effectAt w f i b)
   unfolding judgeAnswer leftIn
   judged-damaged κs kind ρ ρ′ len r k s e =
-      let is : (v : Verdict) → admit o (verdict (set w i b)) ≡ v → admit o (verdict (candidateOf kind (take len (ρ .now)))) ≡ v =
+      let is : (v : Verdict) → admit o (verdict (set w i b)) ≡ v
+      → admit o (verdict (candidateOf kind (take len (ρ .now)))) ≡ v =
       λ v h. ap (λ (l : List ℕ). admit o (verdict l)) (sym e) ∙ h in
       shows-as
       (λ g h. (
@@ -157,92 +162,127 @@ module _ (p o : Origin) (w : List ℕ) (i b : ℕ) (c : OneChange w i b) {out la
 
 -- ---- the line
 
-module _ {A : Type 0} (tell : Outcome → A) (o : Origin) (answered : List Call → List A → Type 0)
-    (d : Demand3 (toldBy tell (rowing o)) answered) (before later : List Call) where
-  abbrev P : Protocol A
-  P = toldBy tell (rowing o)
+-- a changed byte is one byte as before
+set-within : (limit n : ℕ) (before : List Call) (w : List ℕ) (i b : ℕ) → Within limit n (before ++ feed w)
+    → Within limit n (before ++ feed (set w i b))
+set-within limit n [] w i b h =
+    within-fed limit n (set w i b) .1 (omega (arith, within-fed limit n w .0 h, length-set w i b))
+set-within limit n (byte x ∷ before) w i b h = set-within limit (n + 1) before w i b h
+set-within limit n (finish ∷ before) w i b h = (h .0, set-within limit 0 before w i b (h .1))
 
-  -- the answer to the start flag of a candidate after the first row of calls, and the answers before its stop flag
-  abbrev at-start : Kind → A
-  at-start kind = answerTo P (leftAfter (candidateAfter P) none before) (byte (startFlag kind))
+module _ {A : Type 0} (tell : Outcome → A) (o : Origin) (answered : List Call → List (Located A) → Type 0)
+    (d : LocatedDemand3 (locatedToldBy tell (locatedRowing o)) answered) (before later : List Call) where
+  abbrev Q : LocatedProtocol A
+  Q = locatedToldBy tell (locatedRowing o)
 
-  abbrev silence : List ℕ → List A
-  silence body = map (λ (x : ℕ). tell nothing) body
+  -- the decoder after the first row of calls, its answer to the start flag of a candidate, and those before the stop flag
+  abbrev ready : Counted
+  ready = leftAfter (locatedAfter Q) newCounted before
 
-  abbrev up-to-stop : Kind → List ℕ → List A
-  up-to-stop kind body = Reference P before ++ at-start kind ∷ silence body
+  abbrev at-start : Kind → Located A
+  at-start kind = locatedAnswer Q ready (byte (startFlag kind))
 
-  around : (kind : Kind) (body w : List ℕ) → w ≡ candidateOf kind body → FlagFree roleOf body → (answers : List A)
+  abbrev silence : List ℕ → List (Located A)
+  silence body = map (λ (x : ℕ). unlocated (tell nothing)) body
+
+  abbrev up-to-stop : Kind → List ℕ → List (Located A)
+  up-to-stop kind body = LocatedReference Q before ++ at-start kind ∷ silence body
+
+  -- its answers after as many bytes more, where none is open
+  abbrev afterwards : ℕ → List (Located A)
+  afterwards n = run (locatedAnswer Q) (locatedAfter Q) (counted noCandidate (ready .count + n)) later
+
+  around : (kind : Kind) (body w : List ℕ) → w ≡ candidateOf kind body → FlagFree roleOf body
+      → Within mostBytes 0 (before ++ feed w) → (answers : List (Located A))
       → answered (before ++ (feed w ++ later)) answers
-      → answers ≡ up-to-stop kind body ++ tell (judged (admit o (verdict w))) ∷ Reference P later
-  around kind body w shape inside answers k =
+      → answers ≡ up-to-stop kind body
+      ++ located (bytesSinceFinish 0 before) (tell (judged (admit o (verdict w)))) ∷ afterwards (length body + 2)
+  around kind body w shape inside within answers k =
+      let n : ready .count ≡ bytesSinceFinish 0 before = counted-since Q newCounted before (feed w) within in
+      let fits : ready .count + (length body + 2) ≤ mostBytes =
+      omega (
+        arith,
+        n,
+        within-fed mostBytes (bytesSinceFinish 0 before) w .0 (within-since mostBytes 0 before (feed w) within),
+        ap length shape ∙ whole-length kind body,
+      ) in
       d .same (before ++ (feed w ++ later)) answers k
-      ∙ ap (λ (v : List ℕ). Reference P (before ++ (feed v ++ later))) shape
-      ∙ reference-around P (startFlag kind) body stopFlag (start-role kind) inside refl before later
-      ∙ sym (append-assoc (Reference P before) (at-start kind ∷ silence body)
-      (tell (judged (admit o (verdict (candidateOf kind body)))) ∷ Reference P later))
-      ∙ ap (λ (v : List ℕ). up-to-stop kind body ++ tell (judged (admit o (verdict v))) ∷ Reference P later) (sym shape)
+      ∙ ap (λ (v : List ℕ). LocatedReference Q (before ++ (feed v ++ later))) shape
+      ∙ located-around Q (startFlag kind) body stopFlag (start-role kind) inside refl before later fits
+      ∙ sym (append-assoc (LocatedReference Q before) (at-start kind ∷ silence body)
+      (located (ready .count) (tell (judged (admit o (verdict (candidateOf kind body))))) ∷ afterwards (length body + 2)))
+      ∙ ap₂ (λ (m : ℕ) (v : List ℕ). up-to-stop kind body ++ located m (tell (judged (admit o (verdict v))))
+      ∷ afterwards (length body + 2)) n (sym shape)
 
   count-to-stop : (kind : Kind) (body w : List ℕ) → w ≡ candidateOf kind body
       → length (up-to-stop kind body) + 1 ≡ length before + length w
   count-to-stop kind body w shape =
       omega (
         arith,
-        length-append (Reference P before) (at-start kind ∷ silence body),
-        run-length (answerTo P) (candidateAfter P) none before,
-        length-map body (λ (x : ℕ). tell nothing),
+        length-append (LocatedReference Q before) (at-start kind ∷ silence body),
+        run-length (locatedAnswer Q) (locatedAfter Q) newCounted before,
+        length-map body (λ (x : ℕ). unlocated (tell nothing)),
         ap length shape ∙ whole-length kind body,
       )
 
   -- Any calls, a sound frame and any calls, and the same with one byte of the frame changed, each answered as demand 3
-  -- says: the answers differ in that to the frame's stop flag alone.
+  -- says: the answers differ in that to the frame's stop flag alone. The calls up to the end of the frame are within the
+  -- limit of what a line reader takes.
   pub line-damaged : (p : Origin) (w : List ℕ) (f : Frame) (i b : ℕ) → SoundFrame p w f → OneChange w i b
-      → (intact damaged : List A) → answered (before ++ (feed w ++ later)) intact
+      → Within mostBytes 0 (before ++ feed w)
+      → (intact damaged : List (Located A)) → answered (before ++ (feed w ++ later)) intact
       → answered (before ++ (feed (set w i b) ++ later)) damaged
       → OneAnswer tell o before w f i b intact damaged
-  line-damaged p w f i b s c intact damaged k l =
+  line-damaged p w f i b s c within intact damaged k l =
       let m = both-candidates p w f i b s c in
       let told : verdict w ≡ result f = admit-means p (verdict w) f (accepted-exactly p w f .1 s) .0 in
       let outcome = judged (admit o (verdict (set w i b))) in
-      let rest = Reference P later in
+      let position = bytesSinceFinish 0 before in
+      let rest = afterwards (length (m .body) + 2) in
+      let changed = set (m .body) (m .index) b in
+      let within-too = set-within mostBytes 0 before w i b within in
       record {
         earlier = up-to-stop (m .kind) (m .body);
         later = rest;
         outcome = outcome;
         at-stop = count-to-stop (m .kind) (m .body) w (m .shape-before);
-        intact-is = around (m .kind) (m .body) w (m .shape-before) (m .free-before) intact k
-            ∙ ap (λ (v : Verdict). up-to-stop (m .kind) (m .body) ++ tell (judged (admit o v)) ∷ rest) told;
-        damaged-is =
-            around (m .kind) (set (m .body) (m .index) b) (set w i b) (m .shape-after) (m .free-after) damaged l
-            ∙ ap (λ (xs : List A). (Reference P before ++ at-start (m .kind) ∷ xs) ++ tell outcome ∷ rest)
-            (map-set-same (λ (x : ℕ). tell nothing) (m .body) (m .index) b 0 refl);
-        outcome-is = shows-as (λ g e. ap judged e) (λ e. ap judged e) (effectAt w f i b) (verdict-damaged p o w f i b s c);
+        intact-is = around (m .kind) (m .body) w (m .shape-before) (m .free-before) within intact k
+            ∙ ap (λ (v : Verdict). up-to-stop (m .kind) (m .body) ++ located position (tell (judged (admit o v))) ∷ rest)
+            told;
+        damaged-is = around (m .kind) changed (set w i b) (m .shape-after) (m .free-after) within-too damaged l
+            ∙ ap₂ (λ (xs : List (Located A)) (n : ℕ). (LocatedReference Q before ++ at-start (m .kind) ∷ xs)
+            ++ located position (tell outcome) ∷ afterwards (n + 2))
+            (map-set-same (λ (x : ℕ). unlocated (tell nothing)) (m .body) (m .index) b 0 refl)
+            (length-set (m .body) (m .index) b);
+        outcome-is = shows-as (λ g e. ap judged e) (λ e. ap judged e) (effectAt w f i b)
+            (verdict-damaged p o w f i b s c);
       }
 
 module _ (p o : Origin) (before later : List Call) (w : List ℕ) (f : Frame) (i b : ℕ) (s : SoundFrame p w f)
-    (c : OneChange w i b) where
+    (c : OneChange w i b) (within : Within mostBytes 0 (before ++ feed w)) where
   -- Calls of `step` and `finish` on readers that `new` made, with all 118 bytes of each answer.
-  pub steps-damaged : {intact damaged : List ValueAnswer}
+  pub steps-damaged : {intact damaged : List (Located ValueAnswer)}
       → Answered Called (Made o) (before ++ (feed w ++ later)) intact
       → Answered Called (Made o) (before ++ (feed (set w i b) ++ later)) damaged
       → OneAnswer valueAnswerOf o before w f i b intact damaged
   steps-damaged {intact} {damaged} =
-      line-damaged valueAnswerOf o (Answered Called (Made o)) (demand-3 o) before later p w f i b s c intact damaged
+      line-damaged valueAnswerOf o (Answered Called (Made o)) (demand-3 o) before later p w f i b s c within intact
+      damaged
 
   -- Calls in a row on readers that are as new, by the byte, by the chunk and finishes, in any form and order.
-  pub chunks-damaged : {intact damaged : List Outcome}
+  pub chunks-damaged : {intact damaged : List (Located Outcome)}
       → AnsweredBy CalledOn (AsNew o) (before ++ (feed w ++ later)) intact
       → AnsweredBy CalledOn (AsNew o) (before ++ (feed (set w i b) ++ later)) damaged
       → OneAnswer (λ (a : Outcome). a) o before w f i b intact damaged
   chunks-damaged {intact} {damaged} =
       line-damaged (λ (a : Outcome). a) o (AnsweredBy CalledOn (AsNew o)) (chunks-demand-3 o) before later p w f i b s c
-      intact damaged
+      within intact damaged
 
   -- The same of the exported calls.
-  pub exported-line-damaged : {intact damaged : List Outcome}
+  pub exported-line-damaged : {intact damaged : List (Located Outcome)}
       → AnsweredBy (ExportedLine o) (λ l. AsNew o (readerOf o l)) (before ++ (feed w ++ later)) intact
       → AnsweredBy (ExportedLine o) (λ l. AsNew o (readerOf o l)) (before ++ (feed (set w i b) ++ later)) damaged
       → OneAnswer (λ (a : Outcome). a) o before w f i b intact damaged
   exported-line-damaged {intact} {damaged} =
       line-damaged (λ (a : Outcome). a) o (AnsweredBy (ExportedLine o) (λ l. AsNew o (readerOf o l)))
-      (exported-demand-3 o) before later p w f i b s c intact damaged
+      (exported-demand-3 o) before later p w f i b s c within intact damaged

@@ -9,6 +9,8 @@ use lib.ListN.{length, getD, take, drop}
 use Rattle.lists.specs.Choice.{pick, Exactly}
 use Rattle.answer.specs.Answer.{Answer, result, refused}
 use Rattle.framing.specs.Reference.{Call}
+use Rattle.framing.specs.Located.{Located, located}
+use Rattle.framing.specs.LocatedDemand3.{bytesSinceFinish}
 use Rattle.frame.specs.Flags.{kindOf}
 use Rattle.frame.specs.Frame.{Frame, standard, extended, contentsOf, addressesOf, frameKind, payload}
 use Rattle.frame.specs.Verdict.{bodyOf}
@@ -18,7 +20,7 @@ use Rattle.frame.specs.Answers.{FrameOutline, outlineOf}
 use Rattle.frame.specs.declared.Origin.{Origin}
 use Rattle.frame.specs.declared.Kind.{Kind}
 use Rattle.frame.specs.declared.Kind.the-variants.{Standard, Extended}
-use Rattle.line.specs.Outcome.{Outcome, judged}
+use Rattle.candidate.specs.Outcome.{Outcome, judged}
 
 -- ---- places
 
@@ -137,14 +139,16 @@ abbrev pub ReadShows : (out : List ℕ) → Answer FrameOutline → (last : List
 ReadShows out a last e = Shows (λ (g : Frame). Accepts g out a last) (Catches out a last) e
 
 -- The answers of the line to any calls, a sound frame and any calls, and to the same with one byte of the frame changed,
--- each outcome told in some way: they differ in the answer to the frame's stop flag alone. That is the frame, or on the
--- live line 17 for a standard one, and with the change what the change does.
+-- each outcome told in some way: they differ in the answer to the frame's stop flag alone, and both have the position of
+-- the frame's start flag. That is the frame, or on the live line 17 for a standard one, and with the change what the
+-- change does.
 pub record OneAnswer {A : Type 0} (tell : Outcome → A) (o : Origin) (before : List Call) (w : List ℕ) (f : Frame) (i b : ℕ)
-    (intact damaged : List A) : Type 0 where
-  pub earlier : List A
-  pub later : List A
+    (intact damaged : List (Located A)) : Type 0 where
+  pub earlier : List (Located A)
+  pub later : List (Located A)
   pub outcome : Outcome
   pub at-stop : length earlier + 1 ≡ length before + length w
-  pub intact-is : intact ≡ earlier ++ tell (judged (admit o (result f))) ∷ later
-  pub damaged-is : damaged ≡ earlier ++ tell outcome ∷ later
+  pub intact-is : intact
+      ≡ earlier ++ located (bytesSinceFinish 0 before) (tell (judged (admit o (result f)))) ∷ later
+  pub damaged-is : damaged ≡ earlier ++ located (bytesSinceFinish 0 before) (tell outcome) ∷ later
   pub outcome-is : Shows (λ (g : Frame). outcome ≡ judged (result g)) (outcome ≡ judged (refused 5)) (effectAt w f i b)

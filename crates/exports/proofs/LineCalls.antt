@@ -1,180 +1,255 @@
 -- Demand 3 of the exported calls: `csafe_feed`, or `feed` at an origin, and `csafe_finish`, in any order, known by
--- nothing but what the contracts tell the portal. It has the number that is answered, the array, the number of the state
--- and the count.
+-- nothing but what the contracts tell the portal. It has the number that is answered, the position, the array, the two
+-- numbers of the state and the count of the bytes taken.
 use mathlib.Core.Path.{_≡_, refl, sym, ap, ap₂, _∙_, subst}
 use mathlib.Core.List.{List, [], _∷_, _++_, map}
 use native.Mathlib.Omega.{arith}
-use Prim.Native.Nat.{ℕ}
+use Prim.Native.Nat.{ℕ, _≤_, _<_}
+use lib.ListN.{length, drop}
 use contract.Lifetimes.{Lfts}
 use denote.Ref.{RefT}
 use Rattle.lists.specs.Choice.{Every, EachPair, Exactly}
 use Rattle.lists.specs.Machine.{RanBy, Through, AnsweredBy}
-use Rattle.lists.proofs.Machines.{ran-by-run, through-ran}
+use Rattle.lists.proofs.Machines.{ran-by-run, through-known}
 use Rattle.framing.specs.Reference.{Call, finish}
-use Rattle.framing.specs.Demand3.{feed, Demand3}
-use Rattle.framing.proofs.Restart.{demand3-of}
+use Rattle.framing.specs.Demand3.{feed}
+use Rattle.framing.specs.Located.{Located, answerIn, positionIn, locatedBy}
+use Rattle.framing.specs.LocatedDemand3.{Within, LocatedDemand3}
+use Rattle.framing.proofs.Located.{located-demand3-of}
 use Rattle.answer.specs.Answer.{refused}
 use Rattle.frame.specs.Frame.{standard}
 use Rattle.frame.specs.Conditions.{Terminated, SoundFrame}
 use Rattle.frame.specs.declared.Origin.{Origin}
 use Rattle.frame.specs.declared.Origin.the-variants.{Live, Trace}
-use Rattle.line.specs.Outcome.{Outcome, judged, Summary, outcomeOf, NotStandard, Not17}
-use Rattle.line.specs.Rowing.{rowing, outcomeFrom, UnnamedLive}
+use Rattle.candidate.specs.Outcome.{Outcome, judged, Summary, summaryOf, NotStandard, Not17}
+use Rattle.line.specs.Rowing.{mostBytes, locatedRowing, outcomeFrom, UnnamedAt}
+use Rattle.line.specs.Answers.{locatedOutcome}
 use Rattle.line.specs.Reader.{outcomeAt, nextAfter, AsNew}
-use Rattle.line.specs.Feed.{cutChunk}
-use Rattle.line.specs.Chunks.{byByte, TakenToAnswer, TakesFirst, AsSingly}
+use Rattle.line.specs.Feed.{ChunkTurn, cutChunk}
+use Rattle.line.specs.Chunks.{standsFor, toldBytes, TakenToAnswer, TakesFirst, AsSingly}
 use Rattle.line.proofs.ValueLaws.{call-whole}
-use Rattle.line.proofs.Follows.{as-new-follows}
-use Rattle.line.proofs.FeedBounds.{feed-origin}
-use Rattle.line.proofs.ChunkLaws.{takes-to-answer, takes-first}
-use Rattle.line.proofs.ChunkCalls.{feed-whole}
-use Rattle.line.proofs.Origins.{live-run, trace-run, each-unnamed, reference-from, judged-last}
-use Rattle.exports.specs.Told.{toldLine}
-use Rattle.exports.specs.LineState.{readerIn}
+use Rattle.line.proofs.FeedLaws.{chunk-full}
+use Rattle.line.proofs.FeedBounds.{chunk-origin}
+use Rattle.exports.specs.Told.{toldLocated}
+use Rattle.exports.specs.LineState.{packedState, packedCounts, countOf, readerIn}
 use Rattle.exports.specs.LentLine.{LentLine, lentLine, newLine, readerOf}
 use Rattle.exports.specs.LineAnswers.{fedTo, FedAs}
-use Rattle.exports.proofs.LineAnswerLaws.{fed-next, finished-next}
+use Rattle.exports.proofs.LineStateLaws.{state-packs, counts-pack}
+use Rattle.exports.proofs.LineAnswerLaws.{fed-start-fits, fed-next, finished-next}
 use Rattle.exports.proofs.LineToldLaws.{fed-told, finish-told}
+use Rattle.line.proofs.Follows.{as-new-follows}
+use Rattle.line.proofs.ChunkLaws.{takes-to-answer, takes-first}
+use Rattle.line.proofs.ChunkCalls.{chunk-whole}
+use Rattle.line.proofs.StreamCalls.{Counts, stands-counted, taken-counts}
+use Rattle.line.proofs.Origins.{live-run, trace-run, each-unnamed, reference-from, judged-last}
 use Rattle.exports.proofs.csafe_feed.Reads as feed-reads
 use Rattle.exports.proofs.feed.Reads as feed-at-reads
 use Rattle.exports.proofs.csafe_finish.Reads as finish-reads
 
 -- ---- one call
 
--- A call of the portal at an origin, the bytes and finishes that it was given, how many of them it took, the outcomes of
--- these as the portal has them, and the array and the state that it left. The finish is one for both origins.
-pub data ExportedLine : Origin → LentLine → List Call → ℕ → List Outcome → LentLine → Type 0 where
-  fed : (κs : Lfts 4) (bytes bytes′ : RefT (List ℕ)) (state state′ : RefT ℕ) (input : RefT (List ℕ))
-      (taken taken′ : RefT ℕ) (n : ℕ)
-      → feed-reads.Learnt κs (bytes, (state, (input, (taken, tt)))) n (bytes′, (state′, (input, (taken′, tt))))
-      → ExportedLine Live (lentLine (bytes .now) (state .now)) (feed (input .now)) (taken′ .now)
-      (byByte (taken′ .now) (outcomeOf (toldLine n) (bytes′ .now)))
-      (lentLine (bytes′ .now) (state′ .now))
-  fed-at : {o : Origin} (κs : Lfts 4) (bytes bytes′ : RefT (List ℕ)) (state state′ : RefT ℕ) (input : RefT (List ℕ))
-      (taken taken′ : RefT ℕ) (n : ℕ)
-      → feed-at-reads.Learnt κs (o, (bytes, (state, (input, (taken, tt))))) n
-      (o, (bytes′, (state′, (input, (taken′, tt)))))
-      → ExportedLine o (lentLine (bytes .now) (state .now)) (feed (input .now)) (taken′ .now)
-      (byByte (taken′ .now) (outcomeOf (toldLine n) (bytes′ .now)))
-      (lentLine (bytes′ .now) (state′ .now))
-  ended : {o : Origin} (κs : Lfts 1) {bytes : List ℕ} (state state′ : RefT ℕ) (n : ℕ)
-      → finish-reads.Learnt κs (state, tt) n (state′, tt)
-      → ExportedLine o (lentLine bytes (state .now)) (finish ∷ []) 1 (outcomeOf (toldLine n) bytes ∷ [])
-      (lentLine bytes (state′ .now))
+-- A call of the portal that feeds at an origin, the bytes that it was given, how many of them it took, the outcome with
+-- its position as the portal has it, and the array and the state that it left.
+pub data ExportedFed : Origin → LentLine → (given : List ℕ) → (taken : ℕ) → Located Outcome → LentLine → Type 0 where
+  fed : (κs : Lfts 6) (bytes bytes′ : RefT (List ℕ)) (state state′ counts counts′ : RefT ℕ) (input : RefT (List ℕ))
+      (taken taken′ position position′ : RefT ℕ) (n : ℕ)
+      → feed-reads.Learnt κs (bytes, (state, (counts, (input, (taken, (position, tt)))))) n
+      (bytes′, (state′, (counts′, (input, (taken′, (position′, tt))))))
+      → ExportedFed Live (lentLine (bytes .now) (state .now) (counts .now)) (input .now) (taken′ .now)
+      (toldLocated n (position′ .now) (bytes′ .now)) (lentLine (bytes′ .now) (state′ .now) (counts′ .now))
+  fed-at : {o : Origin} (κs : Lfts 6) (bytes bytes′ : RefT (List ℕ)) (state state′ counts counts′ : RefT ℕ)
+      (input : RefT (List ℕ)) (taken taken′ position position′ : RefT ℕ) (n : ℕ)
+      → feed-at-reads.Learnt κs (o, (bytes, (state, (counts, (input, (taken, (position, tt))))))) n
+      (o, (bytes′, (state′, (counts′, (input, (taken′, (position′, tt)))))))
+      → ExportedFed o (lentLine (bytes .now) (state .now) (counts .now)) (input .now) (taken′ .now)
+      (toldLocated n (position′ .now) (bytes′ .now)) (lentLine (bytes′ .now) (state′ .now) (counts′ .now))
+
+-- A call that ends the input, its outcome, and the array and the state that it left. It is one for both origins.
+pub data ExportedEnd : LentLine → Located Outcome → LentLine → Type 0 where
+  ended : (κs : Lfts 3) {bytes : List ℕ} (state state′ counts counts′ position position′ : RefT ℕ) (n : ℕ)
+      → finish-reads.Learnt κs (state, (counts, (position, tt))) n (state′, (counts′, (position′, tt)))
+      → ExportedEnd (lentLine bytes (state .now) (counts .now)) (toldLocated n (position′ .now) bytes)
+      (lentLine bytes (state′ .now) (counts′ .now))
+
+-- Any call of the portal at an origin, the bytes and finishes that it was given, for how many of them it stands, the
+-- outcomes of these, and the array and the state that it left. A call that feeds stands for the bytes that it took, and
+-- where it is answered 16 for the byte that is refused.
+pub data ExportedLine : Origin → LentLine → List Call → ℕ → List (Located Outcome) → LentLine → Type 0 where
+  feeds : {o : Origin} {l l′ : LentLine} {given : List ℕ} {taken : ℕ} {a : Located Outcome}
+      → ExportedFed o l given taken a l′ → ExportedLine o l (feed given) (standsFor taken a) (toldBytes taken a) l′
+  ends : {o : Origin} {l l′ : LentLine} {a : Located Outcome} → ExportedEnd l a l′
+      → ExportedLine o l (finish ∷ []) 1 (a ∷ []) l′
+
+-- The same with how many of them it took.
+pub data ExportedTaken : Origin → LentLine → List Call → ℕ → List (Located Outcome) → LentLine → Type 0 where
+  feeds-taken : {o : Origin} {l l′ : LentLine} {given : List ℕ} {taken : ℕ} {a : Located Outcome}
+      → ExportedFed o l given taken a l′ → ExportedTaken o l (feed given) taken (toldBytes taken a) l′
+  ends-taken : {o : Origin} {l l′ : LentLine} {a : Located Outcome} → ExportedEnd l a l′
+      → ExportedTaken o l (finish ∷ []) 1 (a ∷ []) l′
 
 -- what the contract of a call that feeds tells, at its origin
-module _ (o : Origin) (n : ℕ) (bytes bytes′ input : List ℕ) (state state′ taken : ℕ)
-    (k : FedAs n bytes′ state′ taken (fedTo o bytes state input)) where
-  -- the number and the array tell the outcome
-  fed-outcome : outcomeOf (toldLine n) bytes′ ≡ fedTo o bytes state input .answer
+module _ (o : Origin) (n : ℕ) (bytes bytes′ input : List ℕ) (state state′ counts counts′ taken position : ℕ)
+    (k : FedAs n bytes′ state′ counts′ taken position (fedTo o bytes state counts input)) where
+  -- the number, the position and the array tell the outcome
+  fed-outcome : toldLocated n position bytes′ ≡ fedTo o bytes state counts input .answer
   fed-outcome =
-      let r = readerIn o bytes state in
-      ap₂ outcomeOf (fed-told n r (cutChunk input) (k .answered)) (k .bytes-left) ∙ feed-whole r (cutChunk input)
+      let r = readerIn o bytes state counts in
+      let a = fedTo o bytes state counts input .answer in
+      ap₂ (λ (h : Summary) (p : ℕ). locatedOutcome h p bytes′) (fed-told n r input (k .answered)) (k .position-is)
+      ∙ ap (locatedOutcome (summaryOf (answerIn a)) (positionIn a)) (k .bytes-left)
+      ∙ chunk-whole r input
 
-  fed-takes-to-answer : TakenToAnswer (cutChunk input) taken (outcomeOf (toldLine n) bytes′)
-  fed-takes-to-answer = takes-to-answer (readerIn o bytes state) input taken _ (k .count) fed-outcome
+  fed-takes-to-answer : TakenToAnswer (readerIn o bytes state counts) (cutChunk input) taken
+      (toldLocated n position bytes′)
+  fed-takes-to-answer = takes-to-answer (readerIn o bytes state counts) input taken _ (k .count) fed-outcome
 
-  fed-takes : TakesFirst (readerIn o bytes state) (feed input) taken (byByte taken (outcomeOf (toldLine n) bytes′))
-      (readerIn o bytes′ state′)
+  fed-takes : TakesFirst (readerIn o bytes state counts) (feed input) (standsFor taken (toldLocated n position bytes′))
+      (toldBytes taken (toldLocated n position bytes′)) (readerIn o bytes′ state′ counts′)
   fed-takes =
-      takes-first (readerIn o bytes state) input taken _ (k .count) fed-outcome (readerIn o bytes′ state′)
-      (fed-next o n bytes′ state′ taken (fedTo o bytes state input)
-      (feed-origin (readerIn o bytes state) (cutChunk input)) k)
+      let r = readerIn o bytes state counts in
+      takes-first r input taken _ (k .count) fed-outcome (readerIn o bytes′ state′ counts′)
+      (fed-next o n bytes′ state′ counts′ taken position (fedTo o bytes state counts input) (chunk-origin r input)
+      (fed-start-fits o bytes input state counts) k)
 
--- With no answer `csafe_feed` takes its whole chunk, 65,536 bytes at the most, and with one at least a byte.
-pub fed-to-answer : (κs : Lfts 4) (bytes bytes′ : RefT (List ℕ)) (state state′ : RefT ℕ) (input : RefT (List ℕ))
-    (taken taken′ : RefT ℕ) (n : ℕ)
-    → feed-reads.Learnt κs (bytes, (state, (input, (taken, tt)))) n (bytes′, (state′, (input, (taken′, tt))))
-    → TakenToAnswer (cutChunk (input .now)) (taken′ .now) (outcomeOf (toldLine n) (bytes′ .now))
-fed-to-answer κs bytes bytes′ state state′ input taken taken′ n k =
-    fed-takes-to-answer Live n (bytes .now) (bytes′ .now) (input .now) (state .now) (state′ .now) (taken′ .now) k
+  -- a full reader keeps its array and both numbers
+  fed-full-keeps : mostBytes ≤ countOf counts → 0 < length input → lentLine bytes′ state′ counts′
+      ≡ lentLine bytes state counts
+  fed-full-keeps h l =
+      let e = chunk-full (readerIn o bytes state counts) input l h in
+      let b : bytes′ ≡ bytes = k .bytes-left ∙ ap (λ (f : ChunkTurn). f .next .bytes) e in
+      let s : state′ ≡ state =
+      subst (λ (f : ChunkTurn). state′ ≡ packedState (f .next .state)) e (k .state-left) ∙ state-packs o state counts in
+      let c : counts′ ≡ counts =
+      subst (λ (f : ChunkTurn). counts′ ≡ packedCounts (f .next .state)) e (k .counts-left)
+      ∙ counts-pack o state counts in
+      λ i. lentLine (b i) (s i) (c i)
 
--- So does `feed`, at either origin.
-pub fed-at-to-answer : (o : Origin) (κs : Lfts 4) (bytes bytes′ : RefT (List ℕ)) (state state′ : RefT ℕ)
-    (input : RefT (List ℕ)) (taken taken′ : RefT ℕ) (n : ℕ)
-    → feed-at-reads.Learnt κs (o, (bytes, (state, (input, (taken, tt))))) n
-    (o, (bytes′, (state′, (input, (taken′, tt)))))
-    → TakenToAnswer (cutChunk (input .now)) (taken′ .now) (outcomeOf (toldLine n) (bytes′ .now))
-fed-at-to-answer o κs bytes bytes′ state state′ input taken taken′ n k =
-    fed-takes-to-answer o n (bytes .now) (bytes′ .now) (input .now) (state .now) (state′ .now) (taken′ .now) k
+-- With no answer a call takes its whole chunk, 65,536 bytes at the most and no more than can be counted; with one at
+-- least a byte, but for 16, which it gives exactly where the reader is full before the chunk's first byte.
+pub fed-to-answer : {o : Origin} {l l′ : LentLine} {given : List ℕ} {taken : ℕ} {a : Located Outcome}
+    → ExportedFed o l given taken a l′ → TakenToAnswer (readerOf o l) (cutChunk given) taken a
+fed-to-answer (fed κs bytes bytes′ state state′ counts counts′ input taken taken′ position position′ n k) =
+    fed-takes-to-answer Live n (bytes .now) (bytes′ .now) (input .now) (state .now) (state′ .now) (counts .now)
+    (counts′ .now) (taken′ .now) (position′ .now) k
+fed-to-answer (fed-at {o} κs bytes bytes′ state state′ counts counts′ input taken taken′ position position′ n k) =
+    fed-takes-to-answer o n (bytes .now) (bytes′ .now) (input .now) (state .now) (state′ .now) (counts .now)
+    (counts′ .now) (taken′ .now) (position′ .now) k
 
--- The bytes taken, and a finish, are answered, and leave the reader, as they do singly.
-pub exported-takes : (o : Origin) (l l′ : LentLine) (given : List Call) (taken : ℕ) (outcomes : List Outcome)
+-- Where the count is full, a call that is given a byte leaves the array and both numbers as they were.
+pub fed-full-kept : {o : Origin} {l l′ : LentLine} {given : List ℕ} {taken : ℕ} {a : Located Outcome}
+    → ExportedFed o l given taken a l′ → mostBytes ≤ countOf (l .counts) → 0 < length given → l′ ≡ l
+fed-full-kept (fed κs bytes bytes′ state state′ counts counts′ input taken taken′ position position′ n k) =
+    fed-full-keeps Live n (bytes .now) (bytes′ .now) (input .now) (state .now) (state′ .now) (counts .now)
+    (counts′ .now) (taken′ .now) (position′ .now) k
+fed-full-kept (fed-at {o} κs bytes bytes′ state state′ counts counts′ input taken taken′ position position′ n k) =
+    fed-full-keeps o n (bytes .now) (bytes′ .now) (input .now) (state .now) (state′ .now) (counts .now)
+    (counts′ .now) (taken′ .now) (position′ .now) k
+
+fed-stands : {o : Origin} {l l′ : LentLine} {given : List ℕ} {taken : ℕ} {a : Located Outcome}
+    → ExportedFed o l given taken a l′
+    → TakesFirst (readerOf o l) (feed given) (standsFor taken a) (toldBytes taken a) (readerOf o l′)
+fed-stands (fed κs bytes bytes′ state state′ counts counts′ input taken taken′ position position′ n k) =
+    fed-takes Live n (bytes .now) (bytes′ .now) (input .now) (state .now) (state′ .now) (counts .now) (counts′ .now)
+    (taken′ .now) (position′ .now) k
+fed-stands (fed-at {o} κs bytes bytes′ state state′ counts counts′ input taken taken′ position position′ n k) =
+    fed-takes o n (bytes .now) (bytes′ .now) (input .now) (state .now) (state′ .now) (counts .now) (counts′ .now)
+    (taken′ .now) (position′ .now) k
+
+-- The calls that it stands for, and a finish, are answered, and leave the reader, as they do singly.
+pub exported-takes : (o : Origin) (l l′ : LentLine) (given : List Call) (taken : ℕ) (outcomes : List (Located Outcome))
     → ExportedLine o l given taken outcomes l′ → TakesFirst (readerOf o l) given taken outcomes (readerOf o l′)
-exported-takes o l l′ given m outcomes (fed κs bytes bytes′ state state′ input taken taken′ n k) =
-    fed-takes Live n (bytes .now) (bytes′ .now) (input .now) (state .now) (state′ .now) (taken′ .now) k
-exported-takes o l l′ given m outcomes (fed-at κs bytes bytes′ state state′ input taken taken′ n k) =
-    fed-takes o n (bytes .now) (bytes′ .now) (input .now) (state .now) (state′ .now) (taken′ .now) k
-exported-takes o l l′ given m outcomes (ended κs {bytes = bytes} state state′ n k) =
-    let r = readerIn o bytes (state .now) in (
+exported-takes o l l′ given m outcomes (feeds k) = fed-stands k
+exported-takes o l l′ given m outcomes
+    (ends (ended κs {bytes = bytes} state state′ counts counts′ position position′ n k)) =
+    let r = readerIn o bytes (state .now) (counts .now) in
+    let e = k o bytes in (
       omega arith,
-      ap (λ (a : Outcome). a ∷ [])
-          (ap (λ (h : Summary). outcomeOf h bytes) (finish-told n r (k o bytes .answered)) ∙ call-whole r finish),
-      finished-next o n bytes (state .now) (state′ .now) (k o bytes),
+      ap (λ (a : Located Outcome). a ∷ [])
+          (ap₂ (λ (h : Summary) (p : ℕ). locatedOutcome h p bytes) (finish-told n r (e .answered)) (e .position-is)
+          ∙ call-whole r finish),
+      finished-next o n bytes (state .now) (counts .now) (state′ .now) (counts′ .now) (position′ .now) e,
     )
 
 -- ---- calls in a row
 
 module _ {o : Origin} where
-  -- Any calls in a row at an origin, from any array and any number of a state: each byte taken and each finish has the
-  -- outcome that it has singly, and the array and the number left are the reader of the single calls.
-  pub exported-singly : {l last : LentLine} {calls : List Call} {outcomes : List Outcome}
+  -- Any calls in a row at an origin, from any array and any two numbers of a state: each byte taken or refused and each
+  -- finish has the outcome that it has singly, and the array and the numbers left are the reader of the single calls.
+  pub exported-singly : {l last : LentLine} {calls : List Call} {outcomes : List (Located Outcome)}
       → RanBy (ExportedLine o) l calls outcomes last → AsSingly (readerOf o l) calls outcomes (readerOf o last)
   exported-singly t =
       let k = ran-by-run (ExportedLine o) outcomeAt nextAfter (readerOf o) (exported-takes o) t in
       record { outcomes-are = k .0; reader-is = k .1 }
 
-  -- However a stream, with its finishes, is cut into chunks, each starting right after the last byte taken.
-  pub exported-stream : {l last : LentLine} {stream : List Call} {outcomes : List Outcome}
-      → Through (ExportedLine o) l stream outcomes last → AsSingly (readerOf o l) stream outcomes (readerOf o last)
-  exported-stream t =
-      exported-singly
-      (through-ran (ExportedLine o) (λ l l′ given taken os k. exported-takes o l l′ given taken os k .0) t)
+  each-counted : (l l′ : LentLine) (given later : List Call) (taken : ℕ) (outcomes : List (Located Outcome))
+      → ExportedTaken o l given taken outcomes l′ → Counts (readerOf o l) (given ++ later)
+      → (taken ≤ length given) × ExportedLine o l given taken outcomes l′
+      × Counts (readerOf o l′) (drop taken (given ++ later))
+  each-counted l l′ calls later taken outcomes (feeds-taken {given = given} {a = a} k) w =
+      let e = stands-counted (readerOf o l) given later taken a (fed-to-answer k) w in
+      let c : ExportedLine o l (feed given) taken (toldBytes taken a) l′ =
+      subst (λ (n : ℕ). ExportedLine o l (feed given) n (toldBytes taken a) l′) e (feeds k) in
+      let t = exported-takes o l l′ (feed given) taken (toldBytes taken a) c in
+      (t .0, c, taken-counts (readerOf o l) (readerOf o l′) (feed given) later taken (toldBytes taken a) t w)
+  each-counted l l′ given later taken outcomes (ends-taken k) w =
+      let t = exported-takes o l l′ given taken outcomes (ends k) in
+      (t .0, ends k, taken-counts (readerOf o l) (readerOf o l′) given later taken outcomes t w)
 
--- Demand 3 of the calls that feed at an origin and of `csafe_finish`, whole, from every array and number that are a
--- reader outside of a candidate.
-pub exported-demand-3 : (o : Origin) → Demand3 (rowing o) (AnsweredBy (ExportedLine o) (λ l. AsNew o (readerOf o l)))
+  -- However a stream, with its finishes, is cut into chunks, each starting right after the last byte taken, where the
+  -- reader can count all its bytes up to each finish.
+  pub exported-stream : {l last : LentLine} {stream : List Call} {outcomes : List (Located Outcome)}
+      → Counts (readerOf o l) stream → Through (ExportedTaken o) l stream outcomes last
+      → AsSingly (readerOf o l) stream outcomes (readerOf o last)
+  exported-stream w t =
+      exported-singly
+      (through-known (ExportedTaken o) (ExportedLine o) (λ l calls. Counts (readerOf o l) calls) each-counted t w)
+
+-- Demand 3 of the calls that feed at an origin and of `csafe_finish`, whole and with positions, from every array and
+-- numbers that are a reader outside of a candidate that has taken no byte.
+pub exported-demand-3 : (o : Origin)
+    → LocatedDemand3 (locatedRowing o) (AnsweredBy (ExportedLine o) (λ l. AsNew o (readerOf o l)))
 exported-demand-3 o =
-    demand3-of (rowing o) (AnsweredBy (ExportedLine o) (λ l. AsNew o (readerOf o l)))
+    located-demand3-of (locatedRowing o) (AnsweredBy (ExportedLine o) (λ l. AsNew o (readerOf o l)))
     (λ calls outcomes k. exported-singly (k .ran) .outcomes-are
     ∙ as-new-follows o (readerOf o (k .start)) (k .made) .same calls)
 
--- 118 zeros and the number 0 are one, at both origins.
+-- 118 zeros and the numbers 0 and 0 are one, at both origins.
 pub new-line-as-new : (o : Origin) → AsNew o (readerOf o newLine)
-new-line-as-new o = record { array = refl; outside-is = refl; origin-is = refl }
+new-line-as-new o = record { array = refl; outside-is = refl; origin-is = refl; count-is = refl }
 
--- No call in a row of `csafe_feed` and `csafe_finish`, from any array and any number, tells a standard frame.
-pub exported-live-named : {l last : LentLine} {calls : List Call} {outcomes : List Outcome}
-    → RanBy (ExportedLine Live) l calls outcomes last → Every NotStandard outcomes
+-- No call in a row of `csafe_feed` and `csafe_finish`, from any array and any two numbers, tells a standard frame.
+pub exported-live-named : {l last : LentLine} {calls : List Call} {outcomes : List (Located Outcome)}
+    → RanBy (ExportedLine Live) l calls outcomes last → Every (λ (a : Located Outcome). NotStandard (answerIn a)) outcomes
 exported-live-named {l} {last} {calls} k =
-    subst (Every NotStandard) (sym (exported-singly k .outcomes-are)) (live-run (readerOf Live l) refl calls)
+    subst (Every (λ (a : Located Outcome). NotStandard (answerIn a))) (sym (exported-singly k .outcomes-are))
+    (live-run (readerOf Live l) refl calls)
 
 -- The same calls, live and of a trace, on readers that are as new: each outcome of the live ones is that of the trace,
--- with 17 in place of a standard frame.
-pub exported-origins-alike : {calls : List Call} {outcomes traced : List Outcome}
+-- with 17 in place of a standard frame, at the same position.
+pub exported-origins-alike : {calls : List Call} {outcomes traced : List (Located Outcome)}
     → AnsweredBy (ExportedLine Live) (λ l. AsNew Live (readerOf Live l)) calls outcomes
     → AnsweredBy (ExportedLine Trace) (λ l. AsNew Trace (readerOf Trace l)) calls traced
-    → outcomes ≡ map (outcomeFrom Live) traced
+    → outcomes ≡ map (locatedBy (outcomeFrom Live)) traced
 exported-origins-alike {calls} {outcomes} {traced} k t =
     exported-demand-3 Live .same calls outcomes k ∙ reference-from Live calls
-    ∙ ap (map (outcomeFrom Live)) (sym (exported-demand-3 Trace .same calls traced t))
+    ∙ ap (map (locatedBy (outcomeFrom Live))) (sym (exported-demand-3 Trace .same calls traced t))
 
 -- Call by call the live outcome is 17 exactly where that of the trace is a standard frame, and is the same everywhere else.
-pub exported-line-17-exactly : {calls : List Call} {outcomes traced : List Outcome}
+pub exported-line-17-exactly : {calls : List Call} {outcomes traced : List (Located Outcome)}
     → AnsweredBy (ExportedLine Live) (λ l. AsNew Live (readerOf Live l)) calls outcomes
     → AnsweredBy (ExportedLine Trace) (λ l. AsNew Trace (readerOf Trace l)) calls traced
-    → EachPair UnnamedLive outcomes traced
+    → EachPair UnnamedAt outcomes traced
 exported-line-17-exactly {calls} {outcomes} {traced} k t =
     each-unnamed outcomes traced (exported-origins-alike k t)
-    (subst (Every Not17) (sym (exported-singly (t .ran) .outcomes-are))
+    (subst (Every (λ (a : Located Outcome). Not17 (answerIn a))) (sym (exported-singly (t .ran) .outcomes-are))
     (trace-run (readerOf Trace (t .start)) refl calls))
 
--- Whatever calls came before, the last byte of a whole candidate is answered 17 exactly on the live line, where the
+-- Whatever calls came before within the limit, the last byte of a whole candidate is answered 17 exactly on the live line, where the
 -- candidate is a sound standard frame in a trace.
-pub exported-candidate-17-exactly : (o : Origin) (calls : List Call) (w : List ℕ) (earlier : List Outcome)
-    (last : Outcome)
-    → Terminated w
+pub exported-candidate-17-exactly : (o : Origin) (calls : List Call) (w : List ℕ) (earlier : List (Located Outcome))
+    (last : Located Outcome)
+    → Terminated w → Within mostBytes 0 (calls ++ feed w)
     → AnsweredBy (ExportedLine o) (λ l. AsNew o (readerOf o l)) (calls ++ feed w) (earlier ++ last ∷ [])
-    → Exactly (last ≡ judged (refused 17)) ((o ≡ Live) × ((c : List ℕ) × SoundFrame Trace w (standard c)))
-exported-candidate-17-exactly o calls w earlier last t k =
-    judged-last o calls w t earlier last (exported-demand-3 o .same (calls ++ feed w) (earlier ++ last ∷ []) k)
+    → Exactly (answerIn last ≡ judged (refused 17)) ((o ≡ Live) × ((c : List ℕ) × SoundFrame Trace w (standard c)))
+exported-candidate-17-exactly o calls w earlier last t within k =
+    judged-last o calls w t within earlier last (exported-demand-3 o .same (calls ++ feed w) (earlier ++ last ∷ []) k)

@@ -1,6 +1,6 @@
 -- A number tells a caller exactly what a line reader told.
 use Prim.Native.Nat.{ℕ}
-use mathlib.Core.Path.{_≡_, ap, _∙_}
+use mathlib.Core.Path.{_≡_, sym, ap, _∙_, subst}
 use mathlib.Core.Bool.{Bool, true, false}
 use mathlib.Core.List.{List, [], _∷_}
 use native.Mathlib.Omega.{arith}
@@ -8,6 +8,7 @@ use lib.Dec.{eqb}
 use lib.ListN.{take}
 use Rattle.lists.specs.Choice.{pick}
 use Rattle.answer.specs.Answer.{result, refused}
+use Rattle.framing.specs.Located.{answerIn}
 use Rattle.framing.specs.Reference.{Role, starts, stops, plain}
 use Rattle.framing.specs.Bounded.{BoundedMode, outside, inside, overlong, truncatedIn, terminatedIn}
 use Rattle.frame.specs.Flags.{roleOf, candidateOf}
@@ -16,11 +17,15 @@ use Rattle.frame.specs.Origin.{admit}
 use Rattle.frame.specs.Answers.{standardOutline, extendedOutline, outlineOf, judgeAnswer}
 use Rattle.frame.specs.declared.Origin.{Origin}
 use Rattle.frame.specs.declared.Kind.{Kind}
-use Rattle.line.specs.Outcome.{Summary, silent, tells, summaryOf}
-use Rattle.line.specs.Rowing.{rowing, rowingBounds}
-use Rattle.line.specs.Reader.{ReaderTurn, originOf, modeSeen, roleStep, stepOf, finishOf}
-use Rattle.line.specs.Feed.{isAnswer, ChunkTurn, chunkTurn, laterBy, feedOf}
+use Rattle.candidate.specs.Outcome.{Outcome, Summary, silent, tells, summaryOf}
+use Rattle.candidate.specs.Rowing.{rowing, rowingBounds}
+use Rattle.candidate.specs.Holder.{Holder, holder, HolderTurn, originHeld, modeSeen, roleStep, stepHeld, finishHeld}
+use Rattle.candidate.specs.Feed.{isAnswer, FedTurn, fedTurn, laterBy, feedHeld}
+use Rattle.line.specs.Reader.{finishOf}
+use Rattle.line.specs.Feed.{chunkOf}
 use Rattle.line.specs.declared.LineReader.{LineReader}
+use Rattle.line.proofs.StepLaws.{answer-located}
+use Rattle.line.proofs.FeedBounds.{chunk-answer}
 use Rattle.exports.specs.Packed.{Fields, Tells}
 use Rattle.exports.specs.LineAnswers.{lineFields}
 use Rattle.exports.specs.Told.{toldRead, toldLine, NumberedLine}
@@ -57,33 +62,41 @@ module _ (o : Origin) where
       (verdict-numbered o (candidateOf kind (take len held)))
   terminated-numbered overlong held len = λ e. omega arith
 
-byte-numbered : (r : LineReader) (b : ℕ) (ρ : Role) → NumberedLine (summaryOf (roleStep ρ r b .answer))
-byte-numbered r b starts = truncated-numbered (originOf r) (modeSeen (r .state .mode))
-byte-numbered r b stops = terminated-numbered (originOf r) (modeSeen (r .state .mode)) (r .bytes) (r .state .len)
+byte-numbered : (r : Holder) (b : ℕ) (ρ : Role) → NumberedLine (summaryOf (roleStep ρ r b .answer))
+byte-numbered r b starts = truncated-numbered (originHeld r) (modeSeen (r .held .mode))
+byte-numbered r b stops = terminated-numbered (originHeld r) (modeSeen (r .held .mode)) (r .bytes) (r .held .len)
 byte-numbered r b plain = tt
 
-pub finish-numbered : (r : LineReader) → NumberedLine (summaryOf (finishOf r .answer))
-finish-numbered r = truncated-numbered (originOf r) (modeSeen (r .state .mode))
-
-pub feed-numbered : (r : LineReader) (s : List ℕ) → NumberedLine (summaryOf (feedOf r s .answer))
-unfolding feedOf
-feed-numbered r [] = tt
-feed-numbered r (b ∷ s) =
-    by-answer (isAnswer (stepOf r b .answer)) (stepOf r b) (byte-numbered r b (roleOf b)) (feedOf (stepOf r b .next) s)
-    (feed-numbered (stepOf r b .next) s)
+held-numbered : (r : Holder) (s : List ℕ) → NumberedLine (summaryOf (feedHeld r s .answer))
+unfolding feedHeld
+held-numbered r [] = tt
+held-numbered r (b ∷ s) =
+    by-answer (isAnswer (stepHeld r b .answer)) (stepHeld r b) (byte-numbered r b (roleOf b))
+    (feedHeld (stepHeld r b .next) s) (held-numbered (stepHeld r b .next) s)
   where
-    by-answer : (q : Bool) (t : ReaderTurn) → NumberedLine (summaryOf (t .answer)) → (f : ChunkTurn)
+    by-answer : (q : Bool) (t : HolderTurn) → NumberedLine (summaryOf (t .answer)) → (f : FedTurn)
         → NumberedLine (summaryOf (f .answer))
-        → NumberedLine (summaryOf (pick q (chunkTurn (t .answer) (t .next) 1) (laterBy 1 f) .answer))
+        → NumberedLine (summaryOf (pick q (fedTurn (t .answer) (t .next) 1) (laterBy 1 f) .answer))
     by-answer true t h f k = h
     by-answer false t h f k = k
 
+pub feed-numbered : (r : LineReader) (s : List ℕ) → NumberedLine (summaryOf (answerIn (chunkOf r s .answer)))
+unfolding judgeAnswer
+feed-numbered r s = chunk-answer r s (λ o. NumberedLine (summaryOf o)) tt (λ e. omega arith) held-numbered
+
+pub finish-numbered : (r : LineReader) → NumberedLine (summaryOf (answerIn (finishOf r .answer)))
+finish-numbered r =
+    let h = holder (r .bytes) (r .state .held) in
+    subst (λ (o : Outcome). NumberedLine (summaryOf o)) (sym (answer-located (finishHeld h .answer) (r .state .start)))
+    (truncated-numbered (originHeld h) (modeSeen (h .held .mode)))
+
 -- ---- what the exported functions' answers tell
 
-pub fed-told : (n : ℕ) (r : LineReader) (s : List ℕ) → Tells n (lineFields (summaryOf (feedOf r s .answer)))
-    → toldLine n ≡ summaryOf (feedOf r s .answer)
-fed-told n r s = line-told n (summaryOf (feedOf r s .answer)) (feed-numbered r s)
+pub fed-told : (n : ℕ) (r : LineReader) (s : List ℕ)
+    → Tells n (lineFields (summaryOf (answerIn (chunkOf r s .answer))))
+    → toldLine n ≡ summaryOf (answerIn (chunkOf r s .answer))
+fed-told n r s = line-told n (summaryOf (answerIn (chunkOf r s .answer))) (feed-numbered r s)
 
-pub finish-told : (n : ℕ) (r : LineReader) → Tells n (lineFields (summaryOf (finishOf r .answer)))
-    → toldLine n ≡ summaryOf (finishOf r .answer)
-finish-told n r = line-told n (summaryOf (finishOf r .answer)) (finish-numbered r)
+pub finish-told : (n : ℕ) (r : LineReader) → Tells n (lineFields (summaryOf (answerIn (finishOf r .answer))))
+    → toldLine n ≡ summaryOf (answerIn (finishOf r .answer))
+finish-told n r = line-told n (summaryOf (answerIn (finishOf r .answer))) (finish-numbered r)

@@ -4,19 +4,20 @@
 use Prim.Native.Nat.{ℕ, _≤_}
 use mathlib.Core.Path.{_≡_, refl, ap, _∙_}
 use mathlib.Core.Logic.{_⊎_}
-use mathlib.Core.List.{List, [], _∷_}
+use mathlib.Core.List.{List}
 use lib.ListN.{length, take}
 use contract.Lifetimes.{Lfts}
 use denote.Ref.{RefT}
 use Rattle.lists.specs.Choice.{Exactly}
 use Rattle.lists.specs.Machine.{AnsweredBy}
-use Rattle.framing.specs.Reference.{Reference}
 use Rattle.framing.specs.Demand3.{feed}
 use Rattle.frame.specs.Answers.{FrameOutline, extendedOutline}
 use Rattle.frame.specs.declared.Origin.{Origin}
 use Rattle.frame.proofs.OriginLaws.{extended-named}
-use Rattle.line.specs.Outcome.{Outcome, answersIn}
-use Rattle.line.specs.Rowing.{rowing}
+use Rattle.framing.specs.Located.{Located, LocatedReference}
+use Rattle.candidate.specs.Outcome.{Outcome}
+use Rattle.line.specs.Rowing.{locatedRowing}
+use Rattle.line.specs.Chunks.{toldAlone}
 use Rattle.line.specs.Reader.{AsNew}
 use Rattle.line.proofs.WrittenTold.{reference-told-frame}
 use Rattle.answer.specs.Answer.{Answer, result, refused}
@@ -134,18 +135,18 @@ exported-workout-frame-reads-back {o} {to} {w} {out} {last} {into} {left} {n} {a
     let q = frame-reads-back o to w last n into a left s (exported-reads r) room in
     (q .0, λ b l. call-reads l .answered ∙ ap (workoutAnswer pm3Limits) (q .1) ∙ s .back)
 
--- Fed to `csafe_feed`, or to `feed` at any origin, in any chunks, from any reader outside of a candidate, they are told as
--- that frame alone, and its contents are read as the workout.
+-- Fed to `csafe_feed`, or to `feed` at any origin, in any chunks, from any reader that is as new, they are told as that
+-- frame alone, at position 0, and its contents are read as the workout.
 pub exported-workout-frame-told : {o : Origin} {to : ℕ} {w : Programmed} {out last : List ℕ} {n : ℕ}
-    {outcomes : List Outcome}
+    {outcomes : List (Located Outcome)}
     → ExportedWorkoutFrame to w out (result n) last
     → AnsweredBy (ExportedLine o) (λ l. AsNew o (readerOf o l)) (feed (take n last)) outcomes
-    → (answersIn outcomes ≡ result (workoutFrame to w) ∷ [])
+    → (outcomes ≡ toldAlone (workoutFrame to w))
     × ((b : Answer Programmed) → CalledRead (workoutBytes w) b → b ≡ result w)
 exported-workout-frame-told {o} {to} {w} {out} {last} {n} {outcomes} k l =
     let s = frame-back to w out last n (exported-workout-frames k) in (
-      ap answersIn (exported-demand-3 o .same (feed (take n last)) outcomes l
-          ∙ ap (λ (u : List ℕ). Reference (rowing o) (feed u)) (s .wire))
+      exported-demand-3 o .same (feed (take n last)) outcomes l
+          ∙ ap (λ (u : List ℕ). LocatedReference (locatedRowing o) (feed u)) (s .wire)
           ∙ reference-told-frame o (workoutFrame to w) (extended-named o) (s .short),
       λ b c. call-reads c .answered ∙ s .back,
     )

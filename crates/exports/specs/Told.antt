@@ -6,7 +6,9 @@ use lib.Dec.{eqb}
 use Rattle.lists.specs.Choice.{pick}
 use Rattle.answer.specs.Answer.{Answer, result, refused, through}
 use Rattle.frame.specs.Answers.{FrameOutline, standardOutline, extendedOutline}
-use Rattle.line.specs.Outcome.{Summary, silent, tells}
+use Rattle.framing.specs.Located.{Located}
+use Rattle.candidate.specs.Outcome.{Outcome, Summary, silent, tells}
+use Rattle.line.specs.Answers.{locatedOutcome}
 use Rattle.exports.specs.Packed.{Fields, unpacked}
 
 -- 0 is a result, every other number a refusal.
@@ -32,6 +34,11 @@ toldRead n = toldAs (unpacked n .number) (outlineIn (unpacked n))
 -- What a line reader tells: nothing where the kind is 2, else as reading tells it.
 unfoldable pub toldLine : ℕ → Summary
 toldLine n = pick (eqb (unpacked n .kind) 2) silent (tells (toldRead n))
+
+-- The whole outcome with its position, by the number, the position beside it and the array that is left, whose first
+-- bytes are a frame's contents.
+abbrev pub toldLocated : (n position : ℕ) → List ℕ → Located Outcome
+toldLocated n position bytes = locatedOutcome (toldLine n) position bytes
 
 -- A refusal's number is not 0, which stands for a result.
 abbrev pub Numbered : {A : Type 0} → Answer A → Type 0

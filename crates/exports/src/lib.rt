@@ -82,33 +82,40 @@ pub extern "C" fn csafe_read(wire: &[u8], out: &mut [u8]) -> u64
     read(Origin::Live, wire, out)
 }
 
-// Feeds a chunk to a line reader up to the first byte that is answered, and counts the bytes taken. With no answer all
-// are taken. A chunk of more than 65,536 bytes is cut to its first 65,536. The reader is its array and the number that
-// holds its state, 0 for a new one. A standard frame is told as refusal 17.
+// Feeds a chunk to a line reader up to the first byte that is answered, counts the bytes taken, and gives the position of
+// the answer's start flag. With no answer all are taken, or as many as the reader can still count. A chunk of more than
+// 65,536 bytes is cut to its first 65,536. The reader is its array and the two numbers that hold its state, both 0 for a
+// new one. A standard frame is told as refusal 17, and a first byte that can't be taken as 16, at position 0.
 #[no_mangle]
 pub extern "C" fn csafe_feed(
     bytes: &mut [u8; 118],
     state: &mut u64,
+    counts: &mut u64,
     input: &[u8],
     taken: &mut u64,
+    position: &mut u32,
 ) -> u64
-    ensures { λ r. ⌜ FedAs r (now (bytes .exit)) (now (state .exit)) (now (taken .exit))
-        (fedTo Live (now (bytes .entry)) (now (state .entry)) (now (input .entry))) ⌝ }
+    ensures { λ r. ⌜ FedAs r (now (bytes .exit)) (now (state .exit)) (now (counts .exit)) (now (taken .exit))
+        (now (position .exit))
+        (fedTo Live (now (bytes .entry)) (now (state .entry)) (now (counts .entry)) (now (input .entry))) ⌝ }
 {
-    feed(Origin::Live, bytes, state, input, taken)
+    feed(Origin::Live, bytes, state, counts, input, taken, position)
 }
 
-// Ends the input of the line reader whose state the number holds, of either origin; its array stays as it is. Refusal 6
-// where a candidate is open.
+// Ends the input of the line reader whose state the two numbers hold, of either origin; its array stays as it is. Refusal
+// 6, with the position of its start flag, where a candidate is open.
 #[no_mangle]
-pub extern "C" fn csafe_finish(state: &mut u64) -> u64
+pub extern "C" fn csafe_finish(state: &mut u64, counts: &mut u64, position: &mut u32) -> u64
     ensures { λ r. ⌜ ((o : Origin) (bytes : List ℕ)
-        → FinishedAs r (now (state .exit)) (finished o bytes (now (state .entry)))) ⌝ }
+        → FinishedAs r (now (state .exit)) (now (counts .exit)) (now (position .exit))
+        (finished o bytes (now (state .entry)) (now (counts .entry)))) ⌝ }
 {
-    let before = line_state::state_in(Origin::Live, *state);
+    let before = line_state::state_in(Origin::Live, *state, *counts);
     let ended = line::finish_in(before);
     let after = ended.state;
     *state = line_state::pack_state(after);
+    *counts = line_state::pack_counts(after);
+    *position = ended.position;
     let told = ended.told;
     packed::of_told(told)
 }
@@ -269,22 +276,28 @@ pub fn read(origin: Origin, wire: &[u8], out: &mut [u8]) -> u64
     packed::of_read(read)
 }
 
-// Feeds a chunk to the line reader of this origin that the array and the number are, as `csafe_feed` does to a live one.
+// Feeds a chunk to the line reader of this origin that the array and the two numbers are, as `csafe_feed` does to a live
+// one.
 pub fn feed(
     origin: Origin,
     bytes: &mut [u8; 118],
     state: &mut u64,
+    counts: &mut u64,
     input: &[u8],
     taken: &mut u64,
+    position: &mut u32,
 ) -> u64
-    ensures { λ r. ⌜ FedAs r (now (bytes .exit)) (now (state .exit)) (now (taken .exit))
-        (fedTo origin (now (bytes .entry)) (now (state .entry)) (now (input .entry))) ⌝ }
+    ensures { λ r. ⌜ FedAs r (now (bytes .exit)) (now (state .exit)) (now (counts .exit)) (now (taken .exit))
+        (now (position .exit))
+        (fedTo origin (now (bytes .entry)) (now (state .entry)) (now (counts .entry)) (now (input .entry))) ⌝ }
 {
-    let before = line_state::state_in(origin, *state);
+    let before = line_state::state_in(origin, *state, *counts);
     let fed = line::feed_in(bytes, before, input);
     let after = fed.state;
     *state = line_state::pack_state(after);
+    *counts = line_state::pack_counts(after);
     *taken = fed.taken as u64;
+    *position = fed.position;
     let told = fed.told;
     packed::of_told(told)
 }

@@ -1,15 +1,15 @@
 // The one number that every exported function answers.
 use answer::Refusal;
 use answer::Written;
+use candidate::Told;
 use frame::Read;
 use frame::WireLength;
 use lease::LeaseAnswer;
-use line::Told;
 ghost use Rattle.answer.specs.Refusals.{numberOf};
 ghost use Rattle.answer.specs.Draft.{writtenMeans};
 ghost use Rattle.frame.specs.Answers.{lengthMeans, readMeans};
+ghost use Rattle.candidate.specs.Outcome.{toldMeans, ContentsFit};
 ghost use Rattle.lease.specs.Answers.{leaseMeans};
-ghost use Rattle.line.specs.Outcome.{toldMeans, ContentsFit};
 ghost use Rattle.exports.specs.Packed.{Tells};
 ghost use Rattle.exports.specs.Answers.{refusalFields, resultFields, writeFields, readFields, leaseFields};
 ghost use Rattle.exports.specs.Answers.{WriteShort, ReadShort};

@@ -30,19 +30,19 @@ more-free role (x ∷ body) b f e = (f .0, more-free role body b (f .1) e)
 
 module _ {K A : Type 0} (P : Protocol A) (B : Bounds K A) (suits : Suits P B) where
   -- the decoder's candidate is of a kind, with these bytes after its start flag
-  record HoldsBody (kind : K) (body : List ℕ) (k : Candidate) : Type 0 where
+  pub record HoldsBody (kind : K) (body : List ℕ) (k : Candidate) : Type 0 where
     pub flag : ℕ
     pub starting : P .role flag ≡ starts
     pub opens : B .kind flag ≡ kind
     pub holds : k ≡ opened (flag ∷ body)
     pub flag-free : FlagFree (P .role) body
 
-  abbrev StandsAt : BoundedMode K → List ℕ → ℕ → Candidate → Type 0
+  abbrev pub StandsAt : BoundedMode K → List ℕ → ℕ → Candidate → Type 0
   StandsAt outside bytes len k = k ≡ none
   StandsAt (inside kind) bytes len k = (len ≤ B .capacity) × HoldsBody kind (take len bytes) k
   StandsAt overlong bytes len k = (kind : K) × (body : List ℕ) × (B .capacity < length body) × HoldsBody kind body k
 
-  abbrev StandsFor : BoundedReader K → Candidate → Type 0
+  abbrev pub StandsFor : BoundedReader K → Candidate → Type 0
   StandsFor r k = (length (r .bytes) ≡ B .capacity) × StandsAt (r .mode) (r .bytes) (r .len) k
 
   -- ---- a start flag, and the end of input
@@ -140,21 +140,34 @@ module _ {K A : Type 0} (P : Protocol A) (B : Bounds K A) (suits : Suits P B) wh
 
   -- ---- what can be seen as a bounded reader
 
-  -- Demand 3 of any machine whose states of one sort can be seen as a bounded reader and stay of that sort, from a state
-  -- that is outside of a candidate: what the array and the length are doesn't matter.
-  pub bounded-follows : {S : Type 0} (sort : S → Type 0) (turnOf : S → Call → Turn S A) (seen : S → BoundedReader K)
-      → ((s : S) (c : Call) → sort s → (turnOf s c .answer ≡ boundedTurn P B (seen s) c .answer)
-      × (seen (turnOf s c .next) ≡ boundedTurn P B (seen s) c .next) × sort (turnOf s c .next))
-      → (s : S) → sort s → length (seen s .bytes) ≡ B .capacity → seen s .mode ≡ outside
-      → Follows P (run (λ s c. turnOf s c .answer) (λ s c. turnOf s c .next) s)
-  bounded-follows sort turnOf seen same s h e o =
-      follows P (λ s c. turnOf s c .answer) (λ s c. turnOf s c .next) (λ s k. sort s × StandsFor (seen s) k)
-      (λ s k c r. let q = call-at (seen s) k c (r .1) in
-      let t = same s c (r .0) in (
-        t .0 ∙ q .0,
-        (t .2, subst (λ (x : BoundedReader K). StandsFor x (candidateAfter P k c)) (sym (t .1)) (q .1)),
-      ))
-      s (h, (e, subst (λ (m : BoundedMode K). StandsAt m (seen s .bytes) (seen s .len) none) (sym o) refl))
+  module _ {S : Type 0} (sort : S → Type 0) (turnOf : S → Call → Turn S A) (seen : S → BoundedReader K)
+      (same : (s : S) (c : Call) → sort s → (turnOf s c .answer ≡ boundedTurn P B (seen s) c .answer)
+      × (seen (turnOf s c .next) ≡ boundedTurn P B (seen s) c .next) × sort (turnOf s c .next)) where
+    -- A state of one sort is seen as a bounded reader that stands for the decoder's candidate.
+    abbrev pub SeenFor : S → Candidate → Type 0
+    SeenFor s k = sort s × StandsFor (seen s) k
+
+    -- Each call is answered as the decoder answers it, and keeps that.
+    pub seen-call : (s : S) (k : Candidate) (c : Call) → SeenFor s k
+        → (turnOf s c .answer ≡ answerTo P k c) × SeenFor (turnOf s c .next) (candidateAfter P k c)
+    seen-call s k c r =
+        let q = call-at (seen s) k c (r .1) in
+        let t = same s c (r .0) in (
+          t .0 ∙ q .0,
+          (t .2, subst (λ (x : BoundedReader K). StandsFor x (candidateAfter P k c)) (sym (t .1)) (q .1)),
+        )
+
+    -- One that is outside of a candidate stands for none: what the array and the length are doesn't matter.
+    pub seen-outside : (s : S) → sort s → length (seen s .bytes) ≡ B .capacity → seen s .mode ≡ outside → SeenFor s none
+    seen-outside s h e o =
+        (h, (e, subst (λ (m : BoundedMode K). StandsAt m (seen s .bytes) (seen s .len) none) (sym o) refl))
+
+    -- Demand 3 of a machine whose states of one sort can be seen as a bounded reader and stay of that sort, from a state
+    -- that is outside of a candidate.
+    pub bounded-follows : (s : S) → sort s → length (seen s .bytes) ≡ B .capacity → seen s .mode ≡ outside
+        → Follows P (run (λ s c. turnOf s c .answer) (λ s c. turnOf s c .next) s)
+    bounded-follows s h e o =
+        follows P (λ s c. turnOf s c .answer) (λ s c. turnOf s c .next) SeenFor seen-call s (seen-outside s h e o)
 
   -- Demand 3 of functions whose contracts say that each call on a state is one on the bounded reader that the state is
   -- seen as, from what is known of a new state.

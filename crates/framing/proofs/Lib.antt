@@ -1,2 +1,6 @@
 pub mod Restart
 pub mod Bounded
+pub mod Located
+pub mod Counting
+pub mod LocatedCandidates
+pub mod Positions

@@ -110,6 +110,10 @@ module _ {A : Type 0} (P : Protocol A) where
           let z : _≡_ {A = ℕ} 0 1 = cc in omega arith)
       by-candidate (opened t) e = inl (says bytes .0 t e)
 
+  -- A candidate that is open after bytes is one that they left open.
+  pub opened-left : (bytes t : List ℕ) → leftAfter (candidateAfter P) none (feed bytes) ≡ opened t → LeftOpen P bytes
+  opened-left bytes t e = says bytes .0 t e
+
   -- ---- D, W and L
 
   not-left-open : (D : List ℕ) (w : ℕ) (k : Candidate) → fed none D ≡ k → (LeftOpen P D → ⊥)

@@ -1,3 +1,6 @@
 pub mod Reference
 pub mod Demand3
 pub mod Bounded
+pub mod Located
+pub mod LocatedDemand3
+pub mod Counting

@@ -1,116 +1,291 @@
--- The bytes that a chunk takes are answered, and leave the reader, as they do singly.
+-- The bytes that a chunk takes are answered, and leave the reader, as they do singly, and 16 comes exactly where the
+-- reader is full.
 use mathlib.Core.Path.{_≡_, refl, sym, ap, ap₂, _∙_, subst}
 use mathlib.Core.Bool.{Bool, true, false, true≢false}
+use mathlib.Core.Logic.{_⊎_, inl, inr}
 use mathlib.Core.List.{List, [], _∷_}
 use native.Mathlib.Omega.{arith}
+use Prim.Native.Nat.{ℕ, zero, suc, _+_, _-_, _≤_, _<_}
+use lib.Dec.{ltb}
 use lib.ListN.{length, take, length-map}
 use lib.Seq.{take-take}
-use Prim.Native.Nat.{ℕ, zero, suc, _+_, _≤_}
+use borrow.Author.Tests.{ltb-true, ltb-false}
 use Rattle.lists.specs.Choice.{pick}
 use Rattle.lists.specs.Machine.{run, leftAfter}
+use Rattle.lists.proofs.Cases.{by-bool}
 use Rattle.lists.proofs.Lists.{take-bounds, take-map}
-use Rattle.framing.specs.Reference.{byte}
+use Rattle.framing.specs.Reference.{Call, byte, finish}
 use Rattle.framing.specs.Demand3.{feed}
-use Rattle.line.specs.Outcome.{Outcome, nothing, judged}
-use Rattle.line.specs.Reader.{ReaderTurn, stepOf, outcomeAt, nextAfter}
-use Rattle.line.specs.Feed.{isAnswer, ChunkTurn, chunkTurn, laterBy, feedOf, chunkLimit, cutChunk, chunkOf}
-use Rattle.line.specs.Chunks.{byByte, TakenToAnswer, TakesFirst, AsSingly}
+use Rattle.framing.specs.Located.{Located, unlocated, located, answerIn}
+use Rattle.framing.specs.Counting.{startIn, locate}
+use Rattle.frame.specs.Flags.{roleOf}
+use Rattle.candidate.specs.Outcome.{Outcome, nothing, judged}
+use Rattle.candidate.specs.Holder.{holder, turnHeld}
+use Rattle.candidate.specs.Feed.{isAnswer, feedHeld, unanswered}
+use Rattle.candidate.proofs.OutcomeLaws.{OwnNumber, OwnOutcome, own-outcome, fed-outcome, fed-extent}
+use Rattle.line.specs.Rowing.{mostBytes, full}
+use Rattle.line.specs.Reader.{ReaderTurn, stepOf, turnOf, outcomeAt, nextAfter}
+use Rattle.line.specs.Feed.{ChunkTurn, chunkTurn, noTurn, laterBy, feedOf, chunkLimit, cutChunk, chunkOf}
+use Rattle.line.specs.Chunks.{standsFor, byByte, toldBytes, TakenToAnswer, TakesFirst, AsSingly}
+use Rattle.line.specs.Chunks.{FullExactly}
 use Rattle.line.specs.declared.LineReader.{LineReader}
+use Rattle.line.proofs.StepLaws.{answer-located, step-taken, step-full}
+use Rattle.line.proofs.FeedLaws.{fed-none, fed-taken, fed-full, chunk-none, chunk-full, chunk-taken}
+use Rattle.line.proofs.FeedLaws.{feed-held}
 
-no-answer : (o : Outcome) → isAnswer o ≡ false → o ≡ nothing
-no-answer nothing e = refl
-no-answer (judged v) e = absurd (true≢false e)
+-- ---- no other answer is 16
+
+own-not-full : (o : Outcome) → OwnOutcome o → o ≡ full → ⊥
+own-not-full o h e = by-number (h 16 e)
+  where
+    by-number : OwnNumber 16 → ⊥
+    by-number (inl k) = omega (arith, k .1)
+    by-number (inr k) = omega (arith, k)
+
+silent-not-full : _≡_ {A = Outcome} nothing full → ⊥
+silent-not-full e = let z : _≡_ {A = ℕ} 0 1 = cc in omega arith
+
+located-not-full : (o : Outcome) (position : ℕ) → OwnOutcome o → answerIn (locate isAnswer position o) ≡ full → ⊥
+located-not-full o position h e = own-not-full o h (sym (answer-located o position) ∙ e)
+
+-- a call that is no byte at a full count
+taken-not-full : (r : LineReader) (c : Call) (position : ℕ)
+    → answerIn (locate isAnswer position (turnHeld (holder (r .bytes) (r .state .held)) c .answer)) ≡ full → ⊥
+taken-not-full r c position = located-not-full _ position (own-outcome (holder (r .bytes) (r .state .held)) c)
+
+fed-not-full : (r : LineReader) (s : List ℕ) → answerIn (feedOf r s .answer) ≡ full → ⊥
+fed-not-full r s e =
+    let h = holder (r .bytes) (r .state .held) in
+    located-not-full _ _
+    (fed-outcome OwnOutcome (λ n q. let z : _≡_ {A = ℕ} 0 1 = cc in absurd (omega arith))
+    (λ h b. own-outcome h (byte b)) h (take (mostBytes - r .state .count) s))
+    (sym (ap (λ (f : ChunkTurn). answerIn (f .answer)) (feed-held r s)) ∙ e)
+
+-- Of one call: 16 exactly where the reader is full, and then it is left as it was.
+pub full-exactly : (r : LineReader) (c : Call) → FullExactly r c (turnOf r c .answer) (turnOf r c .next)
+full-exactly r (byte b) =
+    by-bool (ltb (r .state .count) mostBytes)
+    (λ y. let h : r .state .count < mostBytes = ltb-true (r .state .count) mostBytes y in
+    subst (λ (t : ReaderTurn). FullExactly r (byte b) (t .answer) (t .next)) (sym (step-taken r b h)) (record {
+      exactly = ((λ e. absurd (taken-not-full r (byte b) (r .state .start) e)), (λ k. absurd (omega arith)));
+      kept = λ k. absurd (omega arith);
+    }))
+    (λ n. let h : mostBytes ≤ r .state .count = ltb-false (r .state .count) mostBytes n in
+    subst (λ (t : ReaderTurn). FullExactly r (byte b) (t .answer) (t .next)) (sym (step-full r b h)) (record {
+      exactly = ((λ e. h), (λ k. refl));
+      kept = λ k. (refl, refl);
+    }))
+full-exactly r finish = record {
+  exactly = ((λ e. absurd (taken-not-full r finish (r .state .start) e)), (λ k. absurd k));
+  kept = λ k. absurd k;
+}
+
+-- ---- bytes up to the first that is answered
+
+-- an answer takes a byte
+quiet-none : (r : LineReader) (s : List ℕ) → feedOf r s .taken ≡ 0 → feedOf r s .answer ≡ unlocated nothing
+quiet-none r [] e = ap (λ (f : ChunkTurn). f .answer) (fed-none r)
+quiet-none r (b ∷ s) e =
+    by-bool (ltb (r .state .count) mostBytes)
+    (λ y. let q = fed-taken r b s (ltb-true (r .state .count) mostBytes y) in
+    absurd (by-answer (isAnswer (answerIn (stepOf r b .answer))) (stepOf r b)
+    (sym (ap (λ (f : ChunkTurn). f .taken) q) ∙ e)))
+    (λ n. ap (λ (f : ChunkTurn). f .answer) (fed-full r b s (ltb-false (r .state .count) mostBytes n)))
+  where
+    by-answer : (q : Bool) (t : ReaderTurn)
+        → pick q (chunkTurn (t .answer) (t .next) 1) (laterBy 1 (feedOf (t .next) s)) .taken ≡ 0 → ⊥
+    by-answer true t k = omega arith
+    by-answer false t k = omega arith
 
 -- what a chunk gives
 abbrev Singly : LineReader → List ℕ → ChunkTurn → Type 0
 Singly r s f = AsSingly r (feed (take (f .taken) s)) (byByte (f .taken) (f .answer)) (f .next)
 
 -- a byte that is not answered before a chunk
-byte-more : (n : ℕ) (o : Outcome) (r : LineReader) (s : List ℕ) → byByte n o ≡ run outcomeAt nextAfter r (feed (take n s))
-    → byByte (suc n) o ≡ nothing ∷ run outcomeAt nextAfter r (feed (take n s))
-byte-more zero nothing r s e = refl
-byte-more zero (judged v) r s e = let z : _≡_ {A = ℕ} 0 1 = cc in absurd (omega arith)
-byte-more (suc n) o r s e = ap (λ (l : List Outcome). nothing ∷ l) e
+byte-more : (n : ℕ) (a : Located Outcome) → (n ≡ 0 → a ≡ unlocated nothing)
+    → byByte (suc n) a ≡ unlocated nothing ∷ byByte n a
+byte-more zero a h = ap (λ (x : Located Outcome). x ∷ []) (h refl)
+byte-more (suc n) a h = refl
 
-by-answer : (q : Bool) (r : LineReader) (b : ℕ) (s : List ℕ) → isAnswer (stepOf r b .answer) ≡ q
-    → (f : ChunkTurn) → Singly (stepOf r b .next) s f
-    → Singly r (b ∷ s) (pick q (chunkTurn (stepOf r b .answer) (stepOf r b .next) 1) (laterBy 1 f))
-by-answer true r b s e f k = record { outcomes-are = refl; reader-is = refl }
-by-answer false r b s e f k =
-    let one : suc (f .taken) ≡ 1 + f .taken = omega arith in
-    subst (λ (n : ℕ). Singly r (b ∷ s) (chunkTurn (f .answer) (f .next) n)) one (record {
-      outcomes-are = byte-more (f .taken) (f .answer) (stepOf r b .next) s (k .outcomes-are)
-          ∙ ap (λ (o : Outcome). o ∷ run outcomeAt nextAfter (stepOf r b .next) (feed (take (f .taken) s)))
-          (sym (no-answer (stepOf r b .answer) e));
-      reader-is = k .reader-is;
-    })
+-- one outcome that is not an answer is nothing
+not-told : (r : LineReader) (b : ℕ) → r .state .count < mostBytes → isAnswer (answerIn (stepOf r b .answer)) ≡ false
+    → stepOf r b .answer ≡ unlocated nothing
+not-told r b h e =
+    let o = turnHeld (holder (r .bytes) (r .state .held)) (byte b) .answer in
+    let t = step-taken r b h in
+    ap (λ (t : ReaderTurn). t .answer) t
+    ∙ by-outcome o (ap isAnswer (sym (answer-located o (r .state .start)))
+    ∙ ap (λ (t : ReaderTurn). isAnswer (answerIn (t .answer))) (sym t) ∙ e)
+  where
+    by-outcome : (o : Outcome) → isAnswer o ≡ false → locate isAnswer (r .state .start) o ≡ unlocated nothing
+    by-outcome nothing k = refl
+    by-outcome (judged v) k = absurd (true≢false k)
 
 pub chunk-singly : (r : LineReader) (s : List ℕ) → Singly r s (feedOf r s)
-unfolding feedOf
-chunk-singly r [] = record { outcomes-are = refl; reader-is = refl }
+chunk-singly r [] =
+    subst (Singly r []) (sym (fed-none r)) (record { outcomes-are = refl; reader-is = refl })
 chunk-singly r (b ∷ s) =
-    by-answer (isAnswer (stepOf r b .answer)) r b s refl (feedOf (stepOf r b .next) s)
-    (chunk-singly (stepOf r b .next) s)
-
--- how many bytes are taken
-abbrev Taken : List ℕ → ChunkTurn → Type 0
-Taken s f = TakenToAnswer s (f .taken) (f .answer)
-
-pub chunk-taken : (r : LineReader) (s : List ℕ) → Taken s (feedOf r s)
-unfolding feedOf
-chunk-taken r [] = record { within = omega arith; all = λ e. refl; some = λ n. absurd (n refl) }
-chunk-taken r (b ∷ s) =
-    taken-by (isAnswer (stepOf r b .answer)) (stepOf r b) refl (feedOf (stepOf r b .next) s)
-    (chunk-taken (stepOf r b .next) s)
+    by-bool (ltb (r .state .count) mostBytes)
+    (λ y. let h = ltb-true (r .state .count) mostBytes y in
+    subst (Singly r (b ∷ s)) (sym (fed-taken r b s h))
+    (by-answer (isAnswer (answerIn (stepOf r b .answer))) refl h (feedOf (stepOf r b .next) s)
+    (quiet-none (stepOf r b .next) s) (chunk-singly (stepOf r b .next) s)))
+    (λ n. subst (Singly r (b ∷ s)) (sym (fed-full r b s (ltb-false (r .state .count) mostBytes n)))
+    (record { outcomes-are = refl; reader-is = refl }))
   where
-    taken-by : (q : Bool) (t : ReaderTurn) → isAnswer (t .answer) ≡ q → (f : ChunkTurn) → Taken s f
-        → Taken (b ∷ s) (pick q (chunkTurn (t .answer) (t .next) 1) (laterBy 1 f))
-    taken-by true t e f k = record {
-      within = omega arith;
-      all = λ z. absurd (true≢false (sym e ∙ ap isAnswer z));
-      some = λ n. omega arith;
-    }
-    taken-by false t e f k = record {
-      within = omega (arith, k .within);
-      all = λ z. omega (arith, k .all z);
-      some = λ n. omega arith;
-    }
+    by-answer : (q : Bool) → isAnswer (answerIn (stepOf r b .answer)) ≡ q → r .state .count < mostBytes
+        → (f : ChunkTurn) → (f .taken ≡ 0 → f .answer ≡ unlocated nothing) → Singly (stepOf r b .next) s f
+        → Singly r (b ∷ s) (pick q (chunkTurn (stepOf r b .answer) (stepOf r b .next) 1) (laterBy 1 f))
+    by-answer true e h f z k = record { outcomes-are = refl; reader-is = refl }
+    by-answer false e h f z k =
+        let one : suc (f .taken) ≡ 1 + f .taken = omega arith in
+        subst (λ (n : ℕ). Singly r (b ∷ s) (chunkTurn (f .answer) (f .next) n)) one (record {
+          outcomes-are = byte-more (f .taken) (f .answer) z
+              ∙ ap₂ (λ (x : Located Outcome) (l : List (Located Outcome)). x ∷ l) (sym (not-told r b h e))
+              (k .outcomes-are);
+          reader-is = k .reader-is;
+        })
 
 -- ---- a chunk, cut to its first 65,536 bytes
 
-module _ (r : LineReader) (s : List ℕ) where
-  -- No more bytes are taken than the chunk has.
-  pub cut-within : chunkOf r s .taken ≤ length s
-  cut-within = omega (arith, chunk-taken r (cutChunk s) .within, take-bounds chunkLimit s .1)
+-- what is known of a call on a chunk, by whether the reader can take its first byte
+module _ (r : LineReader) (given : List ℕ) (P : ChunkTurn → Type 0)
+    (none : length given ≡ 0 → P (noTurn r))
+    (refuses : 0 < length given → mostBytes ≤ r .state .count → P (chunkTurn (located 0 full) r 0))
+    (takes : r .state .count < mostBytes → P (feedOf r (cutChunk given))) where
+  pub by-first : P (chunkOf r given)
+  by-first =
+      by-bool (ltb (r .state .count) mostBytes)
+      (λ y. let h = ltb-true (r .state .count) mostBytes y in subst P (sym (chunk-taken r given h)) (takes h))
+      (λ n. let h = ltb-false (r .state .count) mostBytes n in
+      by-bool (ltb 0 (length given))
+      (λ y. let k = ltb-true 0 (length given) y in subst P (sym (chunk-full r given k h)) (refuses k h))
+      (λ m. let z : length given ≡ 0 = omega (arith, ltb-false 0 (length given) m) in
+      subst P (sym (chunk-none r given z)) (none z)))
 
-  -- The bytes taken are the chunk's first.
-  pub first-of-cut : take (chunkOf r s .taken) (cutChunk s) ≡ take (chunkOf r s .taken) s
-  first-of-cut =
-      take-take (chunkOf r s .taken) chunkLimit s
-      (omega (arith, chunk-taken r (cutChunk s) .within, take-bounds chunkLimit s .0))
+-- the bytes fed singly that a chunk stands for
+stands-taken : (n : ℕ) (a : Located Outcome) → (n ≡ 0 → a ≡ unlocated nothing) → standsFor n a ≡ n
+stands-taken zero a h = ap (standsFor 0) (h refl)
+stands-taken (suc n) a h = refl
 
-  cut-singly : Singly r s (chunkOf r s)
-  cut-singly =
-      subst (λ (l : List ℕ). AsSingly r (feed l) (byByte (chunkOf r s .taken) (chunkOf r s .answer)) (chunkOf r s .next))
-      first-of-cut (chunk-singly r (cutChunk s))
+abbrev Stands : LineReader → List ℕ → ChunkTurn → Type 0
+Stands r given f =
+    TakesFirst r (feed given) (standsFor (f .taken) (f .answer)) (toldBytes (f .taken) (f .answer)) (f .next)
+
+first-refused : (r : LineReader) (given : List ℕ) → 0 < length given → mostBytes ≤ r .state .count
+    → Stands r given (chunkTurn (located 0 full) r 0)
+first-refused r [] h k = absurd (omega arith)
+first-refused r (b ∷ s) h k =
+    let e = step-full r b k in (
+      omega arith,
+      ap (λ (t : ReaderTurn). t .answer ∷ []) (sym e),
+      ap (λ (t : ReaderTurn). t .next) (sym e),
+    )
+
+first-taken : (r : LineReader) (given : List ℕ) → Stands r given (feedOf r (cutChunk given))
+first-taken r given =
+    let f = feedOf r (cutChunk given) in
+    let k = chunk-singly r (cutChunk given) in
+    let n : standsFor (f .taken) (f .answer) ≡ f .taken =
+    stands-taken (f .taken) (f .answer) (quiet-none r (cutChunk given)) in
+    let w : f .taken ≤ length (cutChunk given) = taken-within r (cutChunk given) in
+    let first : feed (take (f .taken) (cutChunk given)) ≡ take (f .taken) (feed given) =
+    ap feed (take-take (f .taken) chunkLimit given (omega (arith, take-bounds chunkLimit given .0)))
+    ∙ sym (take-map byte (f .taken) given) in
+    subst (λ (m : ℕ). TakesFirst r (feed given) m (byByte m (f .answer)) (f .next)) (sym n) (
+      omega (arith, take-bounds chunkLimit given .1, length-map given byte),
+      k .outcomes-are ∙ ap (run outcomeAt nextAfter r) first,
+      k .reader-is ∙ ap (leftAfter nextAfter r) first,
+    )
+  where
+    taken-within : (r : LineReader) (s : List ℕ) → feedOf r s .taken ≤ length s
+    taken-within r s =
+        let m = mostBytes - r .state .count in
+        omega (
+          arith,
+          ap (λ (f : ChunkTurn). f .taken) (feed-held r s),
+          fed-extent (holder (r .bytes) (r .state .held)) (take m s) .within,
+          take-bounds m s .1,
+        )
+
+-- how far a chunk is taken
+abbrev Taken : LineReader → List ℕ → ChunkTurn → Type 0
+Taken r given f = TakenToAnswer r given (f .taken) (f .answer)
+
+none-left : (r : LineReader) (s : List ℕ) → (length s ≡ 0) ⊎ (mostBytes ≤ r .state .count)
+    → length (take (mostBytes - r .state .count) s) ≡ 0
+none-left r s (inl e) = omega (arith, take-bounds (mostBytes - r .state .count) s .1)
+none-left r s (inr h) = omega (arith, take-bounds (mostBytes - r .state .count) s .0)
+
+counted-taken : (r : LineReader) (s : List ℕ) → r .state .count < mostBytes → Taken r s (feedOf r s)
+counted-taken r s h =
+    let part = take (mostBytes - r .state .count) s in
+    let g = feedHeld (holder (r .bytes) (r .state .held)) part in
+    let k = fed-extent (holder (r .bytes) (r .state .held)) part in
+    let t : feedOf r s .taken ≡ g .taken = ap (λ (f : ChunkTurn). f .taken) (feed-held r s) in
+    let p = startIn roleOf (r .state .start) (r .state .count) (take (unanswered g) s) in
+    let a : feedOf r s .answer ≡ locate isAnswer p (g .answer) = ap (λ (f : ChunkTurn). f .answer) (feed-held r s) in
+    record {
+      within = omega (arith, t, k .within);
+      all = λ e. omega (arith, t, k .all (untold (g .answer) p (sym a ∙ e)));
+      some = λ n m. by-bool (isAnswer (g .answer)) (λ y. omega (arith, t, k .some y))
+          (λ q. absurd (n (a ∙ silent (g .answer) p q)));
+      refuses = ((λ e. absurd (fed-not-full r s e)), (λ x. absurd (omega (arith, x .0))));
+    }
+  where
+    untold : (o : Outcome) (p : ℕ) → locate isAnswer p o ≡ unlocated nothing → isAnswer o ≡ false
+    untold nothing p e = refl
+    untold (judged v) p e = let z : _≡_ {A = ℕ} 0 1 = cc in absurd (omega arith)
+
+    silent : (o : Outcome) (p : ℕ) → isAnswer o ≡ false → locate isAnswer p o ≡ unlocated nothing
+    silent nothing p e = refl
+    silent (judged v) p e = absurd (true≢false e)
+
+cut-some : (s : List ℕ) → 0 < length s → 1 ≤ length (cutChunk s)
+cut-some [] h = absurd (omega arith)
+cut-some (b ∷ s) h = omega arith
+
+cut-taken : (r : LineReader) (given : List ℕ) → Taken r (cutChunk given) (chunkOf r given)
+cut-taken r given =
+    by-first r given (Taken r (cutChunk given))
+    (λ e. let z = none-left r (cutChunk given) (inl (omega (arith, take-bounds chunkLimit given .1))) in
+    record {
+      within = omega arith;
+      all = λ q. omega arith;
+      some = λ n. absurd (n refl);
+      refuses = (
+        (λ q. absurd (silent-not-full q)),
+        (λ x. absurd (omega (arith, x .1, take-bounds chunkLimit given .1))),
+      );
+    })
+    (λ h k. let z = none-left r (cutChunk given) (inr k) in
+    record {
+      within = omega arith;
+      all = λ q. omega arith;
+      some = λ n m. absurd (m refl);
+      refuses = ((λ q. (k, cut-some given h)), (λ x. refl));
+    })
+    (λ h. counted-taken r (cutChunk given) h)
 
 -- a call that is answered, takes and leaves what a chunk gives
-module _ (r : LineReader) (given : List ℕ) (taken : ℕ) (o : Outcome) (t : taken ≡ chunkOf r given .taken)
-    (a : o ≡ chunkOf r given .answer) where
-  -- It takes the chunk to its end, 65,536 bytes at the most, or to the byte that is answered.
-  pub takes-to-answer : TakenToAnswer (cutChunk given) taken o
+module _ (r : LineReader) (given : List ℕ) (taken : ℕ) (a : Located Outcome) (t : taken ≡ chunkOf r given .taken)
+    (e : a ≡ chunkOf r given .answer) where
+  -- It takes the chunk to its end, 65,536 bytes at the most and no more than can be counted, or to the byte that is
+  -- answered.
+  pub takes-to-answer : TakenToAnswer r (cutChunk given) taken a
   takes-to-answer =
-      subst (λ (n : ℕ). TakenToAnswer (cutChunk given) n o) (sym t)
-      (subst (TakenToAnswer (cutChunk given) (chunkOf r given .taken)) (sym a) (chunk-taken r (cutChunk given)))
+      subst (λ (n : ℕ). TakenToAnswer r (cutChunk given) n a) (sym t)
+      (subst (TakenToAnswer r (cutChunk given) (chunkOf r given .taken)) (sym e) (cut-taken r given))
 
-  -- The bytes that it takes are answered, and leave the reader, as they do singly.
+  -- The bytes that it stands for are answered, and leave the reader, as they do singly.
   pub takes-first : (next : LineReader) → next ≡ chunkOf r given .next
-      → TakesFirst r (feed given) taken (byByte taken o) next
-  takes-first next e =
-      let f = cut-singly r given in
-      let first : feed (take (chunkOf r given .taken) given) ≡ take taken (feed given) =
-      ap (λ (n : ℕ). feed (take n given)) (sym t) ∙ sym (take-map byte taken given) in (
-        omega (arith, t, cut-within r given, length-map given byte),
-        ap₂ byByte t a ∙ f .outcomes-are ∙ ap (run outcomeAt nextAfter r) first,
-        e ∙ f .reader-is ∙ ap (leftAfter nextAfter r) first,
-      )
+      → TakesFirst r (feed given) (standsFor taken a) (toldBytes taken a) next
+  takes-first next q =
+      let k : Stands r given (chunkOf r given) =
+      by-first r given (Stands r given)
+      (λ z. (omega arith, refl, refl)) (first-refused r given) (λ h. first-taken r given) in
+      subst (λ (n : ℕ). TakesFirst r (feed given) (standsFor n a) (toldBytes n a) next) (sym t)
+      (subst (λ (x : Located Outcome). TakesFirst r (feed given) (standsFor (chunkOf r given .taken) x)
+      (toldBytes (chunkOf r given .taken) x) next) (sym e)
+      (subst (TakesFirst r (feed given) (standsFor (chunkOf r given .taken) (chunkOf r given .answer))
+      (toldBytes (chunkOf r given .taken) (chunkOf r given .answer))) (sym q) k))

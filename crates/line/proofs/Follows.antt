@@ -1,56 +1,50 @@
--- Demand 3: the line reader answers every list of calls as the reference decoder does, and starts again at each start
--- flag.
-use mathlib.Core.Path.{_≡_, refl, sym, ap, ap₂, _∙_}
-use mathlib.Core.List.{List, [], _∷_, _++_}
-use Prim.Native.Nat.{ℕ}
+-- Demand 3 with positions: the line reader answers every list of calls as the located reference decoder does, and starts
+-- again at each start flag.
+use mathlib.Core.Path.{_≡_, refl, ap, _∙_}
+use mathlib.Core.List.{List, [], _∷_}
 use Rattle.lists.specs.Machine.{run}
-use Rattle.framing.specs.Reference.{starts, stops}
-use Rattle.framing.specs.Demand3.{Follows}
-use Rattle.framing.specs.Bounded.{Suits}
-use Rattle.framing.proofs.Bounded.{bounded-follows}
-use Rattle.frame.specs.Flags.{roleOf, kindOf, candidateOf}
-use Rattle.frame.specs.Verdict.{verdict}
-use Rattle.frame.specs.Origin.{admit}
+use Rattle.framing.specs.Reference.{Call}
+use Rattle.framing.specs.Located.{Located}
+use Rattle.framing.specs.LocatedDemand3.{LocatedFollows}
+use Rattle.framing.specs.Counting.{TellsApart, countedTurn}
+use Rattle.framing.proofs.Located.{follows-same}
+use Rattle.framing.proofs.Counting.{counted-follows}
 use Rattle.frame.specs.declared.Origin.{Origin}
-use Rattle.frame.proofs.FlagLaws.{role-start, role-stop, free-flagless}
-use Rattle.frame.proofs.VerdictLaws.{whole-verdict, judge-long}
-use Rattle.frame.proofs.ContentsLaws.{left-length}
-use Rattle.frame.proofs.OriginLaws.{admit-refused}
-use Rattle.line.specs.Outcome.{judged}
-use Rattle.line.specs.Rowing.{rowing, rowingBounds}
-use Rattle.line.specs.Reader.{newReader, originOf, AsNew, modeSeen, seen, turnOf, outcomeAt, nextAfter}
-use Rattle.line.specs.Reader.{readerOutcomes}
+use Rattle.candidate.specs.Outcome.{Outcome}
+use Rattle.candidate.specs.Rowing.{rowing}
+use Rattle.candidate.specs.Holder.{holder, turnHeld}
+use Rattle.candidate.specs.Feed.{isAnswer}
+use Rattle.candidate.proofs.Follows.{StandsFor, held-follows, outside-stands}
+use Rattle.line.specs.Rowing.{locatedRowing}
+use Rattle.line.specs.Reader.{newReader, AsNew, counterOf, outcomeAt, nextAfter, readerOutcomes}
 use Rattle.line.specs.declared.LineReader.{LineReader}
-use Rattle.line.proofs.ReaderLaws.{call-seen}
 
--- a candidate is known by the kind that its start flag opens and the bytes between its flags
-by-kind : (flag : ℕ) (body : List ℕ) (b : ℕ) → roleOf flag ≡ starts → roleOf b ≡ stops
-    → flag ∷ (body ++ b ∷ []) ≡ candidateOf (kindOf flag) body
-by-kind flag body b s e =
-    ap₂ (λ (x y : ℕ). x ∷ (body ++ y ∷ [])) (sym (role-start flag s)) (role-stop b e)
+-- nothing is told from a verdict
+rowing-apart : (o : Origin) → TellsApart (rowing o) isAnswer
+rowing-apart o = record { nothing = refl; truncated = refl; judged = λ s. refl }
 
--- A candidate is judged by its kind and the bytes between its flags, and one with more than 118 of them is refused with
--- 2 whatever they are.
-pub rowing-suits : (o : Origin) → Suits (rowing o) (rowingBounds o)
-rowing-suits o = record {
-  held = λ flag body b s e. ap (λ (w : List ℕ). judged (admit o (verdict w))) (by-kind flag body b s e);
-  too-long = λ flag body b s f e l. ap judged
-      (admit-refused o (verdict (flag ∷ (body ++ b ∷ []))) 2
-      (ap verdict (by-kind flag body b s e) ∙ whole-verdict (kindOf flag) body (free-flagless body f)
-      ∙ judge-long (kindOf flag) body l));
-  kept = λ kind len bytes e. left-length o kind len bytes ∙ e;
-}
+-- the struct is a count beside what holds the candidate, at any origin
+counted-run : (o : Origin) (r : LineReader) (calls : List Call)
+    → run outcomeAt nextAfter r calls
+    ≡ run (λ s c. countedTurn (locatedRowing o) isAnswer turnHeld s c .answer)
+    (λ s c. countedTurn (locatedRowing o) isAnswer turnHeld s c .next) (counterOf r) calls
+counted-run o r [] = refl
+counted-run o r (c ∷ calls) =
+    ap (λ (l : List (Located Outcome)). outcomeAt r c ∷ l) (counted-run o (nextAfter r c) calls)
 
 -- Demand 3 of any reader of an origin that is as new.
-pub as-new-follows : (o : Origin) (r : LineReader) → AsNew o r → Follows (rowing o) (run outcomeAt nextAfter r)
+pub as-new-follows : (o : Origin) (r : LineReader) → AsNew o r
+    → LocatedFollows (locatedRowing o) (run outcomeAt nextAfter r)
 as-new-follows o r n =
-    bounded-follows (rowing o) (rowingBounds o) (rowing-suits o) (λ (r : LineReader). originOf r ≡ o) turnOf seen
-    (call-seen o) r (n .origin-is) (n .array) (ap modeSeen (n .outside-is))
+    follows-same (locatedRowing o) (run outcomeAt nextAfter r) (λ calls. counted-run o r calls
+    ∙ counted-follows (locatedRowing o) isAnswer (rowing-apart o) turnHeld (StandsFor o) (held-follows o) (counterOf r)
+    (outside-stands o (holder (r .bytes) (r .state .held)) (n .origin-is) (n .array) (n .outside-is)) (n .count-is) .same
+    calls)
 
 pub new-as-new : (o : Origin) → AsNew o (newReader o)
-new-as-new o = record { array = refl; outside-is = refl; origin-is = refl }
+new-as-new o = record { array = refl; outside-is = refl; origin-is = refl; count-is = refl }
 
--- Demand 3, whole: every list of calls on a new reader is answered as the reference decoder answers it, and D, W and L
--- as the minutes say.
-pub reader-follows : (o : Origin) → Follows (rowing o) (readerOutcomes o)
+-- Demand 3, whole: every list of calls on a new reader is answered as the located reference decoder answers it, and D, W
+-- and L as the minutes and No. 7 say.
+pub reader-follows : (o : Origin) → LocatedFollows (locatedRowing o) (readerOutcomes o)
 reader-follows o = as-new-follows o (newReader o) (new-as-new o)

@@ -1,62 +1,61 @@
--- The whole answer to a call: the enum and the array that is left tell the outcome, and the array beside an answer by
--- value is the outcome's contents and then zeros.
+-- The whole answer to a call: the enum, the position and the array that is left tell the outcome, and the array beside an
+-- answer by value is the outcome's contents and then zeros.
 use mathlib.Core.Path.{_≡_, refl, sym, ap, _∙_}
+use mathlib.Core.Bool.{Bool, true, false}
 use mathlib.Core.List.{List, [], _∷_, _++_, append-assoc, append-nil}
 use native.Mathlib.Numerals.{add-one}
 use native.Mathlib.Omega.{arith}
 use Prim.Native.Nat.{ℕ, suc, _+_, _-_, _≤_, _<_}
-use lib.Dec.{leb}
+use lib.Dec.{leb, ltb}
 use lib.ListN.{length, take, set, replicate}
 use lib.Seq.{take-at, take-all, take-suc-set, length-take-le}
 use borrow.Author.Tests.{leb-true, leb-false}
+use Rattle.lists.specs.Choice.{pick}
+use Rattle.lists.specs.Machine.{turn}
 use Rattle.lists.proofs.Cases.{by-bool}
 use Rattle.answer.specs.Answer.{result, refused}
-use Rattle.framing.specs.Reference.{Call, byte, finish, Role, starts, stops, plain}
-use Rattle.framing.specs.Bounded.{BoundedMode, outside, inside, overlong, truncatedIn, terminatedIn, leftByStop}
-use Rattle.frame.specs.Flags.{roleOf, candidateOf}
+use Rattle.framing.specs.Reference.{Call, byte, finish}
+use Rattle.framing.specs.Located.{Located, unlocated, located, answerIn, positionIn, locatedBy}
+use Rattle.framing.specs.Counting.{locate, takenTurn}
 use Rattle.frame.specs.Frame.{standard, extended, contentsOf}
-use Rattle.frame.specs.Verdict.{verdict}
-use Rattle.frame.specs.Origin.{admit}
 use Rattle.frame.specs.Answers.{judgeAnswer, frameRead}
-use Rattle.frame.specs.declared.Origin.{Origin}
-use Rattle.frame.specs.declared.Kind.{Kind}
-use Rattle.frame.proofs.ContentsLaws.{left-whole}
-use Rattle.line.specs.Outcome.{Outcome, nothing, judged, summaryOf, outcomeOf, capacity, padded, contentsTold}
-use Rattle.line.specs.Outcome.{valueAnswerOf}
-use Rattle.line.specs.Rowing.{rowing, rowingBounds}
-use Rattle.line.specs.Reader.{originOf, modeSeen, roleStep, turnOf}
+use Rattle.candidate.specs.Outcome.{Outcome, nothing, judged, summaryOf, outcomeOf, capacity}
+use Rattle.candidate.specs.Holder.{holder, turnHeld}
+use Rattle.candidate.specs.Feed.{isAnswer}
+use Rattle.candidate.proofs.ValueLaws.{call-whole as held-whole}
+use Rattle.line.specs.Rowing.{mostBytes, full, locatedRowing}
+use Rattle.line.specs.Answers.{locatedAs, locatedOutcome, padded, contentsTold, valueAnswerOf, valueOutcome}
+use Rattle.line.specs.Reader.{originOf, counterOf, turnFrom, turnOf}
 use Rattle.line.specs.Private.{Whole, besideTold}
 use Rattle.line.specs.declared.LineReader.{LineReader}
 
--- ---- the enum and the array that is left
+-- ---- the enum, the position and the array that is left
 
-module _ (o : Origin) where
-  truncated-whole : (m : BoundedMode Kind) (bytes : List ℕ)
-      → outcomeOf (summaryOf (truncatedIn (rowing o) (rowingBounds o) m)) bytes
-      ≡ truncatedIn (rowing o) (rowingBounds o) m
-  unfolding judgeAnswer frameRead
-  truncated-whole outside bytes = refl
-  truncated-whole (inside kind) bytes = refl
-  truncated-whole overlong bytes = refl
+-- an outcome at a position, where the array tells its contents
+pub located-whole : (o : Outcome) (position : ℕ) (bytes : List ℕ) → outcomeOf (summaryOf o) bytes ≡ o
+    → locatedOutcome (summaryOf (answerIn (locate isAnswer position o))) (positionIn (locate isAnswer position o)) bytes
+    ≡ locate isAnswer position o
+located-whole nothing position bytes e = refl
+located-whole (judged v) position bytes e = ap (located position) e
 
-  terminated-whole : (m : BoundedMode Kind) (bytes : List ℕ) (len : ℕ)
-      → outcomeOf (summaryOf (terminatedIn (rowing o) (rowingBounds o) m bytes len))
-      (leftByStop (rowing o) (rowingBounds o) m bytes len)
-      ≡ terminatedIn (rowing o) (rowingBounds o) m bytes len
-  unfolding judgeAnswer frameRead
-  terminated-whole outside bytes len = refl
-  terminated-whole (inside kind) bytes len =
-      ap judged (left-whole (admit o (verdict (candidateOf kind (take len bytes)))) bytes)
-  terminated-whole overlong bytes len = refl
-
-pub byte-whole : (r : LineReader) (b : ℕ) (ρ : Role) → Whole (roleStep ρ r b)
-byte-whole r b starts = truncated-whole (originOf r) (modeSeen (r .state .mode)) (r .bytes)
-byte-whole r b stops = terminated-whole (originOf r) (modeSeen (r .state .mode)) (r .bytes) (r .state .len)
-byte-whole r b plain = refl
+pub full-whole : (bytes : List ℕ) → locatedOutcome (summaryOf full) 0 bytes ≡ located 0 full
+unfolding judgeAnswer frameRead
+full-whole bytes = refl
 
 pub call-whole : (r : LineReader) (c : Call) → Whole (turnOf r c)
-call-whole r (byte b) = byte-whole r b (roleOf b)
-call-whole r finish = truncated-whole (originOf r) (modeSeen (r .state .mode)) (r .bytes)
+call-whole r (byte b) = by-room (ltb (r .state .count) mostBytes)
+  where
+    by-room : (room : Bool)
+        → Whole (turnFrom (pick room (takenTurn (locatedRowing (originOf r)) isAnswer turnHeld (counterOf r) b)
+        (turn (located 0 full) (counterOf r))))
+    by-room true =
+        let h = holder (r .bytes) (r .state .held) in
+        located-whole (turnHeld h (byte b) .answer) (r .state .start) (turnHeld h (byte b) .next .bytes)
+        (held-whole h (byte b))
+    by-room false = full-whole (r .bytes)
+call-whole r finish =
+    let h = holder (r .bytes) (r .state .held) in
+    located-whole (turnHeld h finish .answer) (r .state .start) (turnHeld h finish .next .bytes) (held-whole h finish)
 
 -- ---- the array beside an answer
 
@@ -66,7 +65,13 @@ room-left len s h =
     by-bool (leb len capacity)
     (λ y. let l : len ≤ capacity = leb-true len capacity y in
     omega (arith, length-take-le len s (omega (arith, h))))
-    (λ n. omega (arith, leb-false len capacity n, h, ap length (take-all len s (omega (arith, leb-false len capacity n)))))
+    (λ n. omega (
+      arith,
+      leb-false len capacity n,
+      h,
+      ap length
+          (take-all len s (omega (arith, leb-false len capacity n))),
+    ))
 
 pub padded-none : (len : ℕ) (s : List ℕ) → length s ≡ capacity
     → take len s ++ replicate (capacity - len) 0 ≡ padded (take len s)
@@ -113,3 +118,22 @@ answer-whole (judged (result (standard c))) =
 answer-whole (judged (result (extended to from c))) =
     ap (λ (l : List ℕ). judged (result (extended to from l)))
     (take-at c (replicate (capacity - length c) 0) (length c) refl)
+
+-- The same with its position.
+pub value-outcome : (a : Located Outcome) → valueOutcome (locatedBy valueAnswerOf a) ≡ a
+value-outcome (unlocated o) = ap unlocated (answer-whole o)
+value-outcome (located position o) = ap (located position) (answer-whole o)
+
+-- What an answer by value means, with its position, where the array that is left tells the outcome.
+pub value-means : (a : Located Outcome) (bytes : List ℕ)
+    → locatedOutcome (summaryOf (answerIn a)) (positionIn a) bytes ≡ a
+    → locatedAs (summaryOf (answerIn a)) (positionIn a)
+    (record { told = summaryOf (answerIn a); contents = besideTold (summaryOf (answerIn a)) bytes })
+    ≡ locatedBy valueAnswerOf a
+value-means (unlocated nothing) bytes e = refl
+value-means (unlocated (judged v)) bytes e = let z : _≡_ {A = ℕ} 0 1 = cc in absurd (omega arith)
+value-means (located position nothing) bytes e = let z : _≡_ {A = ℕ} 0 1 = cc in absurd (omega arith)
+value-means (located position (judged v)) bytes e =
+    let q : outcomeOf (summaryOf (judged v)) bytes ≡ judged v = cc in
+    ap (λ (c : List ℕ). located position (record { told = summaryOf (judged v); contents = c }))
+    (beside-is (judged v) bytes q)

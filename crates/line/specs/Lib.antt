@@ -1,5 +1,5 @@
-pub mod Outcome
 pub mod Rowing
+pub mod Answers
 pub mod Reader
 pub mod Feed
 pub mod Chunks

@@ -1,40 +1,24 @@
--- Contracts of private functions, which no caller reads: an open candidate with one byte more, the array beside an
--- answer, runs of bytes that are no flags, and candidates that stand whole in a chunk.
+-- Contracts of private functions, which no caller reads: the array beside an answer, and positions from places in a
+-- chunk.
 use mathlib.Core.Path.{_≡_}
-use mathlib.Core.Bool.{Bool, true, false}
 use mathlib.Core.List.{List, []}
-use lib.Dec.{leb, ltb}
-use lib.ListN.{length, take, drop, set}
+use Prim.Native.Nat.{ℕ, _+_, _-_}
+use lib.Dec.{eqb}
+use lib.ListN.{take}
 use Rattle.lists.specs.Choice.{pick}
-use Rattle.lists.specs.Splice.{splice}
-use Rattle.lists.specs.Machine.{leftAfter}
-use Rattle.framing.specs.Reference.{plain}
-use Rattle.answer.specs.Answer.{Answer, result, refused}
-use Rattle.frame.specs.Leading.{leadingCount}
-use Rattle.frame.specs.Verdict.{verdict, bodyOf}
-use Rattle.frame.specs.Origin.{admit}
-use Rattle.frame.specs.declared.Origin.{Origin}
-use Rattle.frame.specs.Answers.{FrameOutline, standardOutline, extendedOutline, judgeAnswer, leftIn}
-use Rattle.line.specs.Outcome.{capacity, Summary, silent, tells, toldMeans, summaryOf, outcomeOf, padded}
-use Prim.Native.Nat.{ℕ, _+_, _≤_, _<_}
-use Rattle.line.specs.Feed.{laterBy, feedOf}
-use Rattle.line.specs.Reader.{ReaderTurn, originOf, reader, roleStep}
-use Rattle.line.specs.declared.LineReader.{LineReader}
-use Rattle.line.specs.declared.Told.{Told}
-use Rattle.line.specs.declared.whole.Judged.{Judged}
-use Rattle.line.specs.declared.Mode.{Mode}
-use Rattle.line.specs.declared.Mode.the-variants.{Outside, InStandard, InExtended, Overlong}
+use Rattle.answer.specs.Answer.{result, refused}
+use Rattle.framing.specs.Located.{answerIn, positionIn}
+use Rattle.frame.specs.Answers.{standardOutline, extendedOutline}
+use Rattle.candidate.specs.Outcome.{Summary, silent, tells, toldMeans, summaryOf}
+use Rattle.candidate.specs.declared.HeldChunk.{HeldChunk}
+use Rattle.line.specs.Answers.{locatedOutcome, padded}
+use Rattle.line.specs.Reader.{ReaderTurn}
+use Rattle.line.specs.declared.ChunkStep.{ChunkStep}
 
--- A candidate of which bytes are held has one byte more, or is over-long where there is no room for it.
-abbrev pub withByte : LineReader → ℕ → LineReader
-withByte r b =
-    pick (ltb (r .state .len) capacity)
-    (reader (originOf r) (set (r .bytes) (r .state .len) b) (r .state .len + 1) (r .state .mode))
-    (reader (originOf r) (r .bytes) 0 Overlong)
-
--- The enum and the array that a call leaves tell the whole outcome: a frame's contents are the first bytes.
+-- The enum, the position and the array that a call leaves tell the whole outcome.
 abbrev pub Whole : ReaderTurn → Type 0
-Whole t = outcomeOf (summaryOf (t .answer)) (t .next .bytes) ≡ t .answer
+Whole t =
+    locatedOutcome (summaryOf (answerIn (t .answer))) (positionIn (t .answer)) (t .next .bytes) ≡ t .answer
 
 -- The first bytes of an array, as many as the contents of a frame that is told, and zeros after them.
 abbrev pub besideTold : Summary → List ℕ → List ℕ
@@ -43,57 +27,20 @@ besideTold (tells (result (standardOutline len))) bytes = padded (take len bytes
 besideTold (tells (result (extendedOutline to from len))) bytes = padded (take len bytes)
 besideTold (tells (refused n)) bytes = padded []
 
--- Whether a reader holds the bytes of a run. It does in a candidate that may still be a frame.
-abbrev pub isHeld : Mode → Bool
-isHeld Outside = false
-isHeld InStandard = true
-isHeld InExtended = true
-isHeld Overlong = false
+-- The position of what is told, 0 where nothing is.
+abbrev pub toldAt : Summary → ℕ → ℕ
+toldAt silent position = 0
+toldAt (tells a) position = position
 
--- A reader after the bytes of a run, fed singly.
-abbrev pub afterRun : LineReader → List ℕ → LineReader
-afterRun r run = leftAfter (λ r b. roleStep plain r b .next) r run
+-- The position of the start flag that ends the first `place` bytes of a chunk before which `count` bytes were taken. 0
+-- stands for no start flag in the chunk, and the one from before it stays.
+abbrev pub placeAt : (start count place : ℕ) → ℕ
+placeAt start count place = pick (eqb place 0) start (count + (place - 1))
 
--- The bytes of s from an index on give one reader what those from a later index on give the other, both counted from
--- the beginning of s.
-pub record Reaches (s : List ℕ) (from : ℕ) (r : LineReader) (at : ℕ) (next : LineReader) : Type 0 where
-  pub onward : from ≤ at
-  pub same : laterBy from (feedOf r (drop from s)) ≡ laterBy at (feedOf next (drop at s))
-
--- ---- candidates that stand whole in a chunk
-
--- How many bytes the candidate has that bytes begin with, where it has at most 120 bytes with its flags. 0 where it has
--- more, or where there is none.
-abbrev pub wholeCount : List ℕ → ℕ
-wholeCount s = pick (leb (leadingCount s) 120) (leadingCount s) 0
-
--- The same where a candidate may be open before the bytes. Then none begins with them.
-abbrev pub leadingIn : Mode → List ℕ → ℕ
-leadingIn Outside s = wholeCount s
-leadingIn InStandard s = 0
-leadingIn InExtended s = 0
-leadingIn Overlong s = 0
-
--- How many contents bytes an answer tells of.
-abbrev pub contentsCount : Answer FrameOutline → ℕ
-contentsCount (result (standardOutline len)) = len
-contentsCount (result (extendedOutline to from len)) = len
-contentsCount (refused n) = 0
-
--- What a whole candidate of an origin leaves in an array: what its bytes leave there that were held, and judged in
--- place.
-abbrev pub leftByWhole : Origin → (bytes wire : List ℕ) → List ℕ
-leftByWhole o bytes wire = leftIn (admit o (verdict wire)) (splice bytes 0 (bodyOf wire))
-
--- A candidate that was judged as it stands.
-pub record JudgedWhole (o : Origin) (bytes wire left : List ℕ) (told : Told) : Type 0 where
-  pub array : length bytes ≡ capacity
-  pub told-is : toldMeans told ≡ tells (judgeAnswer (admit o (verdict wire)))
-  pub left-is : left ≡ leftByWhole o bytes wire
-
--- What was made of the candidate that an input begins with, by how many bytes it has, and what it leaves in an array.
--- Where there is none the array stays as it was.
-pub record Judges (o : Origin) (bytes input left : List ℕ) (count : ℕ) (r : Judged) : Type 0 where
-  pub counted : r .taken ≡ count
-  pub unmoved : r .taken ≡ 0 → left ≡ bytes
-  pub whole : 0 < r .taken → JudgedWhole o bytes (take (r .taken) input) left (r .told)
+-- What bytes that were taken make of a start and a count.
+pub record Advances (start count : ℕ) (fed : HeldChunk) (r : ChunkStep) : Type 0 where
+  pub told-is : r .told ≡ fed .told
+  pub position-is : r .position ≡ toldAt (toldMeans (fed .told)) (placeAt start count (fed .from))
+  pub state-is : r .state
+      ≡ record { held = fed .held; start = placeAt start count (fed .opened); count = count + fed .taken }
+  pub taken-is : r .taken ≡ fed .taken

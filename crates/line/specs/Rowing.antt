@@ -1,29 +1,26 @@
--- The rowing protocol at an origin, at which the reference decoder and the bounded reader are taken.
+-- The rowing protocol at an origin with positions (document 02, No. 7), at which the located reference decoder is taken.
 use mathlib.Core.Path.{_≡_}
 use mathlib.Core.List.{List}
 use Prim.Native.Nat.{ℕ}
 use Rattle.lists.specs.Choice.{Exactly}
 use Rattle.answer.specs.Answer.{result, refused}
-use Rattle.framing.specs.Reference.{Protocol}
-use Rattle.framing.specs.Bounded.{Bounds}
-use Rattle.frame.specs.Flags.{roleOf, kindOf, candidateOf}
-use Rattle.frame.specs.Verdict.{verdict}
+use Rattle.framing.specs.Located.{Located, answerIn, positionIn, LocatedProtocol}
 use Rattle.frame.specs.Origin.{admit}
-use Rattle.frame.specs.Answers.{leftIn}
 use Rattle.frame.specs.Frame.{standard}
 use Rattle.frame.specs.declared.Origin.{Origin}
-use Rattle.frame.specs.declared.Kind.{Kind}
-use Rattle.line.specs.Outcome.{Outcome, nothing, judged, NotStandard, capacity}
+use Rattle.candidate.specs.Outcome.{Outcome, nothing, judged, NotStandard}
+use Rattle.candidate.specs.Rowing.{rowing}
 
--- A terminated candidate is judged as the slice that it is, in frame reading's order without 1.
-abbrev pub rowing : Origin → Protocol Outcome
-rowing o =
-    record {
-      role = roleOf;
-      nothing = nothing;
-      truncated = judged (refused 6);
-      judge = λ s. judged (admit o (verdict s));
-    }
+-- How many bytes a line reader takes from new or from a finish on.
+abbrev pub mostBytes : ℕ
+mostBytes = 4294967295
+
+-- What each byte after them is answered with.
+abbrev pub full : Outcome
+full = judged (refused 16)
+
+abbrev pub locatedRowing : Origin → LocatedProtocol Outcome
+locatedRowing o = record { protocol = rowing o; limit = mostBytes; full = full }
 
 -- An outcome of a trace as it is at an origin: live, 17 in place of a standard frame.
 abbrev pub outcomeFrom : Origin → Outcome → Outcome
@@ -37,19 +34,6 @@ pub record UnnamedLive (live traced : Outcome) : Type 0 where
       ((contents : List ℕ) × (traced ≡ judged (result (standard contents))))
   pub same : NotStandard traced → live ≡ traced
 
--- The array after an answer: an accepted frame's contents stand first.
-abbrev pub leftBy : Outcome → List ℕ → List ℕ
-leftBy nothing bytes = bytes
-leftBy (judged v) bytes = leftIn v bytes
-
--- A candidate of 118 bytes between its flags is held, and judged in place as the slice that it is; one with more is
--- refused with 2 when it is terminated.
-abbrev pub rowingBounds : Origin → Bounds Kind Outcome
-rowingBounds o =
-    record {
-      capacity = capacity;
-      kind = kindOf;
-      judge = λ kind body. judged (admit o (verdict (candidateOf kind body)));
-      left = leftBy;
-      long = judged (refused 2);
-    }
+-- The same with their positions, which are alike.
+abbrev pub UnnamedAt : (live traced : Located Outcome) → Type 0
+UnnamedAt live traced = UnnamedLive (answerIn live) (answerIn traced) × (positionIn live ≡ positionIn traced)

@@ -1,60 +1,41 @@
 // The line reader: fed one byte at a time, or a chunk up to the first byte that is answered, it tells of each frame and
-// each refusal at the call where it ends. Document 01, "The line"; document 02, No. 4 and No. 9.
-mod chunk;
-mod runs;
-mod whole;
-
+// each refusal at the call where it ends, with the position of its start flag. Document 01, "The line"; document 02,
+// No. 4, No. 7 and No. 9.
 use answer::Refusal;
-use frame::Kind;
+use candidate::Held;
+use candidate::HeldChunk;
+use candidate::Mode;
+use candidate::Told;
+use candidate::chunk;
 use frame::Origin;
-use frame::Read;
 use frame::flags;
 ghost use mathlib.Core.Path.{_≡_};
 ghost use mathlib.Core.List.{List};
-ghost use Prim.Native.Nat.{ℕ};
+ghost use Prim.Native.Nat.{ℕ, _+_, _≤_, _<_};
 ghost use lib.ListN.{take};
 ghost use Rattle.lists.specs.Machine.{turn};
-ghost use Rattle.framing.specs.Reference.{stops, plain};
-ghost use Rattle.framing.specs.Bounded.{truncatedIn, terminatedIn, leftByStop};
-ghost use Rattle.frame.specs.Answers.{readMeans};
-ghost use Rattle.line.specs.Outcome.{toldMeans, tells, summaryOf, nothing, padded};
-ghost use Rattle.line.specs.Rowing.{rowing, rowingBounds};
-ghost use Rattle.line.specs.Reader.{lentReader, reader, newReader, modeSeen, roleStep, stepOf, finishOf};
-ghost use Rattle.line.specs.Reader.{LentStepIs, StepIs, ReaderTurn};
+ghost use Rattle.framing.specs.Located.{located};
+ghost use Rattle.framing.specs.Counting.{startAfter};
+ghost use Rattle.frame.specs.Flags.{roleOf};
+ghost use Rattle.candidate.specs.Outcome.{toldMeans};
+ghost use Rattle.line.specs.Rowing.{mostBytes, full as refusesFull};
+ghost use Rattle.line.specs.Answers.{padded};
+ghost use Rattle.line.specs.Reader.{lentReader, newReader, stepOf, finishOf, LentStepIs, StepIs, ReaderTurn};
 ghost use Rattle.line.specs.Feed.{chunkOf, ChunkStepIs, ChunkAnswerIs};
-ghost use Rattle.line.specs.Private.{withByte, Whole, besideTold};
-
-// The most bytes that may stand between the flags of a frame.
-const ROOM: usize = 118;
-
-// How many bytes are held right after a flag.
-const FRESH: usize = 0;
+ghost use Rattle.line.specs.Private.{Whole, besideTold, toldAt, placeAt, Advances};
 
 // The most bytes of a chunk that a call takes.
 pub const CHUNK_LIMIT: usize = 65536;
 
-// What a call tells. A frame's contents are the first bytes of an array beside it.
-pub enum Told {
-    Nothing,
-    Refused(Refusal),
-    Standard { len: usize },
-    Extended { to: u8, from: u8, len: usize },
-}
+// How many bytes a reader takes from new or from a finish on.
+pub const LIMIT: u32 = 4294967295;
 
-// Outside of any candidate; in a standard or an extended one; in one that is too long to be a frame, which is not held.
-pub enum Mode {
-    Outside,
-    InStandard,
-    InExtended,
-    Overlong,
-}
-
-// A line reader without its array: how many bytes of it are held, the mode, and where its bytes come from, which no call
-// changes. A length of 118 or more counts as a full array, so every value is a state.
+// A line reader without its array: what is held of the open candidate, the position of the last start flag, and how many
+// bytes were taken since the reader was new or finished. Every value is a state.
 pub struct State {
-    pub len: usize,
-    pub mode: Mode,
-    pub origin: Origin,
+    pub held: Held,
+    pub start: u32,
+    pub count: u32,
 }
 
 // Every value of the struct is a reader.
@@ -63,9 +44,11 @@ pub struct LineReader {
     pub state: State,
 }
 
-// The answer to a call. The array holds a frame's contents, and zeros after them; where no frame is told, zeros alone.
+// The answer to a call, and the position of its candidate's start flag; 0 where nothing is told. The array holds a
+// frame's contents, and zeros after them; where no frame is told, zeros alone.
 pub struct StepAnswer {
     pub told: Told,
+    pub position: u32,
     pub contents: [u8; 118],
 }
 
@@ -75,24 +58,27 @@ pub struct Stepped {
     pub next: LineReader,
 }
 
-// The answer to a call over a lent array, and the state afterwards. The array holds the reader's bytes and, where a
-// frame is told, its contents first.
+// The answer to a call over a lent array, its position, and the state afterwards. The array holds the reader's bytes and,
+// where a frame is told, its contents first.
 pub struct LentStep {
     pub told: Told,
+    pub position: u32,
     pub state: State,
 }
 
-// The answer to a chunk over a lent array, the state afterwards, and how many bytes of the chunk were taken.
+// The answer to a chunk over a lent array, its position, the state afterwards, and how many bytes of the chunk were taken.
 pub struct ChunkStep {
     pub told: Told,
+    pub position: u32,
     pub state: State,
     pub taken: usize,
 }
 
-// The answer to a chunk, and how many of its bytes were taken. A frame's contents are the first bytes of the array in
-// the reader afterwards.
+// The answer to a chunk, its position, and how many of its bytes were taken. A frame's contents are the first bytes of
+// the array in the reader afterwards.
 pub struct ChunkAnswer {
     pub told: Told,
+    pub position: u32,
     pub taken: usize,
 }
 
@@ -108,11 +94,11 @@ impl LineReader {
     {
         LineReader {
             bytes: [0u8; 118],
-            state: State {
-                len: FRESH,
+            state: uncounted(Held {
+                len: 0,
                 mode: Mode::Outside,
                 origin,
-            },
+            }),
         }
     }
 
@@ -126,8 +112,8 @@ impl LineReader {
         by_value(step, bytes)
     }
 
-    // Feeds a chunk up to the first byte that is answered; with no answer it takes all of it. A chunk of more than 65,536
-    // bytes is cut to its first 65,536.
+    // Feeds a chunk up to the first byte that is answered; with no answer it takes all of it, or as much as it can still
+    // count. A chunk of more than 65,536 bytes is cut to its first 65,536. Refusal 16 where the first byte can't be taken.
     pub fn feed(self, chunk: &[u8]) -> ChunkFed
         ensures { λ r. ⌜ ChunkAnswerIs (r .next) (r .answer) (chunkOf self (now (chunk .entry))) ⌝ }
     {
@@ -135,10 +121,15 @@ impl LineReader {
         let before = self.state;
         let step = feed_in(&mut bytes, before, chunk);
         let told = step.told;
+        let position = step.position;
         let taken = step.taken;
         let state = step.state;
         ChunkFed {
-            answer: ChunkAnswer { told, taken },
+            answer: ChunkAnswer {
+                told,
+                position,
+                taken,
+            },
             next: LineReader { bytes, state },
         }
     }
@@ -154,31 +145,45 @@ impl LineReader {
     }
 }
 
-// Feeds a byte to a reader whose array is lent and whose state goes in and comes back: the path of every flag.
+// Feeds a byte to a reader whose array is lent and whose state goes in and comes back. Refusal 16 where it can't be taken.
 pub fn step_in(bytes: &mut [u8; 118], state: State, b: u8) -> LentStep
     ensures { λ r. ⌜ LentStepIs (now (bytes .exit)) r (stepOf (lentReader (now (bytes .entry)) state) b) ⌝ }
 {
-    let mode = state.mode;
-    let origin = state.origin;
-    if b == flags::EXTENDED_START {
-        return restart(origin, mode, Mode::InExtended);
+    let held = state.held;
+    let start = state.start;
+    let count = state.count;
+    if count == LIMIT {
+        return full(state);
     }
-    if b == flags::STANDARD_START {
-        return restart(origin, mode, Mode::InStandard);
+    let step = candidate::step_in(bytes, held, b);
+    let told = step.told;
+    let next = step.held;
+    let position = told_at(told, start);
+    LentStep {
+        told,
+        position,
+        state: State {
+            held: next,
+            start: start_after(b, start, count),
+            count: count + 1,
+        },
     }
-    if b == flags::STOP {
-        return stop(bytes, state);
-    }
-    grow(bytes, state, b)
 }
 
 // Ends the input of a reader whose array is lent and whose state goes in and comes back. The array stays as it is.
 pub fn finish_in(state: State) -> LentStep
     ensures { λ r. ⌜ ((bytes : List ℕ) → LentStepIs bytes r (finishOf (lentReader bytes state))) ⌝ }
 {
-    let mode = state.mode;
-    let origin = state.origin;
-    restart(origin, mode, Mode::Outside)
+    let held = state.held;
+    let start = state.start;
+    let step = candidate::finish_in(held);
+    let told = step.told;
+    let next = step.held;
+    LentStep {
+        told,
+        position: told_at(told, start),
+        state: uncounted(next),
+    }
 }
 
 // Feeds a chunk to a reader whose array is lent and whose state goes in and comes back, as `LineReader::feed` does, and
@@ -187,8 +192,17 @@ pub fn feed_in(bytes: &mut [u8; 118], state: State, chunk: &[u8]) -> ChunkStep
     ensures { λ r. ⌜ ChunkStepIs (now (bytes .exit)) r
         (chunkOf (lentReader (now (bytes .entry)) state) (now (chunk .entry))) ⌝ }
 {
+    let held = state.held;
+    let start = state.start;
+    let count = state.count;
+    let room = LIMIT - count;
+    if room == 0 {
+        return refuse(state, chunk);
+    }
     let most = lists::lesser(CHUNK_LIMIT, chunk.len());
-    chunk::feed_all(bytes, state, &chunk[..most])
+    let part = lists::lesser(room as usize, most);
+    let fed = chunk::feed_all(bytes, held, &chunk[..part]);
+    advanced(start, count, fed)
 }
 
 // Feeds a chunk to a reader that is lent, as `LineReader::feed` does, and leaves the next reader in its place. The
@@ -201,112 +215,113 @@ pub fn feed_lent(reader: &mut LineReader, chunk: &[u8]) -> ChunkAnswer
     fed.answer
 }
 
-// A start flag, or the end of input: whatever is open is truncated.
-fn restart(origin: Origin, mode: Mode, opens: Mode) -> LentStep
-    ensures { λ r. ⌜ ((bytes : List ℕ) → LentStepIs bytes r
-        (turn (truncatedIn (rowing origin) (rowingBounds origin) (modeSeen mode)) (reader origin bytes 0 opens))) ⌝ }
+// No byte was taken yet.
+fn uncounted(held: Held) -> State
+    ensures { λ r. ⌜ r ≡ record { held = held; start = 0; count = 0 } ⌝ }
 {
-    LentStep {
-        told: truncated(mode),
-        state: State {
-            len: FRESH,
-            mode: opens,
-            origin,
-        },
+    State {
+        held,
+        start: 0,
+        count: 0,
     }
 }
 
-// Truncation is told alike at every origin.
-fn truncated(mode: Mode) -> Told
-    ensures { λ r. ⌜ ((o : Origin)
-        → toldMeans r ≡ summaryOf (truncatedIn (rowing o) (rowingBounds o) (modeSeen mode))) ⌝ }
+// A byte fed to a reader that is full is refused, and the reader stays as it is.
+fn full(state: State) -> LentStep
+    ensures { λ r. ⌜ ((bytes : List ℕ) → LentStepIs bytes r (turn (located 0 refusesFull) (lentReader bytes state))) ⌝ }
 {
-    match mode {
-        Mode::Outside => Told::Nothing,
-        Mode::InStandard => Told::Refused(Refusal::Truncated),
-        Mode::InExtended => Told::Refused(Refusal::Truncated),
-        Mode::Overlong => Told::Refused(Refusal::Truncated),
+    LentStep {
+        told: Told::Refused(Refusal::Full),
+        position: 0,
+        state,
     }
 }
 
-// The stop flag: what is open is judged.
-fn stop(bytes: &mut [u8; 118], state: State) -> LentStep
-    ensures { λ r. ⌜ ((b : ℕ)
-        → LentStepIs (now (bytes .exit)) r (roleStep stops (lentReader (now (bytes .entry)) state) b)) ⌝ }
+// A chunk given to a reader that is full: its first byte is refused. A chunk of no bytes has none.
+fn refuse(state: State, chunk: &[u8]) -> ChunkStep
+    requires { ⌜ state .count ≡ mostBytes ⌝ }
+    ensures { λ r. ⌜ ((bytes : List ℕ)
+        → ChunkStepIs bytes r (chunkOf (lentReader bytes state) (now (chunk .entry)))) ⌝ }
 {
-    let mode = state.mode;
-    let origin = state.origin;
-    let told = terminated(origin, bytes, state.len, mode);
-    let after = Mode::Outside;
-    LentStep {
+    if chunk.len() == 0 {
+        return untaken(Told::Nothing, state);
+    }
+    untaken(Told::Refused(Refusal::Full), state)
+}
+
+// No byte of a chunk is taken.
+fn untaken(told: Told, state: State) -> ChunkStep
+    ensures { λ r. ⌜ r ≡ record { told = told; position = 0; state = state; taken = 0 } ⌝ }
+{
+    ChunkStep {
         told,
+        position: 0,
+        state,
+        taken: 0,
+    }
+}
+
+// What bytes that were taken make of the position and the count.
+fn advanced(start: u32, count: u32, fed: HeldChunk) -> ChunkStep
+    requires { ⌜ count + fed .taken ≤ mostBytes ⌝ }
+    requires { ⌜ fed .from ≤ fed .taken ⌝ }
+    requires { ⌜ fed .opened ≤ fed .taken ⌝ }
+    ensures { λ r. ⌜ Advances start count fed r ⌝ }
+{
+    let told = fed.told;
+    let held = fed.held;
+    let taken = fed.taken;
+    let position = place_at(start, count, fed.from);
+    ChunkStep {
+        told,
+        position: told_at(told, position),
         state: State {
-            len: FRESH,
-            mode: after,
-            origin,
+            held,
+            start: place_at(start, count, fed.opened),
+            count: count + taken as u32,
         },
+        taken,
     }
 }
 
-fn terminated(origin: Origin, bytes: &mut [u8; 118], len: usize, mode: Mode) -> Told
-    ensures { λ r. ⌜ toldMeans r ≡ summaryOf
-        (terminatedIn (rowing origin) (rowingBounds origin) (modeSeen mode) (now (bytes .entry)) len) ⌝ }
-    ensures { λ r. ⌜ now (bytes .exit)
-        ≡ leftByStop (rowing origin) (rowingBounds origin) (modeSeen mode) (now (bytes .entry)) len ⌝ }
+// The position of the last start flag of a chunk, by its place in the chunk, or the one from before.
+fn place_at(start: u32, count: u32, place: usize) -> u32
+    requires { ⌜ count + place ≤ mostBytes ⌝ }
+    ensures { λ r. ⌜ r ≡ placeAt start count place ⌝ }
 {
-    let kind = match mode {
-        Mode::Outside => return Told::Nothing,
-        Mode::InStandard => Kind::Standard,
-        Mode::InExtended => Kind::Extended,
-        Mode::Overlong => return Told::Refused(Refusal::TooLong),
-    };
-    told_of(frame::judge_array(origin, kind, bytes, len))
+    if place == 0 {
+        return start;
+    }
+    count + (place - 1) as u32
 }
 
-fn told_of(read: Read) -> Told
-    ensures { λ r. ⌜ toldMeans r ≡ tells (readMeans read) ⌝ }
+// The position that is told of an answer. Nothing has none.
+fn told_at(told: Told, position: u32) -> u32
+    ensures { λ r. ⌜ r ≡ toldAt (toldMeans told) position ⌝ }
 {
-    match read {
-        Read::Standard { len } => Told::Standard { len },
-        Read::Extended { to, from, len } => Told::Extended { to, from, len },
-        Read::Refused(why) => Told::Refused(why),
+    match told {
+        Told::Nothing => 0,
+        Told::Refused(_) => position,
+        Told::Standard { len: _ } => position,
+        Told::Extended {
+            to: _,
+            from: _,
+            len: _,
+        } => position,
     }
 }
 
-// Any byte that is no flag.
-fn grow(bytes: &mut [u8; 118], state: State, b: u8) -> LentStep
-    ensures { λ r. ⌜ LentStepIs (now (bytes .exit)) r (roleStep plain (lentReader (now (bytes .entry)) state) b) ⌝ }
+// The position of the last start flag after one byte more: a start flag's own is the count before it.
+fn start_after(b: u8, start: u32, count: u32) -> u32
+    ensures { λ r. ⌜ r ≡ startAfter (roleOf b) start count ⌝ }
 {
-    let len = state.len;
-    let mode = state.mode;
-    let origin = state.origin;
-    match mode {
-        Mode::Outside => unmoved(origin, len, mode),
-        Mode::InStandard => with_byte(origin, bytes, len, mode, b),
-        Mode::InExtended => with_byte(origin, bytes, len, mode, b),
-        Mode::Overlong => unmoved(origin, len, mode),
+    if b == flags::EXTENDED_START {
+        return count;
     }
-}
-
-fn unmoved(origin: Origin, len: usize, mode: Mode) -> LentStep
-    ensures { λ r. ⌜ ((bytes : List ℕ) → LentStepIs bytes r (turn nothing (reader origin bytes len mode))) ⌝ }
-{
-    LentStep {
-        told: Told::Nothing,
-        state: State { len, mode, origin },
+    if b == flags::STANDARD_START {
+        return count;
     }
-}
-
-// One byte more in an open candidate.
-fn with_byte(origin: Origin, bytes: &mut [u8; 118], len: usize, mode: Mode, b: u8) -> LentStep
-    ensures { λ r. ⌜ LentStepIs (now (bytes .exit)) r
-        (turn nothing (withByte (reader origin (now (bytes .entry)) len mode) b)) ⌝ }
-{
-    if len < ROOM {
-        bytes[len] = b;
-        return unmoved(origin, len + 1, mode);
-    }
-    unmoved(origin, FRESH, Mode::Overlong)
+    start
 }
 
 // The answer by value, from the one over a lent array and the array.
@@ -314,10 +329,15 @@ fn by_value(step: LentStep, bytes: [u8; 118]) -> Stepped
     ensures { λ r. ⌜ ((t : ReaderTurn) → LentStepIs bytes step t → Whole t → StepIs r t) ⌝ }
 {
     let told = step.told;
+    let position = step.position;
     let state = step.state;
     let contents = beside(told, bytes);
     Stepped {
-        answer: StepAnswer { told, contents },
+        answer: StepAnswer {
+            told,
+            position,
+            contents,
+        },
         next: LineReader { bytes, state },
     }
 }

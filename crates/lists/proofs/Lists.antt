@@ -135,3 +135,15 @@ pub every-set : {A : Type 0} (P : A → Type 0) (s : List A) (i : ℕ) (a : A) �
 every-set P [] i a h k = h
 every-set P (x ∷ s) zero a h k = (k, h .1)
 every-set P (x ∷ s) (suc i) a h k = (h .0, every-set P s i a (h .1) k)
+
+-- Lists that are alike have the same last element.
+pub last-same : {A : Type 0} (s t : List A) (x y : A) → s ++ x ∷ [] ≡ t ++ y ∷ [] → x ≡ y
+last-same {A} s t x y e = sym (last-is x s x) ∙ ap (last-of x) e ∙ last-is x t y
+  where
+    last-of : A → List A → A
+    last-of a [] = a
+    last-of a (b ∷ l) = last-of b l
+
+    last-is : (a : A) (l : List A) (z : A) → last-of a (l ++ z ∷ []) ≡ z
+    last-is a [] z = refl
+    last-is a (b ∷ l) z = last-is b l z

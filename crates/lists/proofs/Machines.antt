@@ -118,23 +118,26 @@ module _ {S T C A : Type 0} (made : S → List C → ℕ → List A → S → Ty
       )
 
 -- The first elements of a list, and what is left of it with others after it.
-cut-append : {C : Type 0} (n : ℕ) (given later : List C) → n ≤ length given
+pub cut-append : {C : Type 0} (n : ℕ) (given later : List C) → n ≤ length given
     → take n given ++ drop n (given ++ later) ≡ given ++ later
 cut-append n given later h =
     ap (λ l. take n given ++ l) (drop-append-le n given later h)
     ∙ sym (append-assoc (take n given) (drop n given) later)
     ∙ ap (λ l. l ++ later) (take-append-drop n given)
 
--- Calls that get through a list take all of it.
-module _ {S C A : Type 0} (made : S → List C → ℕ → List A → S → Type 0)
-    (each : (s t : S) (given : List C) (taken : ℕ) (first : List A) → made s given taken first t
-    → taken ≤ length given) where
-  pub through-ran : {s u : S} {calls : List C} {answers : List A} → Through made s calls answers u
-      → RanBy made s calls answers u
-  through-ran ended-through = ended-by
-  through-ran (call-through s t given later taken first {u = u} {answers = answers} k rest) =
-      subst (λ l. RanBy made s l (first ++ answers) u) (cut-append taken given later (each s t given taken first k))
-      (call-by s t given taken first k (through-ran rest))
+-- Calls that get through a list take all of it, where what is known of a state and the calls to come says that each call
+-- takes what it is given, and stays known.
+module _ {S C A : Type 0} (made made′ : S → List C → ℕ → List A → S → Type 0) (known : S → List C → Type 0)
+    (each : (s t : S) (given later : List C) (taken : ℕ) (first : List A) → made s given taken first t
+    → known s (given ++ later)
+    → (taken ≤ length given) × made′ s given taken first t × known t (drop taken (given ++ later))) where
+  pub through-known : {s u : S} {calls : List C} {answers : List A} → Through made s calls answers u → known s calls
+      → RanBy made′ s calls answers u
+  through-known ended-through k = ended-by
+  through-known (call-through s t given later taken first {u = u} {answers = answers} m rest) k =
+      let e = each s t given later taken first m k in
+      subst (λ l. RanBy made′ s l (first ++ answers) u) (cut-append taken given later (e .0))
+      (call-by s t given taken first (e .1) (through-known rest (e .2)))
 
 -- What each call shows of itself, every call of a row has.
 module _ {S C A : Type 0} (called : S → C → A → S → Type 0) (P : C → Type 0)

@@ -2,7 +2,7 @@
 use mathlib.Core.Path.{_≡_, sym, ap, _∙_}
 use mathlib.Core.List.{List, [], _∷_, _++_, append-assoc}
 use Prim.Native.Nat.{ℕ, zero, suc, _+_, _/_, _%_, _^_, _≤_, _<_}
-use native.Mathlib.Nat.{mod-lt, div-lt-self, div-lt-iff-lt-mul}
+use native.Mathlib.Nat.{mod-lt, div-lt-self, div-lt-iff-lt-mul, le-div-iff-mul-le, one-le-pow}
 use native.Mathlib.Omega.{arith}
 use lib.ListN.{length, set, length-append}
 use lib.Dec.{ltb}
@@ -95,16 +95,27 @@ length-hundreds n h = ap length (decimal-hundreds n h) ∙ length-append (decima
 pub length-fours : (n : ℕ) → 10000 ≤ n → length (decimal n) ≡ length (decimal (n / 10000)) + 4
 length-fours n h = ap length (decimal-fours n h) ∙ length-append (decimal (n / 10000)) (four (n % 10000))
 
-bound : (k n : ℕ) → n < 10 ^ suc k → length (decimal n) ≤ suc k
-bound zero n h = omega (arith, length-small n (omega arith))
-bound (suc k) n h =
+pub decimal-bound : (k n : ℕ) → n < 10 ^ suc k → length (decimal n) ≤ suc k
+decimal-bound zero n h = omega (arith, length-small n (omega arith))
+decimal-bound (suc k) n h =
     let t : n / 10 < 10 ^ suc k = div-lt-iff-lt-mul {k = 10} (omega arith) .1 (omega arith) in
-    let ih : length (decimal (n / 10)) ≤ suc k = bound k (n / 10) t in
+    let ih : length (decimal (n / 10)) ≤ suc k = decimal-bound k (n / 10) t in
     by-bool (ltb n 10) (λ y. omega (arith, length-small n (ltb-true n 10 y)))
     (λ m. omega (arith, length-large n (ltb-false n 10 m)))
 
 pub decimal-64 : (n : ℕ) → n < 2 ^ 64 → length (decimal n) ≤ 20
-decimal-64 n h = bound 19 n (omega arith)
+decimal-64 n h = decimal-bound 19 n (omega arith)
+
+-- and at least
+pub least-digits : (k n : ℕ) → 10 ^ k ≤ n → suc k ≤ length (decimal n)
+least-digits zero n h =
+    by-bool (ltb n 10) (λ y. omega (arith, length-small n (ltb-true n 10 y)))
+    (λ m. omega (arith, length-large n (ltb-false n 10 m)))
+least-digits (suc k) n h =
+    let t : 10 ^ k ≤ n / 10 = le-div-iff-mul-le {k = 10} (omega arith) .1 (omega arith) in
+    let p : 1 ≤ 10 ^ k = one-le-pow k 10 (omega arith) in
+    let ih : suc k ≤ length (decimal (n / 10)) = least-digits k (n / 10) t in
+    omega (arith, length-large n (omega arith))
 
 -- ---- writing them
 
@@ -132,13 +143,25 @@ wrote-hex out at v x y room p q =
     wrote-as e (wrote-pair out at x y room)
 
 -- a word and its number
-pub wrote-field : (out : List ℕ) (at : ℕ) (word : List ℕ) (v : ℕ) {out₁ out₂ : List ℕ} {a e : ℕ} → v < 2 ^ 64
-    → at + (length word + 20) ≤ length out
-    → Wrote out at word out₁ a → Wrote out₁ a (decimal v) out₂ e
-    → Wrote out at (field word v) out₂ e × (e ≤ at + (length word + 20))
+pub length-field : (word : List ℕ) (v : ℕ) → length (field word v) ≡ length word + length (decimal v)
 unfolding field
-wrote-field out at word v h room p q =
-    (next p q (omega (arith, p .ends)), omega (arith, p .ends, q .ends, decimal-64 v h))
+length-field word v = length-append word (decimal v)
+
+pub field-64 : (word : List ℕ) (v : ℕ) → v < 2 ^ 64 → length (field word v) ≤ length word + 20
+field-64 word v h = omega (arith, length-field word v, decimal-64 v h)
+
+pub field-32 : (word : List ℕ) (v : ℕ) → v < 2 ^ 32 → length (field word v) ≤ length word + 10
+field-32 word v h = omega (arith, length-field word v, decimal-bound 9 v (omega arith))
+
+pub field-short : (word : List ℕ) (v : ℕ) → v < 1000 → length (field word v) ≤ length word + 3
+field-short word v h = omega (arith, length-field word v, decimal-bound 2 v (omega arith))
+
+pub wrote-field : (out : List ℕ) (at : ℕ) (word : List ℕ) (v : ℕ) {out₁ out₂ : List ℕ} {a e : ℕ}
+    → at + length (field word v) ≤ length out
+    → Wrote out at word out₁ a → Wrote out₁ a (decimal v) out₂ e
+    → Wrote out at (field word v) out₂ e
+unfolding field
+wrote-field out at word v room p q = next p q (omega (arith, p .ends, length-field word v, room))
 
 pub wrote-hex-field : (out : List ℕ) (at : ℕ) (word : List ℕ) (v : ℕ) {out₁ out₂ : List ℕ} {a e : ℕ}
     → at + (length word + 2) ≤ length out

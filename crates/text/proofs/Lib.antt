@@ -3,4 +3,5 @@ pub mod DigitLaws
 pub mod Spelling
 pub mod StrayCounts
 pub mod LineLaws
+pub mod Positions
 pub mod Examples

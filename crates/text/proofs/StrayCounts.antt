@@ -10,7 +10,7 @@ use Rattle.framing.specs.Reference.{Role, starts, stops, plain, FlagFree}
 use Rattle.framing.specs.Demand3.{LeftOpen}
 use Rattle.frame.specs.Flags.{roleOf}
 use Rattle.frame.specs.declared.Origin.the-variants.{Trace}
-use Rattle.line.specs.Rowing.{rowing}
+use Rattle.candidate.specs.Rowing.{rowing}
 use Rattle.text.specs.Strays.{strayAt, openAfter, strays, Strays, done, inside, stray}
 
 -- ---- the last of a list, and what stands before it

@@ -8,6 +8,7 @@ use native.Mathlib.Omega.{arith}
 use lib.ListN.{length, take, drop, set, getD, length-append}
 use lib.Seq.{length-take-le, take-suc, take-all, take-at}
 use Rattle.lists.specs.Splice.{splice}
+use Rattle.lists.proofs.Lists.{take-bounds}
 use Rattle.lists.proofs.Splices.{splice-nil, splice-splice, length-splice, set-splice, set2-splice}
 use Rattle.answer.specs.Answer.{Answer, result}
 use Rattle.answer.specs.Draft.{Writes}
@@ -62,6 +63,11 @@ pub wrote-first : {out w out′ : List ℕ} {e : ℕ} → Wrote out 0 w out′ e
 wrote-first {out} {w} {out′} {e} p =
     let n : e ≡ length w = omega (arith, p .ends) in
     (n, p .is ∙ ap (λ (k : ℕ). w ++ drop k out) (sym (p .ends)))
+
+-- A part of a list is no longer than the list.
+pub part-fits : (s : List ℕ) {part : List ℕ} {most : ℕ} (n : ℕ) → part ≡ take n s → length s ≤ most
+    → length part ≤ most
+part-fits s n e h = omega (arith, ap length e, take-bounds n s .1, h)
 
 -- A turn of the loop that copies a text, and its end.
 pub copy-more : (s out₀ : List ℕ) (at i : ℕ) (out : List ℕ) → at + length s ≤ length out₀ → i < length s

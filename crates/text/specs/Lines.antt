@@ -1,5 +1,5 @@
--- The lines of a listing (document 01, "Listing"): one for each answer, and one of totals. The line of an answer is a
--- head, with its number, and a body.
+-- The lines of a listing (document 01, "Listing"; document 02, No. 7): one for each answer, and one of totals. The line
+-- of an answer is a head, with its number and its position, and a body.
 use mathlib.Core.Bool.{Bool, true, false}
 use mathlib.Core.List.{List, [], _∷_, _++_}
 use Prim.Native.Nat.{ℕ}
@@ -10,7 +10,8 @@ use Rattle.frame.specs.Frame.{standard, extended}
 use Rattle.frame.specs.Verdict.{Verdict}
 use Rattle.answer.specs.Answer.{result, refused}
 use Rattle.command.specs.Stop.{stopsWorkout}
-use Rattle.line.specs.Outcome.{Outcome, nothing, judged}
+use Rattle.framing.specs.Located.{Located, answerIn, positionIn}
+use Rattle.candidate.specs.Outcome.{Outcome, nothing, judged}
 use Rattle.text.specs.Digits.{decimal, hex}
 
 -- A text as bytes.
@@ -34,8 +35,8 @@ stopText false = ascii " stop=no\n"
 
 -- ---- the line of an answer
 
-abbrev pub head : (n : ℕ) → List ℕ
-head n = field (ascii "n=") n
+unfoldable pub head : (n position : ℕ) → List ℕ
+head n position = field (ascii "n=") n ++ field (ascii " at=") position
 
 -- The body for a refusal, for a standard frame, for an extended frame.
 unfoldable pub refusedBody : (number : ℕ) → List ℕ
@@ -54,14 +55,18 @@ body (refused number) = refusedBody number
 body (result (standard contents)) = standardBody contents
 body (result (extended to from contents)) = extendedBody to from contents
 
--- The line of the n-th answer.
-abbrev pub line : (n : ℕ) → Verdict → List ℕ
-line n v = head n ++ body v
+-- The line of the n-th answer, whose candidate's start flag stands at a position.
+abbrev pub line : (n position : ℕ) → Verdict → List ℕ
+line n position v = head n position ++ body v
 
--- The line of a call, where the next answer is the n-th: none where the call is answered with nothing.
-abbrev pub callLine : (n : ℕ) → Outcome → List ℕ
-callLine n nothing = []
-callLine n (judged v) = line n v
+-- The line of an outcome at a position, where the next answer is the n-th. Nothing has none.
+abbrev pub outcomeLine : (n position : ℕ) → Outcome → List ℕ
+outcomeLine n position nothing = []
+outcomeLine n position (judged v) = line n position v
+
+-- The line of a call.
+abbrev pub callLine : (n : ℕ) → Located Outcome → List ℕ
+callLine n a = outcomeLine n (positionIn a) (answerIn a)
 
 -- ---- the last line
 

@@ -3,9 +3,9 @@ use Prim.Native.Nat.{ℕ, _+_, _-_, _/_, _%_}
 use mathlib.Core.List.{List, [], _∷_, _++_}
 use Rattle.text.specs.Writing.{lineRoom}
 
--- The room in which a head fits, `n=` and 20 digits, and what it leaves for a body.
+-- The room in which a head fits, `n=` and 20 digits, ` at=` and 10 digits, and what it leaves for a body.
 abbrev pub headRoom : ℕ
-headRoom = 22
+headRoom = 36
 
 abbrev pub bodyRoom : ℕ
 bodyRoom = lineRoom - headRoom

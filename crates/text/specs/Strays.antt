@@ -9,7 +9,7 @@ use Rattle.framing.specs.Reference.{Role, starts, stops, plain}
 use Rattle.framing.specs.Demand3.{LeftOpen}
 use Rattle.frame.specs.Flags.{roleOf}
 use Rattle.frame.specs.declared.Origin.the-variants.{Trace}
-use Rattle.line.specs.Rowing.{rowing}
+use Rattle.candidate.specs.Rowing.{rowing}
 
 -- ---- as a count
 

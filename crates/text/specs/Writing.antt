@@ -10,6 +10,6 @@ pub record Wrote (out : List ℕ) (at : ℕ) (w out′ : List ℕ) (end : ℕ) :
   pub is : out′ ≡ splice out at w
   pub ends : end ≡ at + length w
 
--- The room in which every line fits, the totals as well.
+-- The room in which every line fits, the totals as well. The totals need all of it where each count has 20 digits.
 abbrev pub lineRoom : ℕ
-lineRoom = 96
+lineRoom = 84

@@ -1,5 +1,5 @@
 -- The laws of an answer's counts, and of the finish.
-use mathlib.Core.Path.{_≡_, refl, sym, ap, _∙_}
+use mathlib.Core.Path.{_≡_, refl, sym, ap, ap₂, _∙_}
 use mathlib.Core.List.{List, _++_}
 use Prim.Native.Nat.{ℕ, _+_, _-_, _^_, _≤_, _<_}
 use native.Mathlib.Nat.{mod-eq-of-lt, zero-add, add-zero}
@@ -12,14 +12,17 @@ use Rattle.lists.specs.Choice.{Exactly}
 use Rattle.lists.proofs.Cases.{by-bool}
 use Rattle.lists.proofs.Splices.{part-splice}
 use Rattle.framing.specs.Reference.{finish}
+use Rattle.framing.specs.Located.{Located, answerIn, positionIn}
 use Rattle.frame.specs.Frame.{standard, extended}
 use Rattle.answer.specs.Answer.{Answer, result, refused}
 use Rattle.answer.specs.Draft.{draftAnswer, draftOut, Writes}
 use Rattle.frame.specs.Answers.{judgeAnswer}
-use Rattle.line.specs.Outcome.{Outcome, nothing, judged, toldMeans, summaryOf, outcomeOf}
+use Rattle.candidate.specs.Outcome.{Outcome, nothing, judged, Summary, toldMeans, summaryOf}
+use Rattle.line.specs.Answers.{locatedOutcome}
 use Rattle.line.specs.Reader.{finishOf, LentStepIs}
 use Rattle.line.specs.declared.LentStep.{LentStep}
-use Rattle.line.proofs.Calls.{lent-outcome}
+use Rattle.line.specs.declared.LineReader.{LineReader}
+use Rattle.line.proofs.ValueLaws.{call-whole}
 use Rattle.text.specs.Lines.{callLine, totals}
 use Rattle.text.specs.Text.{frameOne, refusedOne}
 use Rattle.text.specs.Writing.{Wrote}
@@ -115,21 +118,24 @@ pub last-wrote : (s : Listing) (m : LentStep) (n x y fc rc : ℕ) {out out₁ ou
     → LentStepIs (s .reader .bytes) m (finishOf (s .reader)) → n ≡ numberAfter (s .frames) (s .refusals)
     → x ≡ add64 (s .frames) fc → fc ≡ frameCount (toldMeans (m .told)) → y ≡ add64 (s .refusals) rc
     → rc ≡ refusedCount (toldMeans (m .told))
-    → Wrote out 0 (callLine n (outcomeOf (toldMeans (m .told)) (s .reader .bytes))) out₁ a
+    → Wrote out 0 (callLine n (locatedOutcome (toldMeans (m .told)) (m .position) (s .reader .bytes))) out₁ a
     → Wrote out₁ a (totals x y (s .strays)) out₂ e → a ≤ length out → Wrote out 0 (lastText s) out₂ e
 unfolding lastText
 last-wrote s m n x y fc rc g en ex efc ey erc p q h =
-    let o : Outcome = finishOf (s .reader) .answer in
-    let l : callLine n (outcomeOf (toldMeans (m .told)) (s .reader .bytes))
-    ≡ callLine (numberAfter (s .frames) (s .refusals)) o =
-    ap (λ (k : ℕ). callLine k (outcomeOf (toldMeans (m .told)) (s .reader .bytes))) en
-    ∙ ap (callLine (numberAfter (s .frames) (s .refusals))) (lent-outcome (s .reader .bytes) m (s .reader) finish g) in
+    let t : Located Outcome = finishOf (s .reader) .answer in
+    let o : Outcome = answerIn t in
+    let l : callLine n (locatedOutcome (toldMeans (m .told)) (m .position) (s .reader .bytes))
+    ≡ callLine (numberAfter (s .frames) (s .refusals)) t =
+    ap₂ callLine en
+    (ap₂ (λ (h : Summary) (position : ℕ). locatedOutcome h position (s .reader .bytes)) (g .told-is) (g .position-is)
+    ∙ ap (λ (u : LineReader). locatedOutcome (summaryOf o) (positionIn t) (u .bytes)) (g .next-is)
+    ∙ call-whole (s .reader) finish) in
     let f : x ≡ add64 (s .frames) (frameOne o) =
     ex ∙ ap (add64 (s .frames)) (efc ∙ ap frameCount (g .told-is) ∙ frame-count o) in
     let r : y ≡ add64 (s .refusals) (refusedOne o) =
     ey ∙ ap (add64 (s .refusals)) (erc ∙ ap refusedCount (g .told-is) ∙ refused-count o) in
-    let t : totals x y (s .strays)
+    let last : totals x y (s .strays)
     ≡ totals (add64 (s .frames) (frameOne o)) (add64 (s .refusals) (refusedOne o)) (s .strays) =
     ap (λ (k : ℕ). totals k y (s .strays)) f
     ∙ ap (λ (k : ℕ). totals (add64 (s .frames) (frameOne o)) k (s .strays)) r in
-    next (wrote-as l p) (wrote-as t q) h
+    next (wrote-as l p) (wrote-as last q) h

@@ -1,6 +1,6 @@
 -- The counts of a state in plain numbers: the text that bytes give from a state on is that of the reader's answers to
 -- them.
-use mathlib.Core.Path.{_≡_, refl, sym, ap, _∙_}
+use mathlib.Core.Path.{_≡_, refl, sym, ap, ap₂, _∙_}
 use mathlib.Core.Bool.{Bool, true, false}
 use mathlib.Core.List.{List, [], _∷_, _++_, append-assoc, append-nil}
 use Prim.Native.Nat.{ℕ, _+_, _^_, _≤_, _<_}
@@ -8,28 +8,34 @@ use native.Mathlib.Nat.{mod-eq-of-lt}
 use native.Mathlib.Omega.{arith}
 use lib.ListN.{length}
 use lib.Dec.{ltb}
+use borrow.Author.Tests.{lt-ltb, le-ltb}
 use Rattle.lists.specs.Choice.{pick}
 use Rattle.framing.specs.Reference.{finish, Role, starts, stops, plain}
 use Rattle.lists.specs.Machine.{run}
+use Rattle.framing.specs.Located.{Located, answerIn, positionIn}
 use Rattle.framing.specs.Demand3.{feed}
 use Rattle.framing.specs.Bounded.{BoundedMode, inside, overlong, BoundedReader, grownIn}
 use Rattle.answer.specs.Answer.{result, refused}
 use Rattle.frame.specs.Verdict.{Verdict}
-use Rattle.line.specs.Outcome.{Outcome, nothing, judged, answersIn}
+use Rattle.candidate.specs.Outcome.{Outcome, nothing, judged}
 use Rattle.frame.specs.declared.Origin.{Origin}
-use Rattle.line.specs.Rowing.{rowing, rowingBounds}
-use Rattle.line.specs.Reader.{modeSeen, modeIn, roleStep, stepOf, finishOf, outcomeAt, nextAfter}
+use Rattle.candidate.specs.Rowing.{rowing, rowingBounds}
+use Rattle.candidate.specs.Holder.{Holder, holder, modeSeen, modeIn, roleStep, stepHeld}
+use Rattle.line.specs.Rowing.{mostBytes}
+use Rattle.line.specs.Reader.{ReaderTurn, stepOf, finishOf, outcomeAt, nextAfter}
 use Rattle.frame.specs.Flags.{roleOf, kindOf}
 use Rattle.frame.specs.declared.Kind.{Kind}
 use Rattle.frame.specs.declared.Kind.the-variants.{Standard, Extended}
 use Rattle.line.specs.declared.LineReader.{LineReader}
-use Rattle.line.specs.declared.Mode.{Mode}
-use Rattle.line.specs.declared.Mode.the-variants.{Outside, InStandard, InExtended, Overlong}
-use Rattle.text.specs.Lines.{callLine, totals}
+use Rattle.line.proofs.StepLaws.{step-taken, step-full}
+use Rattle.candidate.specs.declared.Mode.{Mode}
+use Rattle.candidate.specs.declared.Mode.the-variants.{Outside, InStandard, InExtended, Overlong}
+use Rattle.text.specs.Lines.{line, callLine, totals}
 use Rattle.text.specs.Strays.{strayAt, openAfter, strays}
-use Rattle.text.specs.Text.{frameOne, refusedOne, frames, refusals, lines}
+use Rattle.text.specs.Text.{locatedIn, verdicts, frameOne, refusedOne, frames, refusals, lines}
 use Rattle.text.proofs.LineLaws.{lines-more, frames-more, refusals-more}
-use Rattle.trace.specs.Machine.{add64, isOpen, numberAfter, nextOf, textOf, listingAfter, texts, lastText}
+use Rattle.trace.specs.Machine.{add64, isOpen, numberAfter, strayOne, nextOf, textOf, listingAfter, texts}
+use Rattle.trace.specs.Machine.{lastText}
 use Rattle.trace.specs.declared.Listing.{Listing}
 
 add64-is : (a b : ℕ) → a + b < 2 ^ 64 → add64 a b ≡ a + b
@@ -69,100 +75,156 @@ grown-open o InStandard bytes len b = by-capacity (ltb len 118) Standard _ _ ref
 grown-open o InExtended bytes len b = by-capacity (ltb len 118) Extended _ _ refl refl
 grown-open o Overlong bytes len b = refl
 
-open-at : (r : LineReader) (b : ℕ) (ρ : Role)
-    → isOpen (roleStep ρ r b .next .state .mode) ≡ openAfter ρ (isOpen (r .state .mode))
-open-at r b starts = inside-open (kindOf b)
-open-at r b stops = refl
-open-at r b plain = grown-open (r .state .origin) (r .state .mode) (r .bytes) (r .state .len) b
+open-at : (h : Holder) (b : ℕ) (ρ : Role)
+    → isOpen (roleStep ρ h b .next .held .mode) ≡ openAfter ρ (isOpen (h .held .mode))
+open-at h b starts = inside-open (kindOf b)
+open-at h b stops = refl
+open-at h b plain = grown-open (h .held .origin) (h .held .mode) (h .bytes) (h .held .len) b
 
-pub open-is : (r : LineReader) (b : ℕ)
-    → isOpen (stepOf r b .next .state .mode) ≡ openAfter (roleOf b) (isOpen (r .state .mode))
-open-is r b = open-at r b (roleOf b)
+pub open-held : (h : Holder) (b : ℕ)
+    → isOpen (stepHeld h b .next .held .mode) ≡ openAfter (roleOf b) (isOpen (h .held .mode))
+open-held h b = open-at h b (roleOf b)
+
+-- ---- a byte that can be counted
+
+module _ (r : LineReader) (b : ℕ) (room : r .state .count < mostBytes) where
+  pub open-is : isOpen (stepOf r b .next .state .held .mode) ≡ openAfter (roleOf b) (isOpen (r .state .held .mode))
+  open-is =
+      ap (λ (t : ReaderTurn). isOpen (t .next .state .held .mode)) (step-taken r b room)
+      ∙ open-held (holder (r .bytes) (r .state .held)) b
+
+  pub count-is : stepOf r b .next .state .count ≡ r .state .count + 1
+  count-is = ap (λ (t : ReaderTurn). t .next .state .count) (step-taken r b room)
+
+  pub stray-is : strayOne r b ≡ strayAt (roleOf b) (isOpen (r .state .held .mode))
+  stray-is =
+      ap (λ (t : Bool). pick t (strayAt (roleOf b) (isOpen (r .state .held .mode))) 0)
+      (lt-ltb (r .state .count) mostBytes room)
+
+-- ---- a byte that a full reader refuses
+
+-- It is told by the line of refusal 16 at position 0, and is one refusal more. It is passed over, and is not stray.
+pub full-byte : (s : Listing) (b : ℕ) → mostBytes ≤ s .reader .state .count
+    → (textOf s b ≡ line (numberAfter (s .frames) (s .refusals)) 0 (refused 16))
+    × (nextOf s b
+    ≡ record {
+      reader = s .reader;
+      frames = add64 (s .frames) 0;
+      refusals = add64 (s .refusals) 1;
+      strays = add64 (s .strays) 0;
+    })
+unfolding nextOf textOf
+full-byte s b h =
+    let o = isOpen (s .reader .state .held .mode) in (
+      ap (λ (t : ReaderTurn). callLine (numberAfter (s .frames) (s .refusals)) (t .answer)) (step-full (s .reader) b h),
+      ap₂ (λ (t : ReaderTurn) (n : ℕ). record {
+        reader = t .next;
+        frames = add64 (s .frames) (frameOne (answerIn (t .answer)));
+        refusals = add64 (s .refusals) (refusedOne (answerIn (t .answer)));
+        strays = add64 (s .strays) n;
+      }) (step-full (s .reader) b h)
+          (ap (λ (t : Bool). pick t (strayAt (roleOf b) o) 0) (le-ltb (s .reader .state .count) mostBytes h)),
+    )
 
 -- ---- the text from a state on
 
 -- What calls on a reader are answered with: its bytes, and then the finish.
-abbrev pub outcomesFrom : LineReader → List ℕ → List Outcome
+abbrev pub outcomesFrom : LineReader → List ℕ → List (Located Outcome)
 outcomesFrom r bytes = run outcomeAt nextAfter r (feed bytes ++ finish ∷ [])
 
 -- The text of answers and bytes that come after so many frames, refusals and stray bytes.
-abbrev pub Rest : (f r st : ℕ) → Bool → List Outcome → List ℕ → List ℕ
+abbrev pub Rest : (f r st : ℕ) → Bool → List (Located Outcome) → List ℕ → List ℕ
 Rest f r st o os bytes =
-    lines (f + r) (answersIn os)
-    ++ totals (f + frames (answersIn os)) (r + refusals (answersIn os)) (st + strays o bytes)
+    lines (f + r) (locatedIn os)
+    ++ totals (f + frames (verdicts (locatedIn os))) (r + refusals (verdicts (locatedIn os))) (st + strays o bytes)
 
-same-rest : (f f′ r r′ st st′ : ℕ) (o o′ : Bool) (os : List Outcome) (bytes : List ℕ) → f ≡ f′ → r ≡ r′ → st ≡ st′
+same-rest : (f f′ r r′ st st′ : ℕ) (o o′ : Bool) (os : List (Located Outcome)) (bytes : List ℕ) → f ≡ f′ → r ≡ r′ →
+    st ≡ st′
     → o ≡ o′ → Rest f r st o os bytes ≡ Rest f′ r′ st′ o′ os bytes
 same-rest f f′ r r′ st st′ o o′ os bytes p q u v = rw (p, q, u, v)
 
-same-text : (l : List ℕ) (n n′ x x′ y y′ z z′ : ℕ) (vs : List Verdict) → n ≡ n′ → x ≡ x′ → y ≡ y′ → z ≡ z′
+same-text : (l : List ℕ) (n n′ x x′ y y′ z z′ : ℕ) (vs : List (Located Verdict)) → n ≡ n′ → x ≡ x′ → y ≡ y′ → z ≡ z′
     → l ++ (lines n vs ++ totals x y z) ≡ l ++ (lines n′ vs ++ totals x′ y′ z′)
 same-text l n n′ x x′ y y′ z z′ vs p q u v = rw (p, q, u, v)
 
-rest-step : (f r st : ℕ) (o : Bool) (b : ℕ) (a : Outcome) (os : List Outcome) (bytes : List ℕ)
+rest-step : (f r st : ℕ) (o : Bool) (b : ℕ) (a : Located Outcome) (os : List (Located Outcome)) (bytes : List ℕ)
     → callLine (f + r + 1) a
-    ++ Rest (f + frameOne a) (r + refusedOne a) (st + strayAt (roleOf b) o) (openAfter (roleOf b) o) os bytes
+    ++ Rest (f + frameOne (answerIn a)) (r + refusedOne (answerIn a)) (st + strayAt (roleOf b) o)
+    (openAfter (roleOf b) o) os bytes
     ≡ Rest f r st o (a ∷ os) (b ∷ bytes)
 rest-step f r st o b a os bytes =
-    let vs : List Verdict = answersIn os in
-    let all : List Verdict = answersIn (a ∷ os) in
-    let F = frames-more a os in
-    let R = refusals-more a os in
+    let v : Outcome = answerIn a in
+    let vs : List (Located Verdict) = locatedIn os in
+    let all : List Verdict = verdicts (locatedIn (a ∷ os)) in
+    let F = frames-more (positionIn a) v vs in
+    let R = refusals-more (positionIn a) v vs in
     let z : ℕ = st + (strayAt (roleOf b) o + strays (openAfter (roleOf b) o) bytes) in
-    same-text (callLine (f + r + 1) a) _ (f + r + (frameOne a + refusedOne a)) _ (f + frames all) _
+    same-text (callLine (f + r + 1) a) _ (f + r + (frameOne v + refusedOne v)) _ (f + frames all) _
     (r + refusals all) _ z vs
     (omega arith) (omega arith) (omega arith) (omega arith)
-    ∙ sym (append-assoc (callLine (f + r + 1) a) (lines (f + r + (frameOne a + refusedOne a)) vs)
+    ∙ sym (append-assoc (callLine (f + r + 1) a) (lines (f + r + (frameOne v + refusedOne v)) vs)
     (totals (f + frames all) (r + refusals all) z))
-    ∙ ap (λ (l : List ℕ). l ++ totals (f + frames all) (r + refusals all) z) (lines-more (f + r) a os)
+    ∙ ap (λ (l : List ℕ). l ++ totals (f + frames all) (r + refusals all) z) (lines-more (f + r) (positionIn a) v vs)
 
 -- the finish
-same-last : (a : Outcome) (n n′ x x′ y y′ z z′ : ℕ) → n ≡ n′ → x ≡ x′ → y ≡ y′ → z ≡ z′
+same-last : (a : Located Outcome) (n n′ x x′ y y′ z z′ : ℕ) → n ≡ n′ → x ≡ x′ → y ≡ y′ → z ≡ z′
     → callLine n a ++ totals x y z ≡ callLine n′ a ++ totals x′ y′ z′
 same-last a n n′ x x′ y y′ z z′ p q u v = rw (p, q, u, v)
 
 last-is : (s : Listing) → s .frames + s .refusals + 1 < 2 ^ 64 → s .strays < 2 ^ 64
-    → lastText s ≡ Rest (s .frames) (s .refusals) (s .strays) (isOpen (s .reader .state .mode))
+    → lastText s ≡ Rest (s .frames) (s .refusals) (s .strays) (isOpen (s .reader .state .held .mode))
     (outcomesFrom (s .reader) []) []
 unfolding lastText
 last-is s h g =
-    let a : Outcome = finishOf (s .reader) .answer in
-    let k = one-answer a in
-    same-last a _ (s .frames + s .refusals + 1) _ (s .frames + frameOne a) _ (s .refusals + refusedOne a) _
+    let a : Located Outcome = finishOf (s .reader) .answer in
+    let v : Outcome = answerIn a in
+    let k = one-answer v in
+    let all : List Verdict = verdicts (locatedIn (a ∷ [])) in
+    let F : frameOne v ≡ frames all = omega (arith, frames-more (positionIn a) v []) in
+    let R : refusedOne v ≡ refusals all = omega (arith, refusals-more (positionIn a) v []) in
+    same-last a _ (s .frames + s .refusals + 1) _ (s .frames + frames all) _ (s .refusals + refusals all) _
     (s .strays + 0)
     (number-is (s .frames) (s .refusals) h)
-    (add64-is (s .frames) (frameOne a) (omega arith))
-    (add64-is (s .refusals) (refusedOne a) (omega arith))
+    (add64-is (s .frames) (frameOne v) (omega arith) ∙ ap (λ (n : ℕ). s .frames + n) F)
+    (add64-is (s .refusals) (refusedOne v) (omega arith) ∙ ap (λ (n : ℕ). s .refusals + n) R)
     (omega arith)
-    ∙ ap (λ (l : List ℕ). l ++ totals (s .frames + frameOne a) (s .refusals + refusedOne a) (s .strays + 0))
-    (sym (append-nil (callLine (s .frames + s .refusals + 1) a)) ∙ lines-more (s .frames + s .refusals) a [])
+    ∙ ap (λ (l : List ℕ). l ++ totals (s .frames + frames all) (s .refusals + refusals all) (s .strays + 0))
+    (sym (append-nil (callLine (s .frames + s .refusals + 1) a))
+    ∙ lines-more (s .frames + s .refusals) (positionIn a) v [])
 
--- a byte
-module _ (s : Listing) (b : ℕ) (h : s .frames + s .refusals + 1 < 2 ^ 64) (g : s .strays + 1 < 2 ^ 64) where
-  answer : Outcome
+-- a byte that can be counted
+module _ (s : Listing) (b : ℕ) (h : s .frames + s .refusals + 1 < 2 ^ 64) (g : s .strays + 1 < 2 ^ 64)
+    (room : s .reader .state .count < mostBytes) where
+  answer : Located Outcome
   answer = stepOf (s .reader) b .answer
 
-  next-frames : nextOf s b .frames ≡ s .frames + frameOne answer
+  next-frames : nextOf s b .frames ≡ s .frames + frameOne (answerIn answer)
   unfolding nextOf answer
   next-frames =
-      let a = stepOf (s .reader) b .answer in
+      let a = answerIn (stepOf (s .reader) b .answer) in
       let k = one-answer a in add64-is (s .frames) (frameOne a) (omega arith)
 
-  next-refused : nextOf s b .refusals ≡ s .refusals + refusedOne answer
+  next-refused : nextOf s b .refusals ≡ s .refusals + refusedOne (answerIn answer)
   unfolding nextOf answer
   next-refused =
-      let a = stepOf (s .reader) b .answer in
+      let a = answerIn (stepOf (s .reader) b .answer) in
       let k = one-answer a in add64-is (s .refusals) (refusedOne a) (omega arith)
 
-  next-stray : nextOf s b .strays ≡ s .strays + strayAt (roleOf b) (isOpen (s .reader .state .mode))
+  next-stray : nextOf s b .strays ≡ s .strays + strayAt (roleOf b) (isOpen (s .reader .state .held .mode))
   unfolding nextOf
   next-stray =
-      let k = one-stray (roleOf b) (isOpen (s .reader .state .mode)) in
-      add64-is (s .strays) (strayAt (roleOf b) (isOpen (s .reader .state .mode))) (omega arith)
+      let k = one-stray (roleOf b) (isOpen (s .reader .state .held .mode)) in
+      ap (add64 (s .strays)) (stray-is (s .reader) b room)
+      ∙ add64-is (s .strays) (strayAt (roleOf b) (isOpen (s .reader .state .held .mode))) (omega arith)
 
-  next-open : isOpen (nextOf s b .reader .state .mode) ≡ openAfter (roleOf b) (isOpen (s .reader .state .mode))
+  next-open : isOpen (nextOf s b .reader .state .held .mode)
+      ≡ openAfter (roleOf b) (isOpen (s .reader .state .held .mode))
   unfolding nextOf
-  next-open = open-is (s .reader) b
+  next-open = open-is (s .reader) b room
+
+  next-count : nextOf s b .reader .state .count ≡ s .reader .state .count + 1
+  unfolding nextOf
+  next-count = count-is (s .reader) b room
 
   text-line : textOf s b ≡ callLine (s .frames + s .refusals + 1) answer
   unfolding textOf answer
@@ -174,31 +236,34 @@ module _ (s : Listing) (b : ℕ) (h : s .frames + s .refusals + 1 < 2 ^ 64) (g :
   outcomes-next bytes = refl
 
 pub all-text : (s : Listing) (bytes : List ℕ) → s .frames + s .refusals + length bytes + 1 < 2 ^ 64
-    → s .strays + length bytes < 2 ^ 64
+    → s .strays + length bytes < 2 ^ 64 → s .reader .state .count + length bytes ≤ mostBytes
     → texts s bytes ++ lastText (listingAfter s bytes)
-    ≡ Rest (s .frames) (s .refusals) (s .strays) (isOpen (s .reader .state .mode))
+    ≡ Rest (s .frames) (s .refusals) (s .strays) (isOpen (s .reader .state .held .mode))
     (outcomesFrom (s .reader) bytes) bytes
-all-text s [] h g = last-is s (omega arith) (omega arith)
-all-text s (b ∷ bytes) h g =
+all-text s [] h g c = last-is s (omega arith) (omega arith)
+all-text s (b ∷ bytes) h g c =
     let h₁ : s .frames + s .refusals + 1 < 2 ^ 64 = omega arith in
     let g₁ : s .strays + 1 < 2 ^ 64 = omega arith in
-    let a : Outcome = answer s b h₁ g₁ in
+    let c₁ : s .reader .state .count < mostBytes = omega arith in
+    let a : Located Outcome = answer s b h₁ g₁ c₁ in
+    let v : Outcome = answerIn a in
     let n : Listing = nextOf s b in
-    let o : Bool = isOpen (s .reader .state .mode) in
-    let F = next-frames s b h₁ g₁ in
-    let R = next-refused s b h₁ g₁ in
-    let S = next-stray s b h₁ g₁ in
-    let k = one-answer a in
+    let o : Bool = isOpen (s .reader .state .held .mode) in
+    let F = next-frames s b h₁ g₁ c₁ in
+    let R = next-refused s b h₁ g₁ c₁ in
+    let S = next-stray s b h₁ g₁ c₁ in
+    let C = next-count s b h₁ g₁ c₁ in
+    let k = one-answer v in
     let u = one-stray (roleOf b) o in
-    let os : List Outcome = outcomesFrom (n .reader) bytes in
-    let rest : List ℕ = Rest (s .frames + frameOne a) (s .refusals + refusedOne a) (s .strays + strayAt (roleOf b) o)
+    let os : List (Located Outcome) = outcomesFrom (n .reader) bytes in
+    let rest : List ℕ = Rest (s .frames + frameOne v) (s .refusals + refusedOne v) (s .strays + strayAt (roleOf b) o)
     (openAfter (roleOf b) o) os bytes in
     let ih : texts n bytes ++ lastText (listingAfter n bytes)
-    ≡ Rest (n .frames) (n .refusals) (n .strays) (isOpen (n .reader .state .mode)) os bytes =
-    all-text n bytes (omega arith) (omega arith) in
+    ≡ Rest (n .frames) (n .refusals) (n .strays) (isOpen (n .reader .state .held .mode)) os bytes =
+    all-text n bytes (omega arith) (omega arith) (omega arith) in
     append-assoc (textOf s b) (texts n bytes) (lastText (listingAfter n bytes))
-    ∙ ap (λ (l : List ℕ). textOf s b ++ l) (ih ∙ same-rest _ _ _ _ _ _ _ _ os bytes F R S (next-open s b h₁ g₁))
-    ∙ ap (λ (l : List ℕ). l ++ rest) (text-line s b h₁ g₁)
+    ∙ ap (λ (l : List ℕ). textOf s b ++ l) (ih ∙ same-rest _ _ _ _ _ _ _ _ os bytes F R S (next-open s b h₁ g₁ c₁))
+    ∙ ap (λ (l : List ℕ). l ++ rest) (text-line s b h₁ g₁ c₁)
     ∙ rest-step (s .frames) (s .refusals) (s .strays) o b a os bytes
-    ∙ ap (λ (l : List Outcome). Rest (s .frames) (s .refusals) (s .strays) o l (b ∷ bytes))
-    (sym (outcomes-next s b h₁ g₁ bytes))
+    ∙ ap (λ (l : List (Located Outcome)). Rest (s .frames) (s .refusals) (s .strays) o l (b ∷ bytes))
+    (sym (outcomes-next s b h₁ g₁ c₁ bytes))

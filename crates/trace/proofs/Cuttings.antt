@@ -9,17 +9,18 @@ use lib.Seq.{take-at}
 use lib.Dec.{ltb}
 use borrow.Author.Tests.{le-ltb}
 use Rattle.lists.specs.Choice.{pick}
-use Rattle.framing.specs.Reference.{finish, Reference}
+use Rattle.framing.specs.Reference.{finish}
+use Rattle.framing.specs.Located.{Located, LocatedReference}
 use Rattle.framing.specs.Demand3.{feed}
 use Rattle.answer.specs.Answer.{Answer, result}
 use Rattle.answer.proofs.Drafts.{written-first}
-use Rattle.line.specs.Outcome.{Outcome, answersIn}
+use Rattle.candidate.specs.Outcome.{Outcome}
 use Rattle.frame.specs.declared.Origin.the-variants.{Trace}
-use Rattle.line.specs.Rowing.{rowing}
+use Rattle.line.specs.Rowing.{locatedRowing}
 use Rattle.line.proofs.Follows.{reader-follows}
 use Rattle.text.specs.Lines.{totals}
 use Rattle.text.specs.Strays.{strays}
-use Rattle.text.specs.Text.{frames, refusals, lines, text}
+use Rattle.text.specs.Text.{locatedIn, verdicts, frames, refusals, lines, text}
 use Rattle.text.specs.Writing.{lineRoom}
 use Rattle.trace.specs.Machine.{newListing, nextOf, textOf, listingAfter, texts, takenOf, lastText, Lists}
 use Rattle.trace.specs.Cutting.{Calls, ended, call, longest, WritesText, TakesSome}
@@ -61,12 +62,13 @@ calls-texts (call {s = s} chunk rest out out′ r l t) =
 
 -- ---- from a new state
 
-from-zero : (os : List Outcome) (bytes : List ℕ)
+from-zero : (os : List (Located Outcome)) (bytes : List ℕ)
     → Rest 0 0 0 false os bytes
-    ≡ lines 0 (answersIn os) ++ totals (frames (answersIn os)) (refusals (answersIn os)) (strays false bytes)
+    ≡ lines 0 (locatedIn os)
+    ++ totals (frames (verdicts (locatedIn os))) (refusals (verdicts (locatedIn os))) (strays false bytes)
 from-zero os bytes =
-    let x : 0 + frames (answersIn os) ≡ frames (answersIn os) = omega arith in
-    let y : 0 + refusals (answersIn os) ≡ refusals (answersIn os) = omega arith in
+    let x : 0 + frames (verdicts (locatedIn os)) ≡ frames (verdicts (locatedIn os)) = omega arith in
+    let y : 0 + refusals (verdicts (locatedIn os)) ≡ refusals (verdicts (locatedIn os)) = omega arith in
     let z : 0 + strays false bytes ≡ strays false bytes = omega arith in
     rw (x, y, z)
 
@@ -74,9 +76,10 @@ from-zero os bytes =
 pub new-text : (trace : List ℕ) → length trace ≤ longest
     → texts newListing trace ++ lastText (listingAfter newListing trace) ≡ text trace
 new-text trace h =
-    all-text newListing trace (omega arith) (omega arith)
-    ∙ ap (λ (os : List Outcome). Rest 0 0 0 false os trace) (reader-follows Trace .same (feed trace ++ finish ∷ []))
-    ∙ from-zero (Reference (rowing Trace) (feed trace ++ finish ∷ [])) trace
+    all-text newListing trace (omega arith) (omega arith) (omega arith)
+    ∙ ap (λ (os : List (Located Outcome)). Rest 0 0 0 false os trace)
+    (reader-follows Trace .same (feed trace ++ finish ∷ []))
+    ∙ from-zero (LocatedReference (locatedRowing Trace) (feed trace ++ finish ∷ [])) trace
 
 same-result : (v w : List ℕ) → _≡_ {A = Answer (List ℕ)} (result v) (result w) → v ≡ w
 same-result v w e = cc

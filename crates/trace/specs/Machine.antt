@@ -8,10 +8,13 @@ use lib.Dec.{ltb}
 use Rattle.lists.specs.Choice.{pick}
 use Rattle.lists.specs.Machine.{leftAfter}
 use Rattle.frame.specs.declared.Origin.the-variants.{Trace}
-use Rattle.line.specs.Reader.{newReader, stepOf, finishOf}
 use Rattle.frame.specs.Flags.{roleOf}
-use Rattle.line.specs.declared.Mode.{Mode}
-use Rattle.line.specs.declared.Mode.the-variants.{Outside, InStandard, InExtended, Overlong}
+use Rattle.framing.specs.Located.{answerIn}
+use Rattle.candidate.specs.declared.Mode.{Mode}
+use Rattle.candidate.specs.declared.Mode.the-variants.{Outside, InStandard, InExtended, Overlong}
+use Rattle.line.specs.Rowing.{mostBytes}
+use Rattle.line.specs.Reader.{newReader, stepOf, finishOf}
+use Rattle.line.specs.declared.LineReader.{LineReader}
 use Rattle.text.specs.Lines.{callLine, totals}
 use Rattle.text.specs.Strays.{strayAt}
 use Rattle.text.specs.Text.{frameOne, refusedOne}
@@ -39,13 +42,17 @@ newListing = record { reader = newReader Trace; frames = 0; refusals = 0; strays
 abbrev pub numberAfter : (frames refusals : ℕ) → ℕ
 numberAfter frames refusals = add64 (add64 frames refusals) 1
 
+-- 1 for a byte that is stray. One that a full reader refuses is told as refused, and isn't counted here.
+abbrev pub strayOne : LineReader → ℕ → ℕ
+strayOne r b = pick (ltb (r .state .count) mostBytes) (strayAt (roleOf b) (isOpen (r .state .held .mode))) 0
+
 -- The state after a byte.
 unfoldable pub nextOf : Listing → ℕ → Listing
 nextOf s b = record {
   reader = stepOf (s .reader) b .next;
-  frames = add64 (s .frames) (frameOne (stepOf (s .reader) b .answer));
-  refusals = add64 (s .refusals) (refusedOne (stepOf (s .reader) b .answer));
-  strays = add64 (s .strays) (strayAt (roleOf b) (isOpen (s .reader .state .mode)));
+  frames = add64 (s .frames) (frameOne (answerIn (stepOf (s .reader) b .answer)));
+  refusals = add64 (s .refusals) (refusedOne (answerIn (stepOf (s .reader) b .answer)));
+  strays = add64 (s .strays) (strayOne (s .reader) b);
 }
 
 -- The line of its answer.
@@ -87,6 +94,6 @@ unfoldable pub lastText : Listing → List ℕ
 lastText s =
     callLine (numberAfter (s .frames) (s .refusals)) (finishOf (s .reader) .answer)
     ++ totals
-    (add64 (s .frames) (frameOne (finishOf (s .reader) .answer)))
-    (add64 (s .refusals) (refusedOne (finishOf (s .reader) .answer)))
+    (add64 (s .frames) (frameOne (answerIn (finishOf (s .reader) .answer))))
+    (add64 (s .refusals) (refusedOne (answerIn (finishOf (s .reader) .answer))))
     (s .strays)

@@ -8,7 +8,10 @@ use lib.ListN.{length, take, drop}
 use lib.Dec.{eqb}
 use Rattle.lists.specs.Choice.{pick, countBefore}
 use Rattle.text.specs.Writing.{Wrote, lineRoom}
+use Rattle.line.specs.Rowing.{mostBytes}
 use Rattle.line.specs.Reader.{lentReader}
+use Rattle.line.specs.Feed.{cutChunk}
+use Rattle.line.specs.declared.State.{State}
 use Rattle.trace.specs.Machine.{listingAfter, texts, takenOf}
 use Rattle.trace.specs.declared.Listing.{Listing}
 use Rattle.trace.specs.declared.Advanced.{Advanced}
@@ -17,7 +20,7 @@ use Rattle.trace.specs.declared.Tally.{Tally}
 use Rattle.frame.specs.Flags.{isStart}
 use Rattle.answer.specs.Answer.{Answer, result, refused}
 use Rattle.frame.specs.Answers.{standardOutline, extendedOutline}
-use Rattle.line.specs.Outcome.{Summary, silent, tells}
+use Rattle.candidate.specs.Outcome.{Summary, silent, tells}
 
 -- A state whose array stands apart.
 abbrev pub listing : List ℕ → Tally → Listing
@@ -46,11 +49,15 @@ pub record Leads (s : Listing) (bytes : List ℕ) (n : ℕ) (s′ : Listing) (w 
   pub text : w ≡ texts s (take n bytes)
   pub taken : (room : ℕ) → lineRoom ≤ room → takenOf s bytes room ≡ n + takenOf s′ (drop n bytes) (room - length w)
 
+-- How many bytes a call takes where the line reader took so many of them: a byte that it refuses is passed over.
+abbrev pub atLeastOne : ℕ → ℕ
+atLeastOne taken = pick (eqb taken 0) 1 taken
+
 -- Bytes up to an answer, at least one, and their text at an index.
 pub record Advances (s : Listing) (rest bytes out : List ℕ) (at : ℕ) (out′ : List ℕ) (r : Advanced) : Type 0 where
   pub text : List ℕ
   pub leads : Leads s rest (r .taken) (listing bytes (r .tally)) text
-  pub some : 0 < length rest → 0 < r .taken
+  pub some : 0 < r .taken
   pub wrote : Wrote out at text out′ (r .at)
   pub within : r .at ≤ at + lineRoom
 
@@ -62,9 +69,17 @@ abbrev pub strayCount : (is-open : Bool) → List ℕ → ℕ
 strayCount true bytes = 0
 strayCount false bytes = countBefore isStart bytes
 
--- How many of them need not be fed: stray bytes leave a reader as it is where its length is 0.
+-- The bytes of a chunk that a call can take: the first 65,536 at the most, and those that can still be counted.
+abbrev pub countable : (count : ℕ) → List ℕ → List ℕ
+countable count bytes = take (mostBytes - count) (cutChunk bytes)
+
+-- How many of them need not be fed: stray bytes change nothing but the count of a reader whose length is 0.
 abbrev pub passedOver : (len strays : ℕ) → ℕ
 passedOver len strays = pick (eqb len 0) strays 0
+
+-- A state after so many bytes that are counted and not fed.
+abbrev pub countedOn : State → ℕ → State
+countedOn state n = record { held = state .held; start = state .start; count = state .count + n }
 
 -- 1 for a frame, and 1 for a refusal.
 abbrev pub frameCount : Summary → ℕ

@@ -1,24 +1,26 @@
-// The listing of a trace: a line for each answer of the line reader, then the totals (document 01, "Listing").
+// The listing of a trace: a line for each answer of the line reader, then the totals (document 01, "Listing"; document
+// 02, No. 7).
 // The state is a value. A call takes a chunk of the trace and a lent output, and writes whole lines into it.
 use answer::Written;
+use candidate::Mode;
+use candidate::Told;
 use frame::Origin;
 use frame::flags;
 use line::ChunkStep;
 use line::LineReader;
-use line::Mode;
 use line::State;
-use line::Told;
 ghost use mathlib.Core.Path.{_≡_};
-ghost use Prim.Native.Nat.{_+_, _≤_};
+ghost use Prim.Native.Nat.{_+_, _≤_, _<_};
 ghost use lib.ListN.{length};
 ghost use Rattle.answer.specs.Answer.{result};
 ghost use Rattle.answer.specs.Draft.{draftAnswer, draftOut, writtenMeans};
-ghost use Rattle.line.specs.Feed.{cutChunk, chunkOf, ChunkStepIs};
-ghost use Rattle.line.specs.Outcome.{toldMeans};
+ghost use Rattle.candidate.specs.Outcome.{toldMeans};
+ghost use Rattle.line.specs.Rowing.{mostBytes};
+ghost use Rattle.line.specs.Feed.{chunkOf, ChunkStepIs};
 ghost use Rattle.line.specs.Reader.{lentReader};
 ghost use Rattle.text.specs.Writing.{Wrote, lineRoom};
 ghost use Rattle.trace.specs.Private.{strayCount, Advances, listing, listedOf, frameCount, refusedCount};
-ghost use Rattle.trace.specs.Private.{lengthOf, passedOver};
+ghost use Rattle.trace.specs.Private.{lengthOf, atLeastOne, countable, passedOver, countedOn};
 ghost use Rattle.trace.specs.Machine.{isOpen, newListing, numberAfter, Lists, lastText, lastRoom};
 
 // The room that the line of the finish and the totals fit in.
@@ -123,7 +125,8 @@ fn put_last(s: Listing, out: &mut [u8]) -> usize
     let state = reader.state;
     let step = line::finish_in(state);
     let told = step.told;
-    let at = length_of(text::write_answer(told, &bytes, next_number(frames, refusals), out));
+    let n = next_number(frames, refusals);
+    let at = length_of(text::write_answer(told, step.position, &bytes, n, out));
     let all_frames = std::num::wrapping_add_u64(frames, frame_count(told));
     let all_refusals = std::num::wrapping_add_u64(refusals, refused_count(told));
     at + length_of(text::write_totals(all_frames, all_refusals, s.strays, &mut out[at..]))
@@ -156,8 +159,9 @@ fn listed_of(taken: usize, wrote: usize, bytes: [u8; 118], t: Tally) -> Listed
 }
 
 // Takes bytes up to the first that is answered, at least one and at most 65,536, and writes the line of an answer at an
-// index where there is room for any.
+// index where there is room for any. A byte that a full line reader refuses is passed over.
 fn advance(bytes: &mut [u8; 118], t: Tally, rest: &[u8], out: &mut [u8], at: usize) -> Advanced
+    requires { ⌜ 0 < length (now rest) ⌝ }
     requires { ⌜ at + lineRoom ≤ length (now out) ⌝ }
     ensures { λ r. ⌜ Advances (listing (now (bytes .entry)) t) (now (rest .entry)) (now (bytes .exit))
         (now (out .entry)) at (now (out .exit)) r ⌝ }
@@ -171,12 +175,13 @@ fn advance(bytes: &mut [u8; 118], t: Tally, rest: &[u8], out: &mut [u8], at: usi
     let state = step.state;
     let len = length_of(text::write_answer(
         told,
+        step.position,
         bytes,
         next_number(frames, refusals),
         &mut out[at..],
     ));
     Advanced {
-        taken: step.taken,
+        taken: at_least_one(step.taken),
         at: at + len,
         tally: Tally {
             state,
@@ -187,25 +192,62 @@ fn advance(bytes: &mut [u8; 118], t: Tally, rest: &[u8], out: &mut [u8], at: usi
     }
 }
 
-// Feeds a chunk, as far as the line reader takes one. The stray bytes are counted first, and passed over where they
-// would leave the reader as it is, so that they are looked at once.
+// Feeds a chunk, as far as the line reader takes one; a full one refuses its first byte. The stray bytes are counted
+// first, and passed over where they would change nothing but the reader's count, so that they are looked at once.
 fn feed(bytes: &mut [u8; 118], before: State, rest: &[u8]) -> Fed
     ensures { λ r. ⌜ ChunkStepIs (now (bytes .exit)) (r .step)
         (chunkOf (lentReader (now (bytes .entry)) before) (now (rest .entry))) ⌝ }
-    ensures { λ r. ⌜ r .strays ≡ strayCount (isOpen (before .mode)) (cutChunk (now (rest .entry))) ⌝ }
+    ensures { λ r. ⌜ r .strays
+        ≡ strayCount (isOpen (before .held .mode)) (countable (before .count) (now (rest .entry))) ⌝ }
 {
-    let mode = before.mode;
-    let chunk = &rest[..lists::lesser(line::CHUNK_LIMIT, rest.len())];
+    let held = before.held;
+    let mode = held.mode;
+    let count = before.count;
+    if count == line::LIMIT {
+        let step = line::feed_in(bytes, before, rest);
+        return Fed { step, strays: 0 };
+    }
+    let most = lists::lesser(line::CHUNK_LIMIT, rest.len());
+    let chunk = &rest[..lists::lesser((line::LIMIT - count) as usize, most)];
     let strays = stray_count(mode, chunk);
-    let passed = passed_over(before.len, strays);
-    let step = line::feed_in(bytes, before, &chunk[passed..]);
+    let passed = passed_over(held.len, strays);
+    let step = line::feed_in(bytes, counted_on(before, passed), &chunk[passed..]);
     let told = step.told;
+    let position = step.position;
     let state = step.state;
     let taken = passed + step.taken;
     Fed {
-        step: ChunkStep { told, state, taken },
+        step: ChunkStep {
+            told,
+            position,
+            state,
+            taken,
+        },
         strays: strays as u64,
     }
+}
+
+// A state after bytes that are counted and not fed.
+fn counted_on(before: State, passed: usize) -> State
+    requires { ⌜ before .count + passed ≤ mostBytes ⌝ }
+    ensures { λ r. ⌜ r ≡ countedOn before passed ⌝ }
+{
+    let held = before.held;
+    State {
+        held,
+        start: before.start,
+        count: before.count + passed as u32,
+    }
+}
+
+// How many bytes are taken where the line reader took so many: at least one, so that no call stands still.
+fn at_least_one(taken: usize) -> usize
+    ensures { λ r. ⌜ r ≡ atLeastOne taken ⌝ }
+{
+    if taken == 0 {
+        return 1;
+    }
+    taken
 }
 
 // The number of the next answer.

@@ -5,17 +5,13 @@ use Prim.Native.Nat.{ℕ}
 use mathlib.Core.List.{List}
 use contract.Lifetimes.{Lfts}
 use denote.Ref.{RefT}
-use Rattle.framing.specs.Demand3.{feed}
 use Rattle.frame.specs.Frame.{standard}
 use Rattle.frame.specs.declared.Origin.the-variants.{Trace}
-use Rattle.line.specs.Outcome.{outcomeOf}
-use Rattle.line.specs.Feed.{cutChunk}
-use Rattle.line.specs.Chunks.{byByte, TakenToAnswer}
-use Rattle.exports.specs.Told.{toldWritten, toldRead, toldLine}
+use Rattle.exports.specs.Told.{toldWritten, toldRead, toldLocated}
 use Rattle.exports.specs.LentLine.{lentLine}
 use Rattle.exports.proofs.FrameCalls.{ExportedWrite, wrote-standard-at, ExportedLength, measured-standard-at}
 use Rattle.exports.proofs.FrameCalls.{ExportedRead, read-at}
-use Rattle.exports.proofs.LineCalls.{ExportedLine, fed-at, fed-at-to-answer}
+use Rattle.exports.proofs.LineCalls.{ExportedFed, fed-at}
 use Rattle.trace_exports.proofs.csafe_trace_write_standard.Reads as write-standard-reads
 use Rattle.trace_exports.proofs.csafe_trace_standard_length.Reads as standard-length-reads
 use Rattle.trace_exports.proofs.csafe_trace_read.Reads as read-reads
@@ -40,14 +36,10 @@ pub trace-reads : (n : ℕ) (κs : Lfts 2) (wire out out′ : RefT (List ℕ))
 trace-reads n κs wire out out′ e = read-at n κs wire out out′ e
 
 -- A call that feeds a chunk of a trace to a line reader.
-module _ (κs : Lfts 4) (bytes bytes′ : RefT (List ℕ)) (state state′ : RefT ℕ) (input : RefT (List ℕ))
-    (taken taken′ : RefT ℕ) (n : ℕ)
-    (k : feed-reads.Learnt κs (bytes, (state, (input, (taken, tt)))) n (bytes′, (state′, (input, (taken′, tt))))) where
-  pub trace-feeds : ExportedLine Trace (lentLine (bytes .now) (state .now)) (feed (input .now)) (taken′ .now)
-      (byByte (taken′ .now) (outcomeOf (toldLine n) (bytes′ .now)))
-      (lentLine (bytes′ .now) (state′ .now))
-  trace-feeds = fed-at κs bytes bytes′ state state′ input taken taken′ n k
-
-  -- With no answer it takes its whole chunk, 65,536 bytes at the most, and with one at least a byte.
-  pub trace-fed-to-answer : TakenToAnswer (cutChunk (input .now)) (taken′ .now) (outcomeOf (toldLine n) (bytes′ .now))
-  trace-fed-to-answer = fed-at-to-answer Trace κs bytes bytes′ state state′ input taken taken′ n k
+module _ (κs : Lfts 6) (bytes bytes′ : RefT (List ℕ)) (state state′ counts counts′ : RefT ℕ) (input : RefT (List ℕ))
+    (taken taken′ position position′ : RefT ℕ) (n : ℕ)
+    (k : feed-reads.Learnt κs (bytes, (state, (counts, (input, (taken, (position, tt)))))) n
+    (bytes′, (state′, (counts′, (input, (taken′, (position′, tt))))))) where
+  pub trace-feeds : ExportedFed Trace (lentLine (bytes .now) (state .now) (counts .now)) (input .now) (taken′ .now)
+      (toldLocated n (position′ .now) (bytes′ .now)) (lentLine (bytes′ .now) (state′ .now) (counts′ .now))
+  trace-feeds = fed-at κs bytes bytes′ state state′ counts counts′ input taken taken′ position position′ n k

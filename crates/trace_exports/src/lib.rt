@@ -49,11 +49,14 @@ pub extern "C" fn csafe_trace_read(wire: &[u8], out: &mut [u8]) -> u64
 pub extern "C" fn csafe_trace_feed(
     bytes: &mut [u8; 118],
     state: &mut u64,
+    counts: &mut u64,
     input: &[u8],
     taken: &mut u64,
+    position: &mut u32,
 ) -> u64
-    ensures { λ r. ⌜ FedAs r (now (bytes .exit)) (now (state .exit)) (now (taken .exit))
-        (fedTo Trace (now (bytes .entry)) (now (state .entry)) (now (input .entry))) ⌝ }
+    ensures { λ r. ⌜ FedAs r (now (bytes .exit)) (now (state .exit)) (now (counts .exit)) (now (taken .exit))
+        (now (position .exit))
+        (fedTo Trace (now (bytes .entry)) (now (state .entry)) (now (counts .entry)) (now (input .entry))) ⌝ }
 {
-    exports::feed(Origin::Trace, bytes, state, input, taken)
+    exports::feed(Origin::Trace, bytes, state, counts, input, taken, position)
 }

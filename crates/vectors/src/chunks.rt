@@ -52,7 +52,7 @@ fn print_fed(fed: ChunkFed) -> LineReader {
     let told = answer.told;
     let next = fed.next;
     print::say(print::TAKEN, answer.taken, 0, 0);
-    lines::print_told(told, &next.bytes);
+    lines::print_told(answer.position, told, &next.bytes);
     next
 }
 
@@ -61,6 +61,6 @@ fn finish(reader: LineReader) -> LineReader {
     let answer = step.answer;
     let told = answer.told;
     print::say(print::FINISH, 0, 0, 0);
-    lines::print_told(told, &answer.contents);
+    lines::print_told(answer.position, told, &answer.contents);
     step.next
 }

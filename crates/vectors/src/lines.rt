@@ -2,19 +2,43 @@
 use crate::print;
 use crate::wire;
 use crate::words;
+use candidate::Told;
 use command::entries;
 use frame::Origin;
 use line::LineReader;
 use line::State;
 use line::Stepped;
-use line::Told;
 ghost use Prim.Native.Nat.{_<_, _≤_};
 
+// New readers.
+pub(crate) fn run_new(origin: Origin, calls: &[u8]) {
+    run_calls(LineReader::new(origin), calls);
+}
+
+// Readers for a trace that have taken so many bytes.
+pub(crate) fn run_counted(arguments: &[u8]) {
+    let count = words::number(words::nth(arguments, b' ', 0));
+    let new = LineReader::new(Origin::Trace);
+    let state = new.state;
+    let held = state.held;
+    run_calls(
+        LineReader {
+            bytes: [0u8; 118],
+            state: State {
+                held,
+                start: 0,
+                count: (count % 0x1_0000_0000) as u32,
+            },
+        },
+        words::after(arguments, b' ', 1),
+    );
+}
+
 // Both readers get each group of bytes, and a finish after it.
-pub(crate) fn run_calls(origin: Origin, calls: &[u8]) {
-    let mut reader = LineReader::new(origin);
+fn run_calls(new: LineReader, calls: &[u8]) {
+    let mut reader = new;
     let mut held = [0u8; 118];
-    let mut state = reader.state;
+    let mut state = new.state;
     let n = words::parts(calls, b'/');
     let mut k = 0;
     while k < n {
@@ -43,11 +67,12 @@ fn step_all(reader: LineReader, bytes: &[u8]) -> LineReader {
 fn print_stepped(index: usize, step: Stepped) -> LineReader {
     let answer = step.answer;
     let told = answer.told;
+    let position = answer.position;
     let contents = answer.contents;
     match told {
         Told::Nothing => {}
         _ => {
-            print_told_at(index, told, &contents);
+            print_told_by(index, position, told, &contents);
             // The zeros part the 118 bytes into one part more than there are zeros.
             print::say(
                 print::NONZERO,
@@ -68,15 +93,24 @@ fn feed_all(held: &mut [u8; 118], state: State, bytes: &[u8]) -> State {
     let mut i = 0;
     while i < bytes.len() {
         let step = line::feed_in(held, s, &bytes[i..]);
-        i = past(i, step.taken, bytes.len());
+        let taken = step.taken;
         let told = step.told;
-        print_told_at(i - 1, told, held);
+        print_told_by(answered(i, taken), step.position, told, held);
+        i = past(i, taken, bytes.len());
         s = step.state;
     }
     finish(held, s, i)
 }
 
-// The index after so many bytes more: at least one, and at most those that there are.
+// The index of the byte that is answered: the last that was taken, or where none was the first, which is refused.
+fn answered(i: usize, taken: usize) -> usize {
+    if taken == 0 {
+        return i;
+    }
+    std::num::wrapping_add_usize(i, taken - 1)
+}
+
+// The index after so many bytes more, at most those that there are. Where none was taken, no more are given.
 pub(crate) fn past(i: usize, taken: usize, end: usize) -> usize
     requires { ⌜ i < end ⌝ }
     ensures { λ r. ⌜ i < r ⌝ }
@@ -94,24 +128,34 @@ pub(crate) fn past(i: usize, taken: usize, end: usize) -> usize
 fn finish(held: &[u8; 118], state: State, index: usize) -> State {
     let last = line::finish_in(state);
     let told = last.told;
-    print_told_at(index, told, held);
+    print_told_by(index, last.position, told, held);
     last.state
 }
 
 // ---- what is told
 
-fn print_told_at(index: usize, told: Told, held: &[u8; 118]) {
+fn print_told_by(index: usize, position: u32, told: Told, held: &[u8; 118]) {
     match told {
         Told::Nothing => {}
         _ => {
-            print::say(print::AT, index, 0, 0);
-            print_told(told, held);
+            print::say(print::BY, index, 0, 0);
+            print_told(position, told, held);
         }
     }
 }
 
 // A frame's contents are the first bytes of the array.
-pub(crate) fn print_told(told: Told, held: &[u8; 118]) {
+pub(crate) fn print_told(position: u32, told: Told, held: &[u8; 118]) {
+    match told {
+        Told::Nothing => {}
+        _ => {
+            print::say(print::AT, position as usize, 0, 0);
+            print_answer(told, held);
+        }
+    }
+}
+
+fn print_answer(told: Told, held: &[u8; 118]) {
     match told {
         Told::Nothing => {}
         Told::Refused(why) => print::refusal(print::KIND_REFUSED, why),

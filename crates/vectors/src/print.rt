@@ -80,21 +80,23 @@ pub(crate) const BY_VALUE: usize = 36;
 
 pub(crate) const FEED_IN: usize = 37;
 
-pub(crate) const AT: usize = 38;
+pub(crate) const BY: usize = 38;
 
-pub(crate) const NONZERO: usize = 39;
+pub(crate) const AT: usize = 39;
 
-pub(crate) const TAKEN: usize = 40;
+pub(crate) const NONZERO: usize = 40;
 
-pub(crate) const FINISH: usize = 41;
+pub(crate) const TAKEN: usize = 41;
 
-pub(crate) const LENGTH: usize = 42;
+pub(crate) const FINISH: usize = 42;
 
-pub(crate) const NO_LENGTH: usize = 43;
+pub(crate) const LENGTH: usize = 43;
 
-pub(crate) const UNKNOWN: usize = 44;
+pub(crate) const NO_LENGTH: usize = 44;
 
-pub(crate) const LINE_END: usize = 45;
+pub(crate) const UNKNOWN: usize = 45;
+
+pub(crate) const LINE_END: usize = 46;
 
 // Prints a form. In it #, $ and & stand for the first, second and third number, % and ^ for the two digits of the
 // first and of the second. The checker's work grows with the calls and the literals of each function, so all forms
@@ -107,7 +109,7 @@ pub(crate) fn say(form: usize, a: usize, b: usize, c: usize) {
         |%@$+&:|%@$+&{|}|>#| nth=| by-steps=| found=| next=#\
         |toggle:#,previous:$,state:&,items:[|],written:| byte=| results=| states=\
         | workout=|distance:#,split:$,watts:&,written:|time:#,split:$,watts:&,written:\
-        | hold=| release=| stop=| bytes=|done| step:| feed_in:| at=#| nonzero=#| taken=#| finish:\
+        | hold=| release=| stop=| bytes=|done| step:| feed_in:| by=#| at=#| nonzero=#| taken=#| finish:\
         | length=#| length=refused:#|?|\n";
     fill(words::nth(forms, b'|', form), a, b, c);
 }

@@ -12,25 +12,36 @@ feed-in-requires c κs = search needs
 
 pack-state-requires : tie.Need-pack-state-requires
 pack-state-requires c κs =
-    let a = c .before .before .before .before .before .before .args in
-    fed-len-fits (a .origin) _ (a .input .now) _ _ _ (c .before .feed-in .ensures) (a .state .now)
-    (omega (arith, c .before .before .before .before .row-known))
-    (c .before .before .before .state-in .ensures)
+    let s = c .before .before .before in
+    let k = s .before .before in
+    let a = k .before .before .args in
+    fed-len-fits (a .origin) _ (a .input .now) _ _ _ (c .before .feed-in .ensures) (a .state .now) (a .counts .now)
+    (omega (arith, k .row-known)) (s .state-in .ensures)
+
+pack-counts-requires : tie.Need-pack-counts-requires
+pack-counts-requires c κs = search needs
 
 of-told-requires : tie.Need-of-told-requires
 of-told-requires c κs =
-    let f = c .before .before in
-    fed-within (f .before .before .before .before .before .args .origin) _ (f .before .before .before .before .before .args .input .now) _ _ _ (f .feed-in .ensures)
+    let f = c .before .before .before in
+    let a = f .before .before .before .before .before .before .args in
+    fed-within (a .origin) _ (a .input .now) _ _ _ (f .feed-in .ensures)
 
 returns : tie.Need-returns
 returns c =
-    let f = c .before .before .before in
-    let a = f .before .before .before .before .before .args in
-    fed-as (a .origin) _ (a .input .now) _ _ _ (f .feed-in .ensures) _ (a .state .now) _
-    (f .before .before .state-in .ensures)
-    (c .before .pack-state .ensures) (c .of-told .ensures)
+    let f = c .before .before .before .before in
+    let s = f .before .before in
+    let a = s .before .before .before .before .args in
+    fed-as (a .origin) _ (a .input .now) _ _ _ (f .feed-in .ensures) _ (a .state .now) (a .counts .now) _ _
+    (s .state-in .ensures) (c .before .before .pack-state .ensures) (c .before .pack-counts .ensures) (c .of-told .ensures)
 
 pub feed-spec : {M : Type 1} → statement M
 feed-spec =
     tie.close
-    (tie.spec state-in-requires feed-in-requires pack-state-requires of-told-requires returns)
+    (tie.spec
+    state-in-requires
+    feed-in-requires
+    pack-state-requires
+    pack-counts-requires
+    of-told-requires
+    returns)

@@ -1,23 +1,42 @@
-use mathlib.Core.Path.{_≡_, sym, subst}
-use Prim.Native.Nat.{ℕ, _≤_}
-use mathlib.Core.List.{List}
+use mathlib.Core.Path.{_≡_, sym}
+use native.Mathlib.Omega.{arith}
+use Prim.Native.Nat.{_-_, _≤_}
 use lib.ListN.{length, take}
 use lib.Seq.{length-take-le}
-use Rattle.lists.proofs.Lists.{take-lesser}
-use Rattle.line.specs.Reader.{lentReader}
-use Rattle.line.specs.Feed.{cutChunk, feedOf, ChunkStepIs}
+use Rattle.line.specs.Rowing.{mostBytes}
+use Rattle.line.specs.Feed.{cutChunk}
+use Rattle.line.proofs.FeedLaws.{part-cut, part-fits, chunk-advances}
 use borrow.Author.Needs.{needs}
 use Rattle.line.proofs.feed_in.Statement.{statement}
 use Rattle.line.proofs.feed_in.Tie as tie
 
--- the part that is fed is the chunk, cut
-part : (t : tie.After-lesser)
-    → (take (t .lesser .result) (t .before .before .args .chunk .now) ≡ cutChunk (t .before .before .args .chunk .now))
-    × (t .lesser .result ≤ length (t .before .before .args .chunk .now))
-part t = take-lesser _ _ _ (t .lesser .ensures)
+sub-room : tie.Need-sub-room
+sub-room c = search needs
+
+refuse-requires : tie.Need-refuse-requires
+refuse-requires c κs = omega (arith, c .if1 .taken, c .before .before .before .good)
+
+returns : tie.Need-returns
+returns c = c .refuse .ensures _
 
 lesser-requires : tie.Need-lesser-requires
 lesser-requires c κs = search needs
+
+cast-lesser : tie.Need-cast-lesser
+cast-lesser c = search needs
+
+lesser-requires-2 : tie.Need-lesser-requires-2
+lesser-requires-2 c κs = search needs
+
+-- the part that is fed is the chunk, cut
+part : (t : tie.After-lesser2)
+    → (take (t .lesser2 .result) (t .before .before .before .before .before .args .chunk .now)
+    ≡ take (mostBytes - t .before .before .before .before .before .args .state .count)
+    (cutChunk (t .before .before .before .before .before .args .chunk .now)))
+    × (t .lesser2 .result ≤ length (t .before .before .before .before .before .args .chunk .now))
+part t =
+    let a = t .before .before .before .before .before .args in
+    part-cut (a .chunk .now) (mostBytes - a .state .count) _ _ (t .before .lesser .ensures) (t .lesser2 .ensures)
 
 slice-aggregate-feed-all : tie.Need-slice-aggregate-feed-all
 slice-aggregate-feed-all c = sym (length-take-le _ _ (part (c .before .before) .1))
@@ -25,12 +44,39 @@ slice-aggregate-feed-all c = sym (length-take-le _ _ (part (c .before .before) .
 feed-all-requires : tie.Need-feed-all-requires
 feed-all-requires c κs = search needs
 
-returns : tie.Need-returns
-returns c =
+advanced-requires : tie.Need-advanced-requires
+advanced-requires c κs =
     let t = c .before .before .before in
-    let a = t .before .before .args in
-    subst (λ (s : List ℕ). ChunkStepIs (c .feed-all .last .0) (c .feed-all .result)
-    (feedOf (lentReader (a .bytes .now) (a .state)) s)) (part t .0) (c .feed-all .ensures)
+    let i = t .before .before in
+    let p = i .before .before .before in
+    let a = p .args in
+    let k =
+    part-fits (a .bytes .now) _ (a .state) (a .chunk .now) (t .lesser2 .result) (omega (arith, i .if1 .left, p .good))
+    (part t .0) (c .feed-all .result) (c .feed-all .ensures .0) (c .feed-all .ensures .1) in
+    (k .0, (k .1, k .2))
+
+returns-2 : tie.Need-returns-2
+returns-2 c =
+    let f = c .before in
+    let t = f .before .before .before in
+    let i = t .before .before in
+    let p = i .before .before .before in
+    let a = p .args in
+    chunk-advances (a .bytes .now) _ (a .state) (a .chunk .now) (t .lesser2 .result)
+    (omega (arith, i .if1 .left, p .good))
+    (part t .0) (f .feed-all .result) (f .feed-all .ensures .0) (f .feed-all .ensures .1) _ (c .advanced .ensures)
 
 pub feed-in-spec : {M : Type 1} → statement M
-feed-in-spec = tie.close (tie.spec lesser-requires slice-aggregate-feed-all feed-all-requires returns)
+feed-in-spec =
+    tie.close
+    (tie.spec
+    sub-room
+    refuse-requires
+    returns
+    lesser-requires
+    cast-lesser
+    lesser-requires-2
+    slice-aggregate-feed-all
+    feed-all-requires
+    advanced-requires
+    returns-2)

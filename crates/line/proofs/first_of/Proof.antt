@@ -5,7 +5,8 @@ use mathlib.Core.List.{_++_}
 use Prim.Native.Nat.{_-_}
 use lib.ListN.{length, take, replicate, length-set}
 use borrow.Author.Needs.{needs}
-use Rattle.line.specs.Outcome.{capacity, padded}
+use Rattle.candidate.specs.Outcome.{capacity}
+use Rattle.line.specs.Answers.{padded}
 use Rattle.line.proofs.ValueLaws.{padded-none, padded-more, padded-all}
 
 abbrev Inv-loop : tie.InvT-loop

@@ -1,55 +1,49 @@
-use borrow.Author.Tests.{eq-eqb, ne-eqb}
+use mathlib.Core.Path.{sym, subst}
+use Prim.Native.Nat.{_+_}
+use native.Mathlib.Omega.{arith}
 use borrow.Author.Needs.{needs}
+use Rattle.candidate.specs.Holder.{holder, stepHeld}
+use Rattle.line.specs.Reader.{lentReader, LentStepIs}
+use Rattle.line.proofs.StepLaws.{step-taken, step-full, located-step}
 use Rattle.line.proofs.step_in.Statement.{statement}
 use Rattle.line.proofs.step_in.Tie as tie
 
-restart-requires : tie.Need-restart-requires
-restart-requires c κs = search needs
+full-requires : tie.Need-full-requires
+full-requires c κs = search needs
 
 returns : tie.Need-returns
-returns c = simp (eq-eqb _ _ (c .before .if1 .taken)) (c .restart .ensures _)
+returns c =
+    let i = c .before in
+    let a = i .before .before .args in
+    subst (LentStepIs _ _) (sym (step-full (lentReader (a .bytes .now) (a .state)) (a .b) (omega (arith, i .if1 .taken))))
+    (c .full .ensures (a .bytes .now))
 
-restart-requires-2 : tie.Need-restart-requires-2
-restart-requires-2 c κs = search needs
+step-in-requires : tie.Need-step-in-requires
+step-in-requires c κs = search needs
+
+told-at-requires : tie.Need-told-at-requires
+told-at-requires c κs = search needs
+
+start-after-requires : tie.Need-start-after-requires
+start-after-requires c κs = search needs
+
+add-t14 : tie.Need-add-t14
+add-t14 c = search needs
 
 returns-2 : tie.Need-returns-2
 returns-2 c =
-    simp (ne-eqb _ _ (c .before .before .if1 .left), eq-eqb _ _ (c .before .if2 .taken)) (c .restart2 .ensures _)
-
-stop-requires : tie.Need-stop-requires
-stop-requires c κs = search needs
-
-returns-3 : tie.Need-returns-3
-returns-3 c =
-    simp (
-      ne-eqb _ _ (c .before .before .before .before .if1 .left),
-      ne-eqb _ _
-          (c .before .before .before .if2 .left),
-      eq-eqb _ _ (c .before .before .if3 .taken),
-    )
-    (c .stop .ensures (c .before .before .before .before .before .args .b))
-
-grow-requires : tie.Need-grow-requires
-grow-requires c κs = search needs
-
-returns-4 : tie.Need-returns-4
-returns-4 c =
-    simp (
-      ne-eqb _ _ (c .before .before .before .before .if1 .left),
-      ne-eqb _ _
-          (c .before .before .before .if2 .left),
-      ne-eqb _ _ (c .before .before .if3 .left),
-    ) (c .grow .ensures)
+    let t = c .before in
+    let k = t .before .before in
+    let i = k .before .before in
+    let p = i .before .before in
+    let a = p .args in
+    let r = lentReader (a .bytes .now) (a .state) in
+    let h = stepHeld (holder (a .bytes .now) (a .state .held)) (a .b) in
+    subst (LentStepIs _ _) (sym (step-taken r (a .b) (omega (arith, i .if1 .left, p .good))))
+    (located-step _ (a .state .start) _ (a .state .count + 1) (k .step-in .result) h (k .step-in .ensures) _ _
+    (t .told-at .ensures) (c .start-after .ensures))
 
 pub step-in-spec : {M : Type 1} → statement M
 step-in-spec =
     tie.close
-    (tie.spec
-    restart-requires
-    returns
-    restart-requires-2
-    returns-2
-    stop-requires
-    returns-3
-    grow-requires
-    returns-4)
+    (tie.spec full-requires returns step-in-requires told-at-requires start-after-requires add-t14 returns-2)

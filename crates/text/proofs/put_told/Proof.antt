@@ -2,7 +2,7 @@ use mathlib.Core.Path.{ap}
 use native.Mathlib.Omega.{arith}
 use Rattle.frame.specs.Answers.{frameRead}
 use Rattle.text.specs.Lines.{standardBody, extendedBody}
-use Rattle.text.proofs.Writing.{wrote-nothing, wrote-as, next}
+use Rattle.text.proofs.Writing.{part-fits, wrote-nothing, wrote-as, next}
 use borrow.Author.Needs.{needs}
 use Rattle.text.proofs.put_told.Statement.{statement}
 use Rattle.text.proofs.put_told.Tie as tie
@@ -41,7 +41,10 @@ part-requires-2 : tie.Need-part-requires-2
 part-requires-2 c κs = search needs
 
 put-extended-requires : tie.Need-put-extended-requires
-put-extended-requires c κs = search needs
+put-extended-requires c κs =
+    let start = c .before .before .before .before .before .before .before .before .before .before .before in
+    let len = c .before .before .before .before .before .before .before .told3 .given .0 .1 .1 .0 in
+    (part-fits (start .args .contents .now) len (c .before .part2 .ensures .holds) (start .pre .0), omega arith)
 
 returns : tie.Need-returns
 returns c =

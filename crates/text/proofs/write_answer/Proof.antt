@@ -18,7 +18,7 @@ array-share-prefix-line c = search needs
 slice-aggregate-write-bytes : tie.Need-slice-aggregate-write-bytes
 slice-aggregate-write-bytes c =
     let p = c .before .before .put-told in
-    sym (length-take-le (p .result) (p .last .1 .1 .1 .0) (omega (arith, p .ensures .1, p .kept .1 .1 .1 .0)))
+    sym (length-take-le (p .result) (p .last .1 .1 .1 .1 .0) (omega (arith, p .ensures .1, p .kept .1 .1 .1 .1 .0)))
 
 write-bytes-requires : tie.Need-write-bytes-requires
 write-bytes-requires c κs = search needs

@@ -2,7 +2,8 @@ use Prim.Native.Nat.{_+_, _-_}
 use lib.ListN.{length}
 use borrow.Rule.Slice.PartMut.{putMid}
 use Rattle.answer.specs.Draft.{writtenMeans}
-use Rattle.line.specs.Outcome.{toldMeans, outcomeOf}
+use Rattle.candidate.specs.Outcome.{toldMeans}
+use Rattle.line.specs.Answers.{locatedOutcome}
 use Rattle.text.specs.Lines.{callLine}
 use Rattle.text.specs.Writing.{Wrote}
 use native.Mathlib.Omega.{arith}
@@ -39,19 +40,45 @@ length-of-requires c κs = search needs
 
 -- the line of the answer
 line : (c : tie.After-length-of)
-    → Wrote (c .before .before .before .before .before .before .before .before .before .before .before .before .before .before .before .args .out .now) (c .before .before .before .before .before .before .before .before .before .before .before .before .before .before .before .args .at)
-    (callLine (c .before .before .before .before .before .next-number .result) (outcomeOf (toldMeans (c .before .before .before .before .before .before .before .before .before .before .feed .result .step .told)) (c .before .before .before .before .before .before .before .before .before .before .feed .last .0)))
-    (putMid (c .before .before .before .before .before .before .before .before .before .before .before .before .before .before .before .args .at) (length (c .before .before .before .before .before .before .before .before .before .before .before .before .before .before .before .args .out .now) - c .before .before .before .before .before .before .before .before .before .before .before .before .before .before .before .args .at) (c .before .before .before .before .before .before .before .before .before .before .before .before .before .before .before .args .out .now) (c .before .before .before .write-answer .last .1 .1 .1 .0))
-    (c .before .before .before .before .before .before .before .before .before .before .before .before .before .before .before .args .at + c .length-of .result)
+    → Wrote (c .before .before .before .before .before .before .before .before .before .before .before .before
+    .before .before .args .out .now) (c .before .before .before .before .before .before .before .before .before
+    .before .before .before .before .before .args .at)
+    (callLine (c .before .before .before .before .before .next-number .result)
+    (locatedOutcome (toldMeans (c .before .before .before .before .before .before .before .before .before .feed
+    .result .step .told)) (c .before .before .before .before .before .before .before .before .before .feed .result
+    .step .position)
+    (c .before .before .before .before .before .before .before .before .before .feed .last .0)))
+    (putMid (c .before .before .before .before .before .before .before .before .before .before .before .before
+    .before .before .args .at) (length (c .before .before .before .before .before .before .before .before .before
+    .before .before .before .before .before .args .out .now) - c .before .before .before .before .before .before
+    .before .before .before .before .before .before .before .before .args .at) (c .before .before .before .before
+    .before .before .before .before .before .before .before .before .before .before .args .out .now)
+    (c .before .before .before .write-answer .last .1 .1 .1 .1 .0))
+    (c .before .before .before .before .before .before .before .before .before .before .before .before .before
+    .before .args .at + c .length-of .result)
 line c =
     let w = c .before .before .before .write-answer in
-    let start = c .before .before .before .before .before .before .before .before .before .before .before .before .before .before .before in
-    part-wrote _ (start .args .out .now) (w .last .1 .1 .1 .0) (writtenMeans (w .result)) (start .args .at)
-    (c .length-of .result) (omega (arith, w .ensures .1 .1, start .pre)) (w .ensures .0, w .ensures .1 .0)
+    let start = c .before .before .before .before .before .before .before .before .before .before .before .before
+    .before .before in
+    part-wrote _ (start .args .out .now) (w .last .1 .1 .1 .1 .0) (writtenMeans (w .result)) (start .args .at)
+    (c .length-of .result) (omega (arith, w .ensures .1 .1, start .pre .1)) (w .ensures .0, w .ensures .1 .0)
     (c .length-of .ensures)
 
-add-t20 : tie.Need-add-t20
-add-t20 c = omega (arith, line c .ends, c .before .before .before .write-answer .ensures .1 .1, c .before .before .before .before .before .before .before .before .before .before .before .before .before .before .before .pre)
+at-least-one-requires : tie.Need-at-least-one-requires
+at-least-one-requires c κs = search needs
+
+add-t22 : tie.Need-add-t22
+add-t22 c =
+    let l = c .before in
+    omega (
+      arith,
+      line l .ends,
+      l .before .before .before .write-answer .ensures .1 .1,
+      l .before .before .before
+          .before .before .before .before .before .before .before .before .before .before .before .pre .1,
+      l .before
+          .before .before .before .before .before .before .before .before .before .before .before .before .before .good,
+    )
 
 frame-count-requires : tie.Need-frame-count-requires
 frame-count-requires c κs = search needs
@@ -73,19 +100,21 @@ same-length c = search needs
 
 returns : tie.Need-returns
 returns c =
-    let p = c .before .before .before .before .before in
+    let o = c .before .before .before .before .before in
+    let p = o .before in
     let n = p .before .before .before .before .before in
-    let f = n .before .before .before .before .before in
+    let f = n .before .before .before .before in
     let start = f .before .before .before .before .before in
-    advances (start .args .bytes .now) (start .args .t) (start .args .rest .now) (f .feed .last .0)
+    advances (start .args .bytes .now) (start .args .t) (start .args .rest .now) (f .feed .last .0) (start .pre .0)
     (f .feed .result .step) (f .feed .ensures .0) (counted start) (n .next-number .result)
     (c .before .before .before .wrapping-add-u64 .result) (c .before .wrapping-add-u642 .result)
     (c .wrapping-add-u643 .result)
     (c .before .before .before .before .frame-count .result) (c .before .before .refused-count .result)
-    (f .feed .result .strays) (n .next-number .ensures) (c .before .before .before .wrapping-add-u64 .ensures)
+    (f .feed .result .strays) (o .at-least-one .result) (n .next-number .ensures) (c .before .before .before
+    .wrapping-add-u64 .ensures)
     (c .before .before .before .before .frame-count .ensures) (c .before .wrapping-add-u642 .ensures)
     (c .before .before .refused-count .ensures)
-    (c .wrapping-add-u643 .ensures) (f .feed .ensures .1) (line p)
+    (c .wrapping-add-u643 .ensures) (f .feed .ensures .1) (o .at-least-one .ensures) (line p)
     (omega (arith, line p .ends, p .before .before .before .write-answer .ensures .1 .1))
 
 pub advance-spec : {M : Type 1} → statement M
@@ -99,7 +128,8 @@ advance-spec =
     part-write-answer-end
     write-answer-requires
     length-of-requires
-    add-t20
+    at-least-one-requires
+    add-t22
     frame-count-requires
     wrapping-add-u64-requires
     refused-count-requires

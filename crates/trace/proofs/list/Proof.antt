@@ -1,5 +1,5 @@
 use borrow.Author.Needs.{needs}
-use mathlib.Core.Path.{_≡_, refl, _∙_, subst}
+use mathlib.Core.Path.{_≡_, refl, ap, _∙_, subst}
 use mathlib.Core.List.{List}
 use Prim.Native.Nat.{ℕ, _+_, _-_, _≤_}
 use native.Mathlib.Omega.{arith}
@@ -50,7 +50,17 @@ part-advance-end c = search needs
 advance-requires : tie.Need-advance-requires Inv-loop μ-loop
 advance-requires c κs =
     let l = c .before .before .before .before .before .loop in
-    omega (arith, c .before .before .before .if1 .left, l .inv .1, l .inv .2)
+    let chunk = c .before .before .before .before .before .before .before .before .before .before .before .args
+    .chunk .now in (
+      omega (
+        arith,
+        ap length (rest-part chunk (l .i)),
+        length-drop (l .i) chunk,
+        c .before .before .before .before
+            .loop-test .taken,
+      ),
+      omega (arith, c .before .before .before .if1 .left, l .inv .1, l .inv .2),
+    )
 
 -- the bytes that are taken are the next of the chunk
 advanced : (c : tie.After-advance Inv-loop μ-loop)
@@ -82,7 +92,14 @@ fits c =
     )
 
 add-i : tie.Need-add-i Inv-loop μ-loop
-add-i c = record { fits = omega (arith, fits (c .before .before .before .before)) }
+add-i c = record {
+  fits = omega (
+    arith,
+    fits (c .before .before .before .before),
+    c .before .before .before .before
+        .before .before .before .before .before .before .before .before .before .before .before .before .good,
+  );
+}
 
 loop-less : tie.Need-loop-less Inv-loop μ-loop
 loop-less c =
@@ -91,7 +108,7 @@ loop-less c =
     let chunk = t .before .before .before .before .before .before .before .before .before .before .before .before .args
     .chunk .now in
     let below = t .before .before .before .before .before .loop-test .taken in
-    omega (arith, below, fits t, advanced t .some (omega (arith, below, length-drop (l .i) chunk)))
+    omega (arith, below, fits t, advanced t .some)
 
 loop-again : tie.Need-loop-again Inv-loop μ-loop
 loop-again c =

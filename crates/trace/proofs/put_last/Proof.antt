@@ -1,7 +1,8 @@
 use Prim.Native.Nat.{_+_, _≤_}
 use lib.ListN.{length}
 use Rattle.answer.specs.Draft.{writtenMeans}
-use Rattle.line.specs.Outcome.{toldMeans, outcomeOf}
+use Rattle.candidate.specs.Outcome.{toldMeans}
+use Rattle.line.specs.Answers.{locatedOutcome}
 use Rattle.text.specs.Lines.{callLine}
 use Rattle.text.specs.Writing.{Wrote, lineRoom}
 use native.Mathlib.Omega.{arith}
@@ -12,9 +13,6 @@ use Rattle.trace.proofs.put_last.Tie as tie
 
 finish-in-requires : tie.Need-finish-in-requires
 finish-in-requires c κs = search needs
-
-slice-aggregate-write-answer : tie.Need-slice-aggregate-write-answer
-slice-aggregate-write-answer c = search needs
 
 next-number-requires : tie.Need-next-number-requires
 next-number-requires c κs = search needs
@@ -41,25 +39,24 @@ wrapping-add-u64-requires-2 c κs = search needs
 line : (k : tie.After-length-of)
     → Wrote (k .before .before .before .before .before .before .before .before .before .before .before .before .args
     .out .now) 0
-    (callLine (k .before .before .before .before .before .next-number .result)
-    (outcomeOf (toldMeans (k .before .before .before .before .before .before .before .finish-in .result .told)) (k
-    .before .before .before .before .before .before .before .before .before .before .before .before .args .s .reader
-    .bytes)))
-    (k .before .before .before .write-answer .last .1 .1 .1 .0) (k .length-of .result)
+    (callLine (k .before .before .before .before .before .before .next-number .result)
+    (locatedOutcome (toldMeans (k .before .before .before .before .before .before .before .finish-in .result .told))
+    (k .before .before .before .before .before .before .before .finish-in .result .position) (k .before .before
+    .before .before .before .before .before .before .before .before .before .before .args .s .reader .bytes)))
+    (k .before .before .before .write-answer .last .1 .1 .1 .1 .0) (k .length-of .result)
 line k =
     let w = k .before .before .before .write-answer in
     answered-wrote _ (k .before .before .before .before .before .before .before .before .before .before .before
-    .before .args .out .now) (w .last .1 .1 .1 .0) (writtenMeans (w .result)) (k .length-of .result)
+    .before .args .out .now) (w .last .1 .1 .1 .1 .0) (writtenMeans (w .result)) (k .length-of .result)
     (omega (
       arith,
       w .ensures .1 .1,
-      k .before .before .before .before .before .before .before .before .before .before
-          .before .before .pre,
+      k .before .before .before .before .before .before .before .before .before .before .before .before .pre,
     )) (w .ensures .0, w .ensures .1 .0) (k .length-of .ensures)
 
 within : (k : tie.After-length-of)
     → (k .length-of .result ≤ lineRoom)
-    × (k .length-of .result + lineRoom ≤ length (k .before .before .before .write-answer .last .1 .1 .1 .0))
+    × (k .length-of .result + lineRoom ≤ length (k .before .before .before .write-answer .last .1 .1 .1 .1 .0))
 within k =
     let w = k .before .before .before .write-answer in (
       omega (arith, line k .ends, w .ensures .1 .1),
@@ -67,9 +64,8 @@ within k =
         arith,
         line k .ends,
         w .ensures .1 .1,
-        w .kept .1 .1 .1 .0,
-        k .before .before .before .before .before
-            .before .before .before .before .before .before .before .pre,
+        w .kept .1 .1 .1 .1 .0,
+        k .before .before .before .before .before .before .before .before .before .before .before .before .pre,
       ),
     )
 
@@ -118,19 +114,18 @@ returns c =
     let y = c .before .before .before .before .before .wrapping-add-u642 in
     let fc = c .before .before .before .before .before .before .before .before .frame-count in
     let rc = c .before .before .before .before .before .before .refused-count in
-    let q = part-wrote _ (k .before .before .before .write-answer .last .1 .1 .1 .0) (t .last .1 .1 .1 .0)
+    let q = part-wrote _ (k .before .before .before .write-answer .last .1 .1 .1 .1 .0) (t .last .1 .1 .1 .0)
     (writtenMeans (t .result))
     (k .length-of .result) (c .length-of2 .result) (omega (arith, within k, t .ensures .1 .1))
     (t .ensures .0, t .ensures .1 .0) (c .length-of2 .ensures) in (
-      last-wrote s (f .result) (k .before .before .before .before .before .next-number .result) (x .result) (y
+      last-wrote s (f .result) (k .before .before .before .before .before .before .next-number .result) (x .result) (y
           .result) (fc .result) (rc .result)
-          (f .ensures (s .reader .bytes)) (k .before .before .before .before .before .next-number .ensures) (x
+          (f .ensures (s .reader .bytes)) (k .before .before .before .before .before .before .next-number .ensures) (x
           .ensures) (fc .ensures) (y .ensures)
           (rc .ensures) (line k) q (omega (
             arith,
             within k,
-            k .before .before .before .before .before .before .before
-                .before .before .before .before .before .pre,
+            k .before .before .before .before .before .before .before .before .before .before .before .before .pre,
           )),
       omega (arith, within k, totals-fit c),
     )
@@ -140,7 +135,6 @@ put-last-spec =
     tie.close
     (tie.spec
     finish-in-requires
-    slice-aggregate-write-answer
     next-number-requires
     write-answer-requires
     length-of-requires

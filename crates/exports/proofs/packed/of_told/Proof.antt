@@ -1,8 +1,8 @@
 use mathlib.Core.Path.{subst}
 use native.Mathlib.Omega.{arith}
 use borrow.Author.Needs.{needs}
-use Rattle.line.specs.declared.Told.{Told}
-use Rattle.line.specs.Outcome.{toldMeans, ContentsFit}
+use Rattle.candidate.specs.declared.Told.{Told}
+use Rattle.candidate.specs.Outcome.{toldMeans, ContentsFit}
 use Rattle.exports.proofs.packed.of_told.Statement.{statement}
 use Rattle.exports.proofs.packed.of_told.Tie as tie
 

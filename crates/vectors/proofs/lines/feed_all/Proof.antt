@@ -4,9 +4,10 @@ use borrow.Author.Needs.{needs}
 use Rattle.vectors.proofs.lines.feed_all.Statement.{statement}
 use Rattle.vectors.proofs.lines.feed_all.Tie as tie
 use Rattle.line.proofs.feed_in.Reads as feed-in-reads
+use Rattle.vectors.proofs.lines.answered.Reads as answered-reads
 use Rattle.vectors.proofs.lines.finish.Reads as finish-reads
 use Rattle.vectors.proofs.lines.past.Reads as past-reads
-use Rattle.vectors.proofs.lines.print_told_at.Reads as print-told-at-reads
+use Rattle.vectors.proofs.lines.print_told_by.Reads as print-told-by-reads
 use Rattle.vectors.proofs.print.say.Reads as say-reads
 
 abbrev Inv-loop : tie.InvT-loop
@@ -36,11 +37,11 @@ feed-in-requires c κs = search needs
 past-requires : tie.Need-past-requires Inv-loop μ-loop
 past-requires c κs = search needs
 
-sub-print-told-at : tie.Need-sub-print-told-at Inv-loop μ-loop
-sub-print-told-at c = search needs
+answered-requires : tie.Need-answered-requires Inv-loop μ-loop
+answered-requires c κs = search needs
 
-print-told-at-requires : tie.Need-print-told-at-requires Inv-loop μ-loop
-print-told-at-requires c κs = search needs
+print-told-by-requires : tie.Need-print-told-by-requires Inv-loop μ-loop
+print-told-by-requires c κs = search needs
 
 loop-less : tie.Need-loop-less Inv-loop μ-loop
 loop-less c = search needs
@@ -66,9 +67,9 @@ feed-all-spec =
     part-feed-in-start
     part-feed-in-end
     feed-in-requires
+    answered-requires
+    print-told-by-requires
     past-requires
-    sub-print-told-at
-    print-told-at-requires
     loop-less
     loop-again
     finish-requires

@@ -1,10 +1,10 @@
 use Prim.Native.Nat.{_≤_, _-_}
+use native.Mathlib.Omega.{arith}
 use borrow.Author.Needs.{needs}
 use Rattle.vectors.proofs.lines.run_calls.Statement.{statement}
 use Rattle.vectors.proofs.lines.run_calls.Tie as tie
 use Rattle.command.proofs.entries.part.Reads as part-reads
 use Rattle.io.proofs.buffer.Reads as buffer-reads
-use Rattle.line.proofs.LineReader.new.Reads as new-reads
 use Rattle.vectors.proofs.lines.feed_all.Reads as feed-all-reads
 use Rattle.vectors.proofs.lines.step_all.Reads as step-all-reads
 use Rattle.vectors.proofs.words.bytes.Reads as bytes-reads
@@ -16,9 +16,6 @@ Inv-loop calls reader₀ held₀ state₀ n k₀ reader held state k = k ≤ n
 
 abbrev μ-loop : tie.MeasureT-loop
 μ-loop calls reader₀ held₀ state₀ n k₀ reader held state k = n - k
-
-new-requires : tie.Need-new-requires Inv-loop μ-loop
-new-requires c κs = search needs
 
 parts-requires : tie.Need-parts-requires Inv-loop μ-loop
 parts-requires c κs = search needs
@@ -57,7 +54,9 @@ feed-all-requires : tie.Need-feed-all-requires Inv-loop μ-loop
 feed-all-requires c κs = search needs
 
 add-k : tie.Need-add-k Inv-loop μ-loop
-add-k c = search needs
+add-k c =
+    let t = c .before .before .before .before .before .before .before .before .before .before .before .before in
+    record { fits = omega (arith, t .loop-test .taken, t .before .before .parts) }
 
 loop-less : tie.Need-loop-less Inv-loop μ-loop
 loop-less c = search needs
@@ -74,7 +73,6 @@ run-calls-spec =
     (tie.spec
     Inv-loop
     μ-loop
-    new-requires
     parts-requires
     loop-holds
     buffer-requires
