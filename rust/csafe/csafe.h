@@ -39,6 +39,9 @@ extern "C" {
 /* The most bytes that one call of a line reader takes. */
 #define CSAFE_CHUNK_LIMIT 65536
 
+/* The most bytes that a line reader takes since it was new or finished last. */
+#define CSAFE_LINE_LIMIT 4294967295
+
 /* The bytes of a workout's contents. */
 #define CSAFE_WORKOUT_LEN 23
 
@@ -68,6 +71,7 @@ enum {
     CSAFE_NOT_HOLDER = 11,    /* the token is 0 or not the holder's, or the address is free */
     CSAFE_OUT_OF_LIMITS = 12, /* a number of the workout is outside its limits */
     CSAFE_ZERO_TOKEN = 14,    /* the token is 0 */
+    CSAFE_FULL = 16,          /* the line reader takes no more bytes before it is finished */
     CSAFE_UNNAMED = 17,       /* a standard frame names no sender, so a live line takes none */
     CSAFE_BAD_TABLE = 18      /* the lease table is not 2,048 bytes long */
 };
@@ -150,34 +154,50 @@ uint64_t csafe_extended_length(uint8_t to, uint8_t from, const uint8_t *contents
 uint64_t csafe_read(const uint8_t *wire, size_t wire_len, uint8_t *out, size_t out_len);
 
 /*
- * Feeds bytes of a live line to a reader up to the first that is answered, and sets `taken` to how many were taken.
+ * Feeds bytes of a live line to a reader up to the first that is answered, and sets `taken` to how many were taken and
+ * `position` to the position of the answer.
  *
- * A reader is CSAFE_LINE_LEN bytes and a number that goes with them, its state. A new one has state 0. Any bytes and
- * any number are a reader. The number says how many of the bytes are held, and more than there are counts as all. No
- * call holds a flag. Where the caller's own bytes have one among those held, the candidate is refused at its stop flag
- * as CSAFE_TRUNCATED.
+ * A reader is CSAFE_LINE_LEN bytes and two numbers that go with them, its state and its counts. A new one has 0 for
+ * both. Any bytes and any numbers are a reader. The state says how many of the bytes are held, and more than there are
+ * counts as all. The counts have
+ *
+ *   bits  0 to 31   the position of the start flag of the open candidate
+ *   bits 32 to 63   how many bytes were taken since the reader was new or finished last
+ *
+ * No call holds a flag. Where the caller's own bytes have one among those held, the candidate is refused at its stop
+ * flag as CSAFE_TRUNCATED.
  *
  * A candidate for a frame begins at a start flag. At its stop flag it is answered as csafe_read answers a slice, its
  * contents being the first bytes of the reader, or refused. Where nothing is told, the kind is CSAFE_NOTHING and all
- * bytes were taken, or the first CSAFE_CHUNK_LIMIT of them. The next call has to start right after the last byte taken.
- * However a stream is cut into calls, its answers are those of its bytes fed one by one.
+ * bytes were taken, or the first CSAFE_CHUNK_LIMIT of them, or those up to CSAFE_LINE_LIMIT. The next call has to start
+ * right after the last byte taken. However a stream is cut into calls, its answers are those of its bytes fed one by
+ * one.
+ *
+ * The position of an answer, a refusal too, is that of the candidate's start flag: how many bytes the reader had taken
+ * before it since it was new or finished last. It is 0 where nothing is told.
  *
  * An input longer than CSAFE_CHUNK_LIMIT is cut to its first CSAFE_CHUNK_LIMIT bytes, so where nothing is told of
  * those, that many were taken. Of an empty input none are taken and nothing is told.
  *
+ * A reader takes CSAFE_LINE_LIMIT bytes. A call stops before the byte that would be one more, and tells nothing of it.
+ * Where that is its first byte, the call is refused as CSAFE_FULL, whatever the byte is. Then `taken` and `position`
+ * are 0, and the reader stays as it is. It takes bytes again after csafe_finish.
+ *
+ * Refused at the first byte, before any other: CSAFE_FULL where the reader has taken CSAFE_LINE_LIMIT bytes.
  * Refused where a start flag comes before the stop flag: CSAFE_TRUNCATED, and the flag begins the next candidate.
  * Refused at the stop flag, in this order: CSAFE_TOO_LONG, CSAFE_BAD_ESCAPE, CSAFE_TOO_SHORT, CSAFE_BAD_CHECKSUM,
  * CSAFE_UNNAMED.
  */
-uint64_t csafe_feed(uint8_t bytes[CSAFE_LINE_LEN], uint64_t *state, const uint8_t *input, size_t input_len,
-                    uint64_t *taken);
+uint64_t csafe_feed(uint8_t bytes[CSAFE_LINE_LEN], uint64_t *state, uint64_t *counts, const uint8_t *input,
+                    size_t input_len, uint64_t *taken, uint32_t *position);
 
 /*
- * Ends the input of a reader, of a live line or of a trace, which is as new afterwards. Its bytes stay as they are. The
- * kind is CSAFE_NOTHING where no candidate was open.
+ * Ends the input of a reader, of a live line or of a trace, which is as new afterwards: positions begin at 0 again, and
+ * one that was full takes bytes. The reader's bytes stay as they are. Sets `position` to that of the start flag of the
+ * open candidate. Where none was open, the kind is CSAFE_NOTHING and the position 0.
  * Refused: CSAFE_TRUNCATED where a candidate for a frame was open.
  */
-uint64_t csafe_finish(uint64_t *state);
+uint64_t csafe_finish(uint64_t *state, uint64_t *counts, uint32_t *position);
 
 /*
  * Writes the contents of a workout over a distance first in the output and answers their length, CSAFE_WORKOUT_LEN.
@@ -267,11 +287,12 @@ uint64_t csafe_trace_read(const uint8_t *wire, size_t wire_len, uint8_t *out, si
 /*
  * As csafe_feed, of a trace: at its stop flag a candidate is answered as csafe_trace_read answers a slice. The reader
  * does not hold whether it is fed a trace, so all bytes of a trace are fed here.
+ * Refused at the first byte, before any other: CSAFE_FULL where the reader has taken CSAFE_LINE_LIMIT bytes.
  * Refused where a start flag comes before the stop flag: CSAFE_TRUNCATED, and the flag begins the next candidate.
  * Refused at the stop flag, in this order: CSAFE_TOO_LONG, CSAFE_BAD_ESCAPE, CSAFE_TOO_SHORT, CSAFE_BAD_CHECKSUM.
  */
-uint64_t csafe_trace_feed(uint8_t bytes[CSAFE_LINE_LEN], uint64_t *state, const uint8_t *input, size_t input_len,
-                          uint64_t *taken);
+uint64_t csafe_trace_feed(uint8_t bytes[CSAFE_LINE_LEN], uint64_t *state, uint64_t *counts, const uint8_t *input,
+                          size_t input_len, uint64_t *taken, uint32_t *position);
 
 #ifdef __cplusplus
 }

@@ -3,8 +3,8 @@ use core::fmt;
 /// Why a call was refused: a variant for each number of the table of refusals.
 ///
 /// The section "Errors" of each function lists what it can give, in order: the first that holds is given. The
-/// functions of this crate give 1 to 6, 9 to 12, 14, 17 and 18. The others are those of the command, reply and workout
-/// readers, and stand here so that one table serves a portal's logs.
+/// functions of this crate give 1 to 6, 9 to 12, 14 and 16 to 18. The others are those of the command, reply and
+/// workout readers, and stand here so that one table serves a portal's logs.
 ///
 /// A static library of another version may answer a number that stands for nothing here. Any function tells that as
 /// [`Error::Unknown`], so that it is taken neither for a result nor for another refusal.
@@ -56,6 +56,9 @@ pub enum Error {
     ZeroToken = 14,
     /// There is no n-th command or item.
     Absent = 15,
+    /// The line reader has taken [`LIMIT`](crate::line::LIMIT) bytes. It stays as it is, and takes bytes again once it
+    /// is finished.
+    Full = 16,
     /// A standard frame was read or was to be written on a live line, or its length there was asked for. It has no
     /// addresses, so it names no sender. The functions of [`trace`](crate::trace) take it.
     Unnamed = 17,
@@ -90,6 +93,7 @@ impl Error {
             Error::NotWorkout => 13,
             Error::ZeroToken => 14,
             Error::Absent => 15,
+            Error::Full => 16,
             Error::Unnamed => 17,
             Error::BadTable => 18,
             Error::Unknown { number } => number,
@@ -133,6 +137,7 @@ impl Error {
             13 => Error::NotWorkout,
             14 => Error::ZeroToken,
             15 => Error::Absent,
+            16 => Error::Full,
             17 => Error::Unnamed,
             18 => Error::BadTable,
             _ => Error::Unknown { number },
@@ -164,6 +169,9 @@ impl fmt::Display for Error {
             Error::NotWorkout => "the contents are not a programmed workout",
             Error::ZeroToken => "the token is 0",
             Error::Absent => "there is no n-th command or item",
+            Error::Full => {
+                "the line reader has taken 4,294,967,295 bytes, and has to be finished before it takes more"
+            }
             Error::Unnamed => "a standard frame names no sender, so a live line takes none",
             Error::BadTable => "the lent lease table is not 2,048 bytes long",
             Error::Unknown { number } => {
@@ -192,7 +200,7 @@ mod tests {
             let error = Error::from_number(number).expect("a refusal");
             assert_eq!(error.number(), number);
             let named = !matches!(error, Error::Unknown { .. });
-            assert_eq!(named, matches!(number, 1..=15 | 17 | 18), "number {number}");
+            assert_eq!(named, matches!(number, 1..=18), "number {number}");
         }
     }
 
@@ -207,7 +215,7 @@ mod tests {
 
     #[test]
     fn an_unknown_number_is_shown() {
-        let unknown = Error::from_number(16).expect("a refusal");
-        assert!(unknown.to_string().contains("answered 16,"));
+        let unknown = Error::from_number(19).expect("a refusal");
+        assert!(unknown.to_string().contains("answered 19,"));
     }
 }

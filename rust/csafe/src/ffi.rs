@@ -7,7 +7,7 @@ use core::sync::atomic::{compiler_fence, Ordering};
 
 use crate::frame::{Frame, Kind};
 use crate::line::HELD_LEN;
-use crate::Error;
+use crate::{Error, Located};
 
 #[rustfmt::skip]
 mod exported {
@@ -17,8 +17,8 @@ mod exported {
         pub fn csafe_standard_length(contents: *const u8, contents_len: usize) -> u64;
         pub fn csafe_extended_length(to: u8, from: u8, contents: *const u8, contents_len: usize) -> u64;
         pub fn csafe_read(wire: *const u8, wire_len: usize, out: *mut u8, out_len: usize) -> u64;
-        pub fn csafe_feed(bytes: *mut u8, state: *mut u64, input: *const u8, input_len: usize, taken: *mut u64) -> u64;
-        pub fn csafe_finish(state: *mut u64) -> u64;
+        pub fn csafe_feed(bytes: *mut u8, state: *mut u64, counts: *mut u64, input: *const u8, input_len: usize, taken: *mut u64, position: *mut u32) -> u64;
+        pub fn csafe_finish(state: *mut u64, counts: *mut u64, position: *mut u32) -> u64;
         pub fn csafe_write_distance_workout(metres: u32, split_metres: u32, watts: u16, out: *mut u8, out_len: usize) -> u64;
         pub fn csafe_write_time_workout(seconds: u32, split_hundredths: u32, watts: u16, out: *mut u8, out_len: usize) -> u64;
         pub fn csafe_write_distance_workout_frame(address: u32, metres: u32, split_metres: u32, watts: u16, out: *mut u8, out_len: usize) -> u64;
@@ -29,7 +29,7 @@ mod exported {
         pub fn csafe_trace_write_standard(contents: *const u8, contents_len: usize, out: *mut u8, out_len: usize) -> u64;
         pub fn csafe_trace_standard_length(contents: *const u8, contents_len: usize) -> u64;
         pub fn csafe_trace_read(wire: *const u8, wire_len: usize, out: *mut u8, out_len: usize) -> u64;
-        pub fn csafe_trace_feed(bytes: *mut u8, state: *mut u64, input: *const u8, input_len: usize, taken: *mut u64) -> u64;
+        pub fn csafe_trace_feed(bytes: *mut u8, state: *mut u64, counts: *mut u64, input: *const u8, input_len: usize, taken: *mut u64, position: *mut u32) -> u64;
     }
 }
 
@@ -144,26 +144,35 @@ pub(crate) fn read(wire: &[u8], out: &mut [u8]) -> Answer {
 }
 
 #[inline]
-pub(crate) fn feed(bytes: &mut [u8; HELD_LEN], state: &mut u64, input: &[u8]) -> (usize, Answer) {
-    let mut taken = 0;
+pub(crate) fn feed(
+    bytes: &mut [u8; HELD_LEN],
+    state: &mut u64,
+    counts: &mut u64,
+    input: &[u8],
+) -> (usize, Located<Answer>) {
+    let (mut taken, mut position) = (0, 0);
     // SAFETY: the first pointer is to as many bytes as the function takes there. The input's comes with its length,
-    // and the function stays within it. The exclusive borrows keep all four apart. Any number is a state.
+    // and the function stays within it. The exclusive borrows keep all six apart. Any two numbers are a reader's.
     let answer = Answer(unsafe {
         exported::csafe_feed(
             bytes.as_mut_ptr(),
             state,
+            counts,
             input.as_ptr(),
             input.len(),
             &mut taken,
+            &mut position,
         )
     });
-    (taken as usize, answer)
+    (taken as usize, Located { position, answer })
 }
 
 #[inline]
-pub(crate) fn finish(state: &mut u64) -> Answer {
-    // SAFETY: the pointer is to a number that is borrowed exclusively, and any number is a state.
-    Answer(unsafe { exported::csafe_finish(state) })
+pub(crate) fn finish(state: &mut u64, counts: &mut u64) -> Located<Answer> {
+    let mut position = 0;
+    // SAFETY: each pointer is to a number that is borrowed exclusively. Any two numbers are a reader's.
+    let answer = Answer(unsafe { exported::csafe_finish(state, counts, &mut position) });
+    Located { position, answer }
 }
 
 #[inline]
@@ -197,20 +206,23 @@ pub(crate) fn trace_read(wire: &[u8], out: &mut [u8]) -> Answer {
 pub(crate) fn trace_feed(
     bytes: &mut [u8; HELD_LEN],
     state: &mut u64,
+    counts: &mut u64,
     input: &[u8],
-) -> (usize, Answer) {
-    let mut taken = 0;
+) -> (usize, Located<Answer>) {
+    let (mut taken, mut position) = (0, 0);
     // SAFETY: as for `feed`.
     let answer = Answer(unsafe {
         exported::csafe_trace_feed(
             bytes.as_mut_ptr(),
             state,
+            counts,
             input.as_ptr(),
             input.len(),
             &mut taken,
+            &mut position,
         )
     });
-    (taken as usize, answer)
+    (taken as usize, Located { position, answer })
 }
 
 #[inline]
@@ -351,29 +363,69 @@ mod tests {
         assert_eq!(read(&extended[..5], out).0, 6);
     }
 
+    /// The two numbers of a reader: its state, and its counts.
+    type Numbers = (u64, u64);
+
+    /// What a call that feeds does: the bytes taken, the answer and its position, the state and how many bytes were
+    /// taken in all.
+    fn fed(
+        (taken, told): (usize, Located<Answer>),
+        (state, counts): Numbers,
+    ) -> (usize, u64, u32, Numbers) {
+        let Located { position, answer } = told;
+        (taken, answer.0, position, (state, counts >> 32))
+    }
+
     #[test]
     fn line_answers_are_whole_numbers_of_the_layout() {
-        let (bytes, state) = (&mut [0; HELD_LEN], &mut 0);
+        let (bytes, state, counts) = (&mut [0; HELD_LEN], &mut 0, &mut 0);
         let mut feed = |input: &[u8]| {
-            let (taken, answer) = feed(bytes, state, input);
-            (taken, answer.0, *state)
+            let done = feed(bytes, state, counts, input);
+            fed(done, (*state, *counts))
         };
-        assert_eq!(feed(&[0xF1, 0x00, 0xF2]), (3, 17, 0));
-        assert_eq!(feed(&[]), (0, 0x200, 0));
-        assert_eq!(feed(&[0x41, 0xF2]), (2, 0x200, 0));
-        assert_eq!(feed(&[0xF0, 0xFF, 0xFD]), (3, 0x200, 4 * 2 + 2));
+        assert_eq!(feed(&[0xF1, 0x00, 0xF2]), (3, 17, 0, (0, 3)));
+        assert_eq!(feed(&[]), (0, 0x200, 0, (0, 3)));
+        assert_eq!(feed(&[0x41, 0xF2]), (2, 0x200, 0, (0, 5)));
+        assert_eq!(feed(&[0xF0, 0xFF, 0xFD]), (3, 0x200, 0, (4 * 2 + 2, 8)));
         assert_eq!(
             feed(&[0x41, 0x41, 0xF2, 0x41]),
-            (3, 0x0000_0001_FDFF_0100, 0)
+            (3, 0x0000_0001_FDFF_0100, 5, (0, 11))
         );
-        assert_eq!(feed(&[0xF1, 0x41, 0x42, 0xF2]), (4, 5, 0));
-        assert_eq!(feed(&[0xF1; 2]), (2, 6, 1));
-        assert_eq!(feed(&[0x41; 119]), (119, 0x200, 3));
-        assert_eq!(feed(&[0xF2]), (1, 2, 0));
-        assert_eq!(feed(&[0x41; 65_537]), (65_536, 0x200, 0));
-        let mut open = 4 * 2 + 2;
-        assert_eq!((finish(&mut open).0, open), (6, 0));
-        assert_eq!((finish(&mut open).0, open), (0x200, 0));
+        assert_eq!(feed(&[0xF1, 0x41, 0x42, 0xF2]), (4, 5, 11, (0, 15)));
+        assert_eq!(feed(&[0xF1; 2]), (2, 6, 15, (1, 17)));
+        assert_eq!(feed(&[0x41; 119]), (119, 0x200, 0, (3, 136)));
+        assert_eq!(feed(&[0xF2]), (1, 2, 16, (0, 137)));
+        assert_eq!(feed(&[0x41; 65_537]), (65_536, 0x200, 0, (0, 65_673)));
+    }
+
+    #[test]
+    fn a_finish_answers_with_the_position_of_what_is_open() {
+        let (mut state, mut counts) = (4 * 2 + 2, 8 << 32 | 5);
+        let told = finish(&mut state, &mut counts);
+        assert_eq!((told.answer.0, told.position), (6, 5));
+        assert_eq!((state, counts >> 32), (0, 0));
+        counts |= 9 << 32;
+        let told = finish(&mut state, &mut counts);
+        assert_eq!((told.answer.0, told.position), (0x200, 0));
+        assert_eq!((state, counts >> 32), (0, 0));
+    }
+
+    #[test]
+    fn a_full_reader_answers_16_and_keeps_its_numbers() {
+        const OPEN: u64 = 4 * 2 + 2;
+        const FULL: u64 = 0xFFFF_FFFF_0000_0005;
+        let bytes = &mut [0; HELD_LEN];
+        for feed in [feed, trace_feed] {
+            let (mut state, mut counts) = (OPEN, FULL);
+            let done = feed(bytes, &mut state, &mut counts, &[0xF0, 0xF2]);
+            let kept = (OPEN, FULL >> 32);
+            assert_eq!(fed(done, (state, counts)), (0, 16, 0, kept));
+            let done = feed(bytes, &mut state, &mut counts, &[]);
+            assert_eq!(fed(done, (state, counts)), (0, 0x200, 0, kept));
+            assert_eq!(counts, FULL);
+            let told = finish(&mut state, &mut counts);
+            assert_eq!((told.answer.0, told.position), (6, 5));
+        }
     }
 
     #[test]
@@ -389,15 +441,15 @@ mod tests {
         assert_eq!(trace_read(&standard, &mut []).0, 1);
         let extended = [0xF0, 0xFF, 0xFD, 0x41, 0x41, 0xF2];
         assert_eq!(trace_read(&extended, out).0, 0x0000_0001_FDFF_0100);
-        let (bytes, state) = (&mut [0; HELD_LEN], &mut 0);
+        let (bytes, state, counts) = (&mut [0; HELD_LEN], &mut 0, &mut 0);
         let mut feed = |input: &[u8]| {
-            let (taken, answer) = trace_feed(bytes, state, input);
-            (taken, answer.0, *state)
+            let done = trace_feed(bytes, state, counts, input);
+            fed(done, (*state, *counts))
         };
-        assert_eq!(feed(&[0xF1, 0x00, 0xF2]), (3, 0, 0));
-        assert_eq!(feed(&[0xF1, 0x41]), (2, 0x200, 4 + 1));
-        assert_eq!(feed(&[0x41, 0xF2, 0x41]), (2, 1 << 32, 0));
-        assert_eq!(feed(&[0x41; 65_537]), (65_536, 0x200, 0));
+        assert_eq!(feed(&[0xF1, 0x00, 0xF2]), (3, 0, 0, (0, 3)));
+        assert_eq!(feed(&[0xF1, 0x41]), (2, 0x200, 0, (4 + 1, 5)));
+        assert_eq!(feed(&[0x41, 0xF2, 0x41]), (2, 1 << 32, 3, (0, 7)));
+        assert_eq!(feed(&[0x41; 65_537]), (65_536, 0x200, 0, (0, 65_543)));
     }
 
     #[test]

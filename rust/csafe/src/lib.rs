@@ -7,7 +7,7 @@
 //! the standard library.
 //!
 //! - [`frame`] tells how long a frame is on the wire, writes it, and reads one from a slice.
-//! - [`mod@line`] reads the frames of a live line, in whatever chunks its bytes arrive.
+//! - [`mod@line`] reads the frames of a live line, in whatever chunks its bytes arrive, and tells where each began.
 //! - [`trace`] does both for stored traces, in which standard frames are read as they stand.
 //! - [`workout`] writes a programmed workout, and the frame that takes it to a machine.
 //! - [`lease`] keeps who holds which machine, and writes the frame that stops it for the holder alone.
@@ -22,7 +22,7 @@
 //!
 //! ```
 //! use csafe::frame::Kind;
-//! use csafe::{lease, Error, LeaseTable, LineReader};
+//! use csafe::{lease, Error, LeaseTable, LineReader, Located};
 //!
 //! const MACHINE: u8 = 0x05;
 //! // A real token comes from a generator whose numbers are hard to guess.
@@ -33,8 +33,8 @@
 //!     let mut count = 0;
 //!     for answer in reader.answers(chunk) {
 //!         match answer {
-//!             Ok(frame) => {
-//!                 println!("{:?} {:02X?}", frame.kind(), frame.contents());
+//!             Ok(Located { position, answer: frame }) => {
+//!                 println!("at {position}: {:?} {:02X?}", frame.kind(), frame.contents());
 //!                 count += usize::from(frame.kind() == Kind::Extended { to: 0x00, from: MACHINE });
 //!             }
 //!             Err(refusal) => println!("refused: {refusal}"),
@@ -65,7 +65,7 @@
 //! assert_eq!(leases.stop(MACHINE, 1, &mut wire), Err(Error::NotHolder));
 //! let len = leases.stop(MACHINE, TOKEN, &mut wire)?;
 //! assert_eq!(wire[..len], [0xF0, 0x05, 0x00, 0x76, 0x04, 0x13, 0x02, 0x01, 0x02, 0x60, 0xF2]);
-//! # Ok::<(), Error>(())
+//! # Ok::<(), Box<dyn std::error::Error>>(())
 //! ```
 
 #![no_std]
@@ -81,6 +81,7 @@ mod ffi;
 pub mod frame;
 pub mod lease;
 pub mod line;
+mod located;
 pub mod trace;
 pub mod workout;
 
@@ -88,6 +89,7 @@ pub use error::Error;
 pub use frame::{Frame, OwnedFrame};
 pub use lease::LeaseTable;
 pub use line::LineReader;
+pub use located::Located;
 pub use workout::Workout;
 
 /// The snippet of the repository's README is compiled and run with the tests.

@@ -24,9 +24,9 @@
 //! let mut reader = LineReader::for_trace();
 //! let frames: Vec<_> = reader.answers(&kept).collect::<Result<_, _>>()?;
 //! reader.finish()?;
-//! let kinds: Vec<_> = frames.iter().map(|frame| frame.kind()).collect();
-//! assert_eq!(kinds, [Kind::Standard, Kind::Extended { to: 0x00, from: 0x05 }]);
-//! # Ok::<(), csafe::Error>(())
+//! let told: Vec<_> = frames.iter().map(|told| (told.position, told.answer.kind())).collect();
+//! assert_eq!(told, [(0, Kind::Standard), (5, Kind::Extended { to: 0x00, from: 0x05 })]);
+//! # Ok::<(), Box<dyn std::error::Error>>(())
 //! ```
 
 use crate::line::{Fed, HELD_LEN};
@@ -112,7 +112,7 @@ pub fn read<'a>(wire: &[u8], out: &'a mut [u8]) -> Result<Frame<'a>, Error> {
 /// As [`line::feed`](crate::line::feed), but that standard frames are told as frames. [`line::finish`] ends the input
 /// of such a reader too.
 ///
-/// The number of a reader does not say whether it is fed a trace, so the caller feeds all bytes of a trace here.
+/// The numbers of a reader do not say whether it is fed a trace, so the caller feeds all bytes of a trace here.
 ///
 /// # Errors
 ///
@@ -121,23 +121,30 @@ pub fn read<'a>(wire: &[u8], out: &'a mut [u8]) -> Result<Frame<'a>, Error> {
 /// ```
 /// use csafe::frame::Kind;
 /// use csafe::line::{self, HELD_LEN};
-/// use csafe::{trace, Error};
+/// use csafe::{trace, Error, Located};
 ///
-/// let (mut bytes, mut state) = ([0; HELD_LEN], 0);
-/// let fed = trace::feed(&mut bytes, &mut state, &[0xF1, 0x41, 0x41, 0xF2, 0xF1]);
+/// let (mut bytes, mut state, mut counts) = ([0; HELD_LEN], 0, 0);
+/// let chunk = [0xF1, 0x41, 0x41, 0xF2, 0xF1];
+/// let fed = trace::feed(&mut bytes, &mut state, &mut counts, &chunk);
 /// assert_eq!(fed.taken, 4);
-/// assert_eq!(fed.told.unwrap()?.kind, Kind::Standard);
+/// assert_eq!(fed.told.unwrap()?.answer.kind, Kind::Standard);
 ///
-/// let fed = trace::feed(&mut bytes, &mut state, &[0xF1]);
+/// let fed = trace::feed(&mut bytes, &mut state, &mut counts, &chunk[4..]);
 /// assert_eq!((fed.taken, fed.told), (1, None));
-/// assert_eq!(line::finish(&mut state), Err(Error::Truncated));
-/// # Ok::<(), Error>(())
+/// let truncated = Located { position: 4, answer: Error::Truncated };
+/// assert_eq!(line::finish(&mut state, &mut counts), Err(truncated));
+/// # Ok::<(), Located<Error>>(())
 /// ```
 ///
 /// [`line::finish`]: crate::line::finish
 #[inline]
 #[must_use = "the bytes that were not taken have to be fed again, and what was told is told once"]
-pub fn feed<'a>(bytes: &'a mut [u8; HELD_LEN], state: &mut u64, chunk: &[u8]) -> Fed<'a> {
-    let (taken, answer) = ffi::trace_feed(bytes, state, chunk);
-    Fed::of(bytes, taken, answer)
+pub fn feed<'a>(
+    bytes: &'a mut [u8; HELD_LEN],
+    state: &mut u64,
+    counts: &mut u64,
+    chunk: &[u8],
+) -> Fed<'a> {
+    let (taken, told) = ffi::trace_feed(bytes, state, counts, chunk);
+    Fed::of(bytes, taken, told)
 }

@@ -32,35 +32,47 @@ read: 17 unnamed to=00 from=00 len=0
 read: 17 unnamed to=00 from=00 len=0
 read: 1 no room to=00 from=00 len=0
 feed: 6 truncated to=00 from=00 len=0
-taken 5, state 2
+at 1, taken 5, state 2, count 5, open at 4
 feed: 0 ok extended to=F1 from=05 len=1 41
-taken 6, state 0
+at 4, taken 6, state 0, count 11
 feed: 0 ok nothing to=00 from=00 len=0
-taken 2, state 5
+at 0, taken 2, state 5, count 13, open at 11
 feed: 3 bad escape to=00 from=00 len=0
-taken 2, state 0
+at 11, taken 2, state 0, count 15
 feed: 4 too short to=00 from=00 len=0
-taken 2, state 0
+at 15, taken 2, state 0, count 17
 feed: 5 bad checksum to=00 from=00 len=0
-taken 4, state 0
+at 17, taken 4, state 0, count 21
 feed: 17 unnamed to=00 from=00 len=0
-taken 4, state 0
+at 21, taken 4, state 0, count 25
 feed: 0 ok nothing to=00 from=00 len=0
-taken 1, state 1
+at 0, taken 1, state 1, count 26, open at 25
 feed: 2 too long to=00 from=00 len=0
-taken 120, state 0
+at 25, taken 120, state 0, count 146
 feed: 0 ok nothing to=00 from=00 len=0
-taken 3, state 5
+at 0, taken 3, state 5, count 149, open at 147
 finish: 6 truncated to=00 from=00 len=0
+at 147, taken 0, state 0, count 0
 finish: 0 ok nothing to=00 from=00 len=0
+at 0, taken 0, state 0, count 0
 feed: 17 unnamed to=00 from=00 len=0
-taken 4, state 0
+at 0, taken 4, state 0, count 4
 feed: 0 ok nothing to=00 from=00 len=0
-taken 65536, state 18
+at 0, taken 65536, state 18, count 65536, open at 65531
 feed: 0 ok extended to=00 from=05 len=1 41
-taken 1, state 0
+at 65531, taken 1, state 0, count 65537
 feed: 0 ok nothing to=00 from=00 len=0
-taken 1, state 0
+at 0, taken 1, state 0, count 65538
+feed: 0 ok extended to=00 from=05 len=1 41
+at 4294967288, taken 6, state 0, count 4294967294
+feed: 0 ok nothing to=00 from=00 len=0
+at 0, taken 1, state 2, count 4294967295, open at 4294967294
+feed: 16 full to=00 from=00 len=0
+at 0, taken 0, state 2, count 4294967295, open at 4294967294
+finish: 6 truncated to=00 from=00 len=0
+at 4294967294, taken 0, state 0, count 0
+feed: 0 ok extended to=00 from=05 len=1 41
+at 0, taken 6, state 0, count 6
 trace_standard_length: 0 ok to=00 from=00 len=7
 trace_standard_length: 2 too long to=00 from=00 len=0
 trace_write_standard: 0 ok to=00 from=00 len=7 F1 24 02 F3 02 D4 F2
@@ -76,35 +88,47 @@ trace_read: 0 ok to=00 from=00 len=4 24 02 03 00
 trace_read: 1 no room to=00 from=00 len=0
 trace_read: 1 no room to=00 from=00 len=0
 trace_feed: 6 truncated to=00 from=00 len=0
-taken 5, state 2
+at 1, taken 5, state 2, count 5, open at 4
 trace_feed: 0 ok extended to=F1 from=05 len=1 41
-taken 6, state 0
+at 4, taken 6, state 0, count 11
 trace_feed: 0 ok nothing to=00 from=00 len=0
-taken 2, state 5
+at 0, taken 2, state 5, count 13, open at 11
 trace_feed: 3 bad escape to=00 from=00 len=0
-taken 2, state 0
+at 11, taken 2, state 0, count 15
 trace_feed: 4 too short to=00 from=00 len=0
-taken 2, state 0
+at 15, taken 2, state 0, count 17
 trace_feed: 5 bad checksum to=00 from=00 len=0
-taken 4, state 0
+at 17, taken 4, state 0, count 21
 trace_feed: 0 ok to=00 from=00 len=1 41
-taken 4, state 0
+at 21, taken 4, state 0, count 25
 trace_feed: 0 ok nothing to=00 from=00 len=0
-taken 1, state 1
+at 0, taken 1, state 1, count 26, open at 25
 trace_feed: 2 too long to=00 from=00 len=0
-taken 120, state 0
+at 25, taken 120, state 0, count 146
 trace_feed: 0 ok nothing to=00 from=00 len=0
-taken 3, state 5
+at 0, taken 3, state 5, count 149, open at 147
 finish: 6 truncated to=00 from=00 len=0
+at 147, taken 0, state 0, count 0
 finish: 0 ok nothing to=00 from=00 len=0
+at 0, taken 0, state 0, count 0
 trace_feed: 0 ok to=00 from=00 len=1 41
-taken 4, state 0
+at 0, taken 4, state 0, count 4
 trace_feed: 0 ok nothing to=00 from=00 len=0
-taken 65536, state 18
+at 0, taken 65536, state 18, count 65536, open at 65531
 trace_feed: 0 ok extended to=00 from=05 len=1 41
-taken 1, state 0
+at 65531, taken 1, state 0, count 65537
 trace_feed: 0 ok nothing to=00 from=00 len=0
-taken 1, state 0
+at 0, taken 1, state 0, count 65538
+trace_feed: 0 ok extended to=00 from=05 len=1 41
+at 4294967288, taken 6, state 0, count 4294967294
+trace_feed: 0 ok nothing to=00 from=00 len=0
+at 0, taken 1, state 2, count 4294967295, open at 4294967294
+trace_feed: 16 full to=00 from=00 len=0
+at 0, taken 0, state 2, count 4294967295, open at 4294967294
+finish: 6 truncated to=00 from=00 len=0
+at 4294967294, taken 0, state 0, count 0
+trace_feed: 0 ok extended to=00 from=05 len=1 41
+at 0, taken 6, state 0, count 6
 write_distance_workout: 0 ok to=00 from=00 len=23 21 03 D1 07 24 1A 07 05 05 80 F4 01 00 00 34 03 C8 00 58 24 02 00 00
 write_distance_workout: 12 out of limits to=00 from=00 len=0
 write_distance_workout: 1 no room to=00 from=00 len=0

@@ -24,6 +24,7 @@ static const char *name_of(uint8_t number)
     case CSAFE_NOT_HOLDER: return "not holder";
     case CSAFE_OUT_OF_LIMITS: return "out of limits";
     case CSAFE_ZERO_TOKEN: return "zero token";
+    case CSAFE_FULL: return "full";
     case CSAFE_UNNAMED: return "unnamed";
     case CSAFE_BAD_TABLE: return "bad table";
     default: return "unknown";
@@ -124,32 +125,67 @@ static void read_frames(enum origin origin)
     read_and_print(origin, extended, sizeof extended, 0);
 }
 
-static void feed_and_print(enum origin origin, uint8_t *bytes, uint64_t *state, const uint8_t *input, size_t input_len)
+struct reader {
+    uint8_t bytes[CSAFE_LINE_LEN];
+    uint64_t state;
+    uint64_t counts;
+};
+
+static struct reader new_reader(void)
 {
-    uint64_t taken = 0;
-    for (size_t at = 0; at < input_len; at += (size_t)taken) {
-        if (origin == TRACE) {
-            print_answer("trace_feed", csafe_trace_feed(bytes, state, input + at, input_len - at, &taken), bytes);
-        } else {
-            print_answer("feed", csafe_feed(bytes, state, input + at, input_len - at, &taken), bytes);
-        }
-        printf("taken %u, state %u\n", (unsigned)taken, (unsigned)*state);
+    struct reader reader = {{0}, 0, 0};
+    return reader;
+}
+
+/* Prints what a call left in the numbers. The lower half of the counts means something in a candidate alone. */
+static void print_numbers(const struct reader *reader, uint64_t taken, uint32_t position)
+{
+    printf("at %lu, taken %u, state %u, count %lu", (unsigned long)position, (unsigned)taken, (unsigned)reader->state,
+           (unsigned long)(reader->counts >> 32));
+    if (reader->state != 0) {
+        printf(", open at %lu", (unsigned long)(reader->counts & CSAFE_LINE_LIMIT));
     }
+    printf("\n");
+}
+
+static void feed_and_print(enum origin origin, struct reader *reader, const uint8_t *input, size_t input_len)
+{
+    uint64_t taken = 1;
+    uint32_t position = 0;
+    for (size_t at = 0; at < input_len && taken > 0; at += (size_t)taken) {
+        const uint8_t *rest = input + at;
+        const size_t rest_len = input_len - at;
+        uint8_t *bytes = reader->bytes;
+        if (origin == TRACE) {
+            print_answer("trace_feed", csafe_trace_feed(bytes, &reader->state, &reader->counts, rest, rest_len, &taken,
+                                                        &position), bytes);
+        } else {
+            print_answer("feed", csafe_feed(bytes, &reader->state, &reader->counts, rest, rest_len, &taken, &position),
+                         bytes);
+        }
+        print_numbers(reader, taken, position);
+    }
+}
+
+static void finish_and_print(struct reader *reader)
+{
+    uint32_t position = 0;
+    print_answer("finish", csafe_finish(&reader->state, &reader->counts, &position), reader->bytes);
+    print_numbers(reader, 0, position);
 }
 
 /* The stop flag stands right after the bytes that the first call takes. */
 static void feed_a_long_chunk(enum origin origin)
 {
     static uint8_t chunk[CSAFE_CHUNK_LIMIT + 2];
-    uint8_t bytes[CSAFE_LINE_LEN] = {0};
-    uint64_t state = 0;
+    struct reader reader = new_reader();
     chunk[CSAFE_CHUNK_LIMIT - 5] = 0xF0;
     chunk[CSAFE_CHUNK_LIMIT - 4] = 0x00;
     chunk[CSAFE_CHUNK_LIMIT - 3] = 0x05;
     chunk[CSAFE_CHUNK_LIMIT - 2] = 0x41;
     chunk[CSAFE_CHUNK_LIMIT - 1] = 0x41;
     chunk[CSAFE_CHUNK_LIMIT] = 0xF2;
-    feed_and_print(origin, bytes, &state, chunk, sizeof chunk);
+    feed_and_print(origin, &reader, chunk, sizeof chunk);
 }
 
 /* A reader that was finished is fed a standard frame again. */
@@ -159,16 +195,27 @@ static void read_line(enum origin origin)
     static const uint8_t standard[] = {0xF1, 0x41, 0x41, 0xF2};
     static const uint8_t second[] = {0x04, 0xF2, 0xF1, 0xF2, 0xF1, 0x41, 0x42, 0xF2, 0xF1, 0x41, 0x41, 0xF2, 0xF1};
     uint8_t too_long[CSAFE_LINE_LEN + 2] = {0};
-    uint8_t bytes[CSAFE_LINE_LEN] = {0};
-    uint64_t state = 0;
+    struct reader reader = new_reader();
     too_long[CSAFE_LINE_LEN + 1] = 0xF2;
-    feed_and_print(origin, bytes, &state, first, sizeof first);
-    feed_and_print(origin, bytes, &state, second, sizeof second);
-    feed_and_print(origin, bytes, &state, too_long, sizeof too_long);
-    feed_and_print(origin, bytes, &state, first, 3);
-    print_answer("finish", csafe_finish(&state), bytes);
-    print_answer("finish", csafe_finish(&state), bytes);
-    feed_and_print(origin, bytes, &state, standard, sizeof standard);
+    feed_and_print(origin, &reader, first, sizeof first);
+    feed_and_print(origin, &reader, second, sizeof second);
+    feed_and_print(origin, &reader, too_long, sizeof too_long);
+    feed_and_print(origin, &reader, first, 3);
+    finish_and_print(&reader);
+    finish_and_print(&reader);
+    feed_and_print(origin, &reader, standard, sizeof standard);
+}
+
+/* The first frame ends with the last byte that the reader takes but one. */
+static void fill_reader(enum origin origin)
+{
+    static const uint8_t frames[] = {0xF0, 0x00, 0x05, 0x41, 0x41, 0xF2, 0xF0, 0x00, 0x05, 0x41, 0x41, 0xF2};
+    const size_t len = sizeof frames / 2;
+    struct reader reader = new_reader();
+    reader.counts = (uint64_t)(CSAFE_LINE_LIMIT - len - 1) << 32;
+    feed_and_print(origin, &reader, frames, sizeof frames);
+    finish_and_print(&reader);
+    feed_and_print(origin, &reader, frames, len);
 }
 
 static void write_trace_frames(void)
@@ -244,10 +291,12 @@ int main(void)
     read_frames(LIVE);
     read_line(LIVE);
     feed_a_long_chunk(LIVE);
+    fill_reader(LIVE);
     write_trace_frames();
     read_frames(TRACE);
     read_line(TRACE);
     feed_a_long_chunk(TRACE);
+    fill_reader(TRACE);
     workouts();
     workout_frames();
     leases();

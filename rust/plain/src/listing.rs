@@ -4,19 +4,18 @@ use std::io::{self, Read, Write};
 
 use crate::command;
 use crate::frame::{self, Origin, STOP};
-use crate::line::{first_flag, Answer, Line};
+use crate::line::{first_flag, Answer, Line, COUNT_MAX};
 
-/// The most bytes of a trace that are taken.
-const INPUT_MAX: u64 = 4_294_967_295;
 /// Input is read, and text written, in pieces of about this size.
 const CHUNK: usize = 1 << 16;
 /// More than the longest line of text.
 const TEXT_LINE_MAX: usize = 128;
 
-/// Lists the trace read from `input` as text on `output`. When reading fails,
-/// the lines told until then are written, without totals.
+/// Lists the trace read from `input` as text on `output`, of a longer one the first
+/// bytes that the line reader takes. When reading fails, the lines told until then
+/// are written, without totals.
 pub fn list(input: &mut impl Read, output: &mut impl Write) -> io::Result<()> {
-    let mut input = input.take(INPUT_MAX);
+    let mut input = input.take(COUNT_MAX.into());
     let mut listing = Listing::new(output);
     let mut chunk = vec![0; CHUNK];
     loop {
@@ -61,10 +60,9 @@ impl<'a, W: Write> Listing<'a, W> {
             let flag = bytes[at];
             if flag == STOP && !self.line.is_open() {
                 self.stray += 1;
-            } else {
-                let answer = self.line.feed(flag);
-                self.tell(answer)?;
             }
+            let answer = self.line.feed(flag);
+            self.tell(answer)?;
             bytes = &bytes[at + 1..];
         }
         self.take_plain(bytes);
@@ -73,11 +71,10 @@ impl<'a, W: Write> Listing<'a, W> {
 
     /// Takes bytes without a flag among them.
     fn take_plain(&mut self, bytes: &[u8]) {
-        if self.line.is_open() {
-            self.line.extend(bytes);
-        } else {
+        if !self.line.is_open() {
             self.stray += bytes.len() as u64;
         }
+        self.line.extend(bytes);
     }
 
     fn finish(mut self) -> io::Result<()> {
@@ -97,8 +94,8 @@ impl<'a, W: Write> Listing<'a, W> {
     fn tell(&mut self, answer: Answer) -> io::Result<()> {
         match answer {
             Answer::Nothing => return Ok(()),
-            Answer::Frame(frame) => self.tell_frame(frame),
-            Answer::Refused(code) => self.tell_refusal(code),
+            Answer::Frame { position, frame } => self.tell_frame(position, frame),
+            Answer::Refused { position, code } => self.tell_refusal(position, code),
         }
         if self.text.len() < CHUNK {
             return Ok(());
@@ -106,17 +103,17 @@ impl<'a, W: Write> Listing<'a, W> {
         self.write_out()
     }
 
-    fn tell_refusal(&mut self, code: u8) {
+    fn tell_refusal(&mut self, position: u32, code: u8) {
         self.refused += 1;
-        self.put_number();
+        self.put_number_at(position);
         self.put(b" kind=refused code=");
         self.put_decimal(code.into());
         self.put(b"\n");
     }
 
-    fn tell_frame(&mut self, frame: frame::Read) {
+    fn tell_frame(&mut self, position: u32, frame: frame::Read) {
         self.frames += 1;
-        self.put_number();
+        self.put_number_at(position);
         let len = match frame {
             frame::Read::Standard { len } => {
                 self.put(b" kind=std");
@@ -139,10 +136,12 @@ impl<'a, W: Write> Listing<'a, W> {
         });
     }
 
-    /// Puts the number of the answer that was counted last.
-    fn put_number(&mut self) {
+    /// Puts the number of the answer that was counted last, and its position.
+    fn put_number_at(&mut self, position: u32) {
         self.put(b"n=");
         self.put_decimal(self.frames + self.refused);
+        self.put(b" at=");
+        self.put_decimal(position.into());
     }
 
     fn put_decimal(&mut self, mut number: u64) {

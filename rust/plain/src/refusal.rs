@@ -30,6 +30,8 @@ pub const NOT_WORKOUT: u8 = 13;
 pub const TOKEN_ZERO: u8 = 14;
 /// There is no n-th command or item.
 pub const NONE: u8 = 15;
+/// The line reader has taken as many bytes as it may before a finish.
+pub const FULL: u8 = 16;
 /// A standard frame, which names no sender, on a live line.
 pub const UNNAMED: u8 = 17;
 /// The lent lease table is not 2,048 bytes.

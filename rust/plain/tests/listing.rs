@@ -111,7 +111,7 @@ fn the_trace_goes_past_both_buffers() {
 fn the_text_has_every_kind_of_line() {
     let text = String::from_utf8(text(&trace())).unwrap();
     for part in [
-        "n=1 kind=refused code=6\nn=2 kind=ext to=05 from=00 len=6 stop=yes\n",
+        "n=1 at=1 kind=refused code=6\nn=2 at=4 kind=ext to=05 from=00 len=6 stop=yes\n",
         " kind=std len=0 stop=no\n",
         " code=2\n",
         " code=3\n",

@@ -174,6 +174,84 @@ fn live_frames_are_those_of_a_trace_but_for_standard_ones() {
     assert!(unnamed >= 10 && others >= 20, "{unnamed} and {others}");
 }
 
+/// The most bytes that a reader takes before a finish.
+const LIMIT: usize = 4_294_967_295;
+
+/// The words of a `line` example: how many bytes its readers have taken before the
+/// first group, and the bytes of each group.
+fn groups(example: &str) -> Option<(usize, Vec<Vec<u8>>)> {
+    let (operation, arguments) = example.split_once(' ')?;
+    let (count, bytes) = match operation {
+        "line" | "live-line" => ("0", arguments),
+        "line-at" => arguments.split_once(' ')?,
+        _ => return None,
+    };
+    let byte = |word: &str| u8::from_str_radix(word, 16).unwrap();
+    let group = |group: &str| group.split_whitespace().map(byte).collect();
+    let groups = bytes.split(" / ").map(group).collect();
+    Some((count.parse().unwrap(), groups))
+}
+
+/// Of each answer in a part of a line's answers: the index of its byte, the position,
+/// and whether it is 16.
+fn told(part: &str) -> Vec<(usize, usize, bool)> {
+    let answers = part.split(" by=").skip(1);
+    let told = answers.map(|answer| {
+        let (by, answer) = answer.split_once(' ').unwrap();
+        let position = value(answer, "at=").parse().unwrap();
+        let full = answer.contains("code=16");
+        (by.parse().unwrap(), position, full)
+    });
+    told.collect()
+}
+
+/// An answer has the position of the last start flag that was taken before its byte,
+/// and 16 is given at 0, to a byte past the limit.
+fn check_positions(name: &str, count: usize, group: &[u8], part: &str) {
+    let taken = group.len().min(LIMIT - count);
+    for (by, position, full) in told(part) {
+        if full {
+            assert!(by >= taken && position == 0, "{name}: {by} {position}");
+            continue;
+        }
+        let before = &group[..by.min(taken)];
+        let flag = before.iter().rposition(|byte| [0xF0, 0xF1].contains(byte));
+        assert_eq!(Some(position), flag.map(|at| count + at), "{name}: {by}");
+    }
+}
+
+/// By the byte each one past the limit is refused with 16, by the chunk the first.
+fn check_refused(name: &str, past: usize, step: &str, feed_in: &str) {
+    let full = |part| told(part).iter().filter(|answer| answer.2).count();
+    assert_eq!(full(step), past, "{name}");
+    assert_eq!(full(feed_in), past.min(1), "{name}");
+}
+
+#[test]
+fn positions_are_those_of_the_start_flags() {
+    let (examples, answers) = (text("stdin"), text("stdout"));
+    let answers = by_name(&answers);
+    let (mut lines, mut past_limit) = (0, 0);
+    for (name, example) in by_name(&examples) {
+        let Some((mut count, groups)) = groups(example) else {
+            continue;
+        };
+        let parts: Vec<&str> = answers[name].split("step:").skip(1).collect();
+        assert_eq!(parts.len(), groups.len(), "{name}");
+        for (group, part) in groups.iter().zip(parts) {
+            let (step, feed_in) = part.split_once("feed_in:").unwrap();
+            check_positions(name, count, group, step);
+            check_positions(name, count, group, feed_in);
+            let past = group.len().saturating_sub(LIMIT - count);
+            check_refused(name, past, step, feed_in);
+            past_limit += past;
+            count = 0;
+        }
+        lines += 1;
+    }
+    assert!(lines >= 60 && past_limit >= 20, "{lines}, {past_limit}");
+}
+
 /// The answer to a workout's frame, from the contents that are written for it and
 /// the extended frame from 00 that has them.
 fn framed(address: u32, workout: &str) -> String {

@@ -5,7 +5,7 @@
 //! laid out as neither side lays out its own answers, so that the change is work for both.
 
 use csafe::frame::{self, Frame, Kind};
-use csafe::{lease, line, trace, Error, LineReader};
+use csafe::{lease, line, trace, Error, LineReader, Located};
 use plain::frame::{self as plain_frame, Origin};
 use plain::lease as plain_lease;
 use plain::line::{self as plain_line, Answer};
@@ -34,7 +34,7 @@ pub trait LineSide {
 /// A line reader. Equal answers are equal numbers.
 pub trait Line {
     fn new(origin: Origin) -> Self;
-    /// Feeds bytes up to the first that is answered, shows the answer and its place with the contents, which are
+    /// Feeds bytes up to the first that is answered, shows the answer and its position with the contents, which are
     /// empty for a refusal, and tells how many bytes were taken.
     fn feed(&mut self, chunk: &[u8], see: impl FnMut(u64, &[u8])) -> usize;
 }
@@ -109,8 +109,12 @@ impl Line for LineReader {
     fn feed(&mut self, chunk: &[u8], mut see: impl FnMut(u64, &[u8])) -> usize {
         let fed = LineReader::feed(self, chunk);
         match fed.told {
-            Some(Ok(frame)) => see(our_read(Ok(frame)) | place(fed.taken), frame.contents),
-            Some(Err(error)) => see(our_read(Err(error)) | place(fed.taken), &[]),
+            Some(Ok(Located { position, answer })) => {
+                see(our_read(Ok(answer)) | place(position), answer.contents)
+            }
+            Some(Err(Located { position, answer })) => {
+                see(our_read(Err(answer)) | place(position), &[])
+            }
             None => {}
         }
         fed.taken
@@ -190,7 +194,7 @@ impl Line for plain_line::Line {
     #[inline(always)]
     fn feed(&mut self, chunk: &[u8], see: impl FnMut(u64, &[u8])) -> usize {
         let (taken, told) = self.feed_chunk(chunk);
-        show(self, taken, told, see);
+        show(self, told, see);
         taken
     }
 }
@@ -211,7 +215,7 @@ impl Line for ByByte {
         for (at, byte) in chunk.iter().enumerate() {
             let told = self.0.feed(*byte);
             if told != Answer::Nothing {
-                show(&self.0, at + 1, told, see);
+                show(&self.0, told, see);
                 return at + 1;
             }
         }
@@ -221,10 +225,12 @@ impl Line for ByByte {
 
 /// Shows what the independent reader told, if anything.
 #[inline(always)]
-fn show(line: &plain_line::Line, taken: usize, told: Answer, mut see: impl FnMut(u64, &[u8])) {
+fn show(line: &plain_line::Line, told: Answer, mut see: impl FnMut(u64, &[u8])) {
     match told {
-        Answer::Frame(read) => see(plain_read(Ok(read)) | place(taken), line.contents()),
-        Answer::Refused(number) => see(plain_read(Err(number)) | place(taken), &[]),
+        Answer::Frame { position, frame } => {
+            see(plain_read(Ok(frame)) | place(position), line.contents())
+        }
+        Answer::Refused { position, code } => see(plain_read(Err(code)) | place(position), &[]),
         Answer::Nothing => {}
     }
 }
@@ -246,8 +252,8 @@ fn plain_read(answer: Result<plain_frame::Read, u8>) -> u64 {
     }
 }
 
-/// From the lowest bit on a number has the length in 8 bits, the refusal in 8, the place on a line in 24, and the two
-/// addresses in 8 each with a bit over them.
+/// From the lowest bit on a number has the length in 8 bits, the refusal in 8, the position on a line in 24, and the
+/// two addresses in 8 each with a bit over them.
 #[inline(always)]
 fn accepted(len: usize) -> u64 {
     len as u64
@@ -259,8 +265,8 @@ fn refused(number: u8) -> u64 {
 }
 
 #[inline(always)]
-fn place(taken: usize) -> u64 {
-    (taken as u64) << 16
+fn place(position: u32) -> u64 {
+    u64::from(position) << 16
 }
 
 #[inline(always)]

@@ -9,8 +9,8 @@ pub const STANDARD: u8 = 0;
 pub const EXTENDED: u8 = 1;
 pub const NOTHING: u8 = 2;
 
-/// What a call answered: a refusal's number or 0, and of a result its kind, addresses and length, which are 0 where
-/// it has none.
+/// What a call answered: a refusal's number or 0, of a result its kind, addresses and length, and of what a line reader
+/// told its position. They are 0 where there are none.
 #[derive(Clone, Copy, Debug, Default, PartialEq, Eq)]
 pub struct Answer {
     pub number: u8,
@@ -18,6 +18,7 @@ pub struct Answer {
     pub to: u8,
     pub from: u8,
     pub len: usize,
+    pub position: u32,
 }
 
 impl Answer {
@@ -59,6 +60,10 @@ impl Answer {
         }
     }
 
+    pub fn at(self, position: u32) -> Answer {
+        Answer { position, ..self }
+    }
+
     pub fn outcome(self) -> Outcome {
         match (self.number, self.kind) {
             (0, NOTHING) => Nothing,
@@ -76,10 +81,11 @@ impl fmt::Display for Answer {
             to,
             from,
             len,
+            position,
         } = self;
         write!(
             f,
-            "number {number}, kind {kind}, to 0x{to:02X}, from 0x{from:02X}, length {len}"
+            "number {number}, kind {kind}, to 0x{to:02X}, from 0x{from:02X}, length {len}, position {position}"
         )
     }
 }
@@ -126,14 +132,14 @@ pub const FUNCTIONS: [(Function, &str, &[Outcome]); 19] = [
     (Function::Read, "csafe_read",
         &[Accepted, Refused(6), Refused(2), Refused(3), Refused(4), Refused(5), Refused(17), Refused(1)]),
     (Function::Feed, "csafe_feed",
-        &[Accepted, Nothing, Refused(6), Refused(2), Refused(3), Refused(4), Refused(5), Refused(17)]),
+        &[Accepted, Nothing, Refused(16), Refused(6), Refused(2), Refused(3), Refused(4), Refused(5), Refused(17)]),
     (Function::Finish, "csafe_finish", &[Nothing, Refused(6)]),
     (Function::TraceWriteStandard, "csafe_trace_write_standard", &[Accepted, Refused(2), Refused(1)]),
     (Function::TraceStandardLength, "csafe_trace_standard_length", &[Accepted, Refused(2)]),
     (Function::TraceRead, "csafe_trace_read",
         &[Accepted, Refused(6), Refused(2), Refused(3), Refused(4), Refused(5), Refused(1)]),
     (Function::TraceFeed, "csafe_trace_feed",
-        &[Accepted, Nothing, Refused(6), Refused(2), Refused(3), Refused(4), Refused(5)]),
+        &[Accepted, Nothing, Refused(16), Refused(6), Refused(2), Refused(3), Refused(4), Refused(5)]),
     (Function::WriteDistanceWorkout, "csafe_write_distance_workout", &[Accepted, Refused(12), Refused(1)]),
     (Function::WriteTimeWorkout, "csafe_write_time_workout", &[Accepted, Refused(12), Refused(1)]),
     (Function::WriteDistanceWorkoutFrame, "csafe_write_distance_workout_frame",

@@ -166,7 +166,7 @@ mod tests {
         for part in [
             "csafe_standard_length",
             "contents [0x41]",
-            "length 5\nplain",
+            "length 5, position 0\nplain",
         ] {
             assert!(told.contains(part), "{told}");
         }

@@ -4,8 +4,9 @@
 //!
 //! Every exported function is called with well-formed, damaged and random inputs, those for a live line and those for
 //! traces with inputs of the same kinds. Sound frames with one byte changed are read too, and the answer is foretold
-//! from the frame before the change. The listing program lists traces of many frames. Answers are compared and so are
-//! outputs, tables and readers, whole, with the bytes around them. The first difference ends the program with exit
+//! from the frame before the change. Line readers begin new, or nearly full. The listing program lists traces of many
+//! frames. Answers are compared, with their positions, and so are outputs, tables and readers, whole, with the bytes
+//! around them. The first difference ends the program with exit
 //! status 1 and the input that shows it. At the end stands a table of what each function answered, so that one sees
 //! that each refusal was met.
 //!

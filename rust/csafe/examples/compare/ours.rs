@@ -3,7 +3,7 @@
 use csafe::frame::{self, Kind};
 use csafe::line::{self, HELD_LEN};
 use csafe::workout::{Goal, Hundredths, Metres, Seconds};
-use csafe::{lease, Error, Frame, Workout};
+use csafe::{lease, Error, Frame, Located, Workout};
 use plain::frame::Origin;
 
 use crate::answer::Answer;
@@ -33,17 +33,20 @@ pub fn feed(
     origin: Origin,
     bytes: &mut [u8; HELD_LEN],
     state: &mut u64,
+    counts: &mut u64,
     input: &[u8],
 ) -> (usize, Answer) {
-    let fed = by_origin::feed(origin, bytes, state, input);
-    (fed.taken, fed.told.map_or_else(Answer::nothing, told))
+    let fed = by_origin::feed(origin, bytes, state, counts, input);
+    let answer = match fed.told {
+        None => Answer::nothing(),
+        Some(Ok(Located { position, answer })) => told(Ok(answer)).at(position),
+        Some(Err(refusal)) => located(refusal),
+    };
+    (fed.taken, answer)
 }
 
-pub fn finish(state: &mut u64) -> Answer {
-    match line::finish(state) {
-        Ok(()) => Answer::nothing(),
-        Err(error) => Answer::refused(error.number()),
-    }
+pub fn finish(state: &mut u64, counts: &mut u64) -> Answer {
+    line::finish(state, counts).map_or_else(located, |()| Answer::nothing())
 }
 
 pub fn distance(metres: u32, split: u32) -> Goal {
@@ -85,6 +88,10 @@ fn written(result: Result<usize, Error>) -> Answer {
         Ok(len) => Answer::done(len),
         Err(error) => Answer::refused(error.number()),
     }
+}
+
+fn located(refusal: Located<Error>) -> Answer {
+    Answer::refused(refusal.answer.number()).at(refusal.position)
 }
 
 fn told(result: Result<Frame, Error>) -> Answer {

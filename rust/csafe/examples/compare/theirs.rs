@@ -108,7 +108,7 @@ fn frame_answer(read: Read) -> Answer {
 fn line_answer(answer: line::Answer) -> Answer {
     match answer {
         line::Answer::Nothing => Answer::nothing(),
-        line::Answer::Frame(read) => frame_answer(read),
-        line::Answer::Refused(number) => Answer::refused(number),
+        line::Answer::Frame { position, frame } => frame_answer(frame).at(position),
+        line::Answer::Refused { position, code } => Answer::refused(code).at(position),
     }
 }

@@ -30,10 +30,11 @@ pub fn feed<'a>(
     origin: Origin,
     bytes: &'a mut [u8; HELD_LEN],
     state: &mut u64,
+    counts: &mut u64,
     chunk: &[u8],
 ) -> Fed<'a> {
     match origin {
-        Origin::Live => line::feed(bytes, state, chunk),
-        Origin::Trace => trace::feed(bytes, state, chunk),
+        Origin::Live => line::feed(bytes, state, counts, chunk),
+        Origin::Trace => trace::feed(bytes, state, counts, chunk),
     }
 }

@@ -3,24 +3,24 @@
 
 mod chunks;
 mod damage;
+mod filled;
 mod lent;
+mod limit;
+mod pair;
 
-use std::fmt;
+use csafe::{Error, LineReader, Located, OwnedFrame};
+use plain::frame::Origin;
+use plain::line::Answer;
 
-use csafe::line::{self, HELD_LEN};
-use csafe::{Error, Frame, LineReader, OwnedFrame};
-use plain::frame::{Origin, Read};
-use plain::line::{Answer, Line};
-
-use crate::by_origin;
 use crate::common::Xorshift;
 use crate::frame_damage::{EXTENDED_START, STANDARD_START, STOP};
-use crate::frames::{as_read, of_alphabet};
-use crate::held::{first_of, Held};
-use crate::output::{hex, told, Output};
-use crate::tally::Tally;
+use crate::frames::of_alphabet;
+use crate::held::first_of;
+use crate::output::{hex, told};
 use crate::traces::{Stretches, ALPHABET};
 use crate::ORIGINS;
+
+use pair::{Done, Pair, Told};
 
 /// Our reader for an origin.
 fn our_reader(origin: Origin) -> LineReader {
@@ -30,89 +30,25 @@ fn our_reader(origin: Origin) -> LineReader {
     }
 }
 
-/// Both readers for one origin. Ours stands three times: on lent bytes between two margins, as the type that owns its
-/// bytes, and as that type behind its iterator. The independent one stands twice: fed byte by byte, and by the chunk.
+/// Readers of both sides for one origin. Ours stands three times: on lent bytes, as the type that owns its bytes, and
+/// as that type behind its iterator.
 struct Readers {
-    origin: Origin,
-    lent: Output,
-    state: u64,
+    pair: Pair,
     owned: LineReader,
     iterated: LineReader,
-    theirs: Line,
-    theirs_by_chunk: Line,
-    held: Held,
-    tally: Tally,
-}
-
-/// What a call did: how many bytes it took, what it answered, and the contents of a frame.
-#[derive(Debug, PartialEq)]
-struct Done {
-    taken: usize,
-    answer: Answer,
-    contents: Vec<u8>,
-}
-
-impl Done {
-    fn by_ours(taken: usize, told: Option<Result<Frame<'_>, Error>>) -> Done {
-        let (answer, contents) = match told {
-            None => (Answer::Nothing, Vec::new()),
-            Some(Ok(frame)) => (Answer::Frame(as_read(frame)), frame.contents.to_vec()),
-            Some(Err(error)) => (Answer::Refused(error.number()), Vec::new()),
-        };
-        Done {
-            taken,
-            answer,
-            contents,
-        }
-    }
-
-    fn by_theirs(taken: usize, answer: Answer, line: &Line) -> Done {
-        let contents = match answer {
-            Answer::Frame(_) => line.contents().to_vec(),
-            _ => Vec::new(),
-        };
-        Done {
-            taken,
-            answer,
-            contents,
-        }
-    }
-
-    fn check_same(&self, expected: &Done, which: &str, input: &dyn Fn() -> String) {
-        assert!(
-            self == expected,
-            "{which} {self}, and the independent reader, byte by byte, {expected}: {}",
-            told(input)
-        );
-    }
-}
-
-impl fmt::Display for Done {
-    fn fmt(&self, f: &mut fmt::Formatter<'_>) -> fmt::Result {
-        let (taken, answer) = (self.taken, self.answer);
-        write!(
-            f,
-            "took {taken} and told {answer:?} {}",
-            hex(&self.contents)
-        )
-    }
 }
 
 impl Readers {
     fn new(origin: Origin) -> Readers {
-        let lent = Output::new(HELD_LEN);
-        let bytes = lent.result(HELD_LEN).try_into();
         Readers {
-            origin,
-            lent,
-            state: 0,
+            pair: Pair::with_count(origin, 0),
             owned: our_reader(origin),
             iterated: our_reader(origin),
-            theirs: Line::new(origin),
-            theirs_by_chunk: Line::new(origin),
-            held: Held::new(bytes.expect("the room is that of a reader"), 0),
-            tally: Tally::default(),
         }
+    }
+
+    fn origin(&self) -> Origin {
+        self.pair.origin
     }
 
     /// Feeds a line, in chunks whose lengths `chunk` chooses from the number of bytes that are left.
@@ -120,7 +56,7 @@ impl Readers {
         let mut at = 0;
         while at < line.len() {
             let len = chunk(line.len() - at);
-            let origin = self.origin;
+            let origin = self.origin();
             let input = || {
                 format!(
                     "{origin:?}, {len} bytes from {at} of the line {}",
@@ -132,43 +68,12 @@ impl Readers {
     }
 
     fn feed_chunk(&mut self, chunk: &[u8], input: &dyn Fn() -> String) -> Done {
-        let done = self.feed_singly(chunk);
-        let lent = self.feed_lent(chunk);
-        lent.check_same(&done, "ours, on lent bytes,", input);
+        let done = self.pair.feed(chunk, input);
         let owned = self.owned.feed(chunk);
         Done::by_ours(owned.taken, owned.told).check_same(&done, "ours, on its own bytes,", input);
         let iterated = self.feed_iterated(chunk);
         iterated.check_same(&done, "our iterator", input);
-        let (taken, answer) = self.theirs_by_chunk.feed_chunk(chunk);
-        let by_chunk = Done::by_theirs(taken, answer, &self.theirs_by_chunk);
-        by_chunk.check_same(&done, "the independent reader, by the chunk,", input);
-        self.check_held(input);
-        self.count(&done, input);
         done
-    }
-
-    /// Counts an answer, which is no standard frame on a live line.
-    fn count(&mut self, done: &Done, input: &dyn Fn() -> String) {
-        match done.answer {
-            Answer::Nothing => {}
-            Answer::Frame(read) => {
-                let standard = matches!(read, Read::Standard { .. });
-                assert!(
-                    self.origin == Origin::Trace || !standard,
-                    "a standard frame is told: {}",
-                    told(input)
-                );
-                self.tally.add(&Ok(()));
-            }
-            Answer::Refused(number) => self.tally.add::<()>(&Err(number)),
-        }
-    }
-
-    fn feed_lent(&mut self, chunk: &[u8]) -> Done {
-        let bytes = self.lent.lent().try_into();
-        let bytes = bytes.expect("the room is that of a reader");
-        let fed = by_origin::feed(self.origin, bytes, &mut self.state, chunk);
-        Done::by_ours(fed.taken, fed.told)
     }
 
     /// The iterator goes on to the end of its chunk, so it gets no more than a call takes. It is dropped after its
@@ -181,62 +86,30 @@ impl Readers {
         Done::by_ours(taken, told.as_ref().map(borrowed))
     }
 
-    /// The independent reader is fed up to its first answer.
-    fn feed_singly(&mut self, chunk: &[u8]) -> Done {
-        let chunk = first_of(chunk);
-        for (at, byte) in chunk.iter().enumerate() {
-            let answer = self.theirs.feed(*byte);
-            let done = Done::by_theirs(at + 1, answer, &self.theirs);
-            self.held.take(*byte, &done.contents);
-            if answer != Answer::Nothing {
-                return done;
-            }
-        }
-        Done::by_theirs(chunk.len(), Answer::Nothing, &self.theirs)
-    }
-
     fn finish(&mut self, input: &dyn Fn() -> String) -> Answer {
-        let ours = line::finish(&mut self.state);
-        self.held.finish();
-        assert_eq!(ours, self.owned.finish(), "{}", told(input));
-        assert_eq!(ours, self.iterated.finish(), "{}", told(input));
-        let answer = match ours {
-            Ok(()) => Answer::Nothing,
-            Err(error) => Answer::Refused(error.number()),
-        };
-        assert_eq!(answer, self.theirs.finish(), "{}", told(input));
-        assert_eq!(answer, self.theirs_by_chunk.finish(), "{}", told(input));
-        self.check_held(input);
-        answer
+        let done = self.pair.finish(input);
+        for reader in [&mut self.owned, &mut self.iterated] {
+            let ours = Done::by_ours(0, reader.finish().err().map(Err));
+            assert_eq!(ours.answer, done, "{}", told(input));
+        }
+        done
     }
 
     /// The answers have to have occurred this often, and 17 on a live line alone.
     fn has_each(&self, numbers: &[usize], least: usize) {
-        self.tally.has_each_of(self.origin, numbers, least);
-    }
-
-    fn check_held(&self, input: &dyn Fn() -> String) {
-        assert!(
-            self.lent.result(HELD_LEN) == self.held.bytes(),
-            "the reader's bytes are {}, not {}: {}",
-            hex(self.lent.result(HELD_LEN)),
-            hex(self.held.bytes()),
-            told(input)
-        );
-        assert_eq!(self.state, self.held.state(), "the state: {}", told(input));
-        assert!(
-            self.lent.kept_past(HELD_LEN),
-            "bytes around the reader changed: {}",
-            told(input)
-        );
+        let Pair { origin, tally, .. } = &self.pair;
+        tally.has_each_of(*origin, numbers, least);
     }
 }
 
 /// An answer of the iterator, as a call gives it.
-fn borrowed(told: &Result<OwnedFrame, Error>) -> Result<Frame<'_>, Error> {
+fn borrowed(told: &Result<Located<OwnedFrame>, Located<Error>>) -> Told<'_> {
     match told {
-        Ok(owned) => Ok(owned.frame()),
-        Err(error) => Err(*error),
+        Ok(Located { position, answer }) => Ok(Located {
+            position: *position,
+            answer: answer.frame(),
+        }),
+        Err(refused) => Err(*refused),
     }
 }
 
@@ -328,7 +201,7 @@ fn long_chunks_are_read_alike() {
         for part in [&stray[..], &[STANDARD_START], &stray, &[STOP]] {
             readers.feed(part, |left| left);
         }
-        readers.tally.has_each(&[2], 1);
+        readers.pair.tally.has_each(&[2], 1);
     }
 }
 
@@ -342,9 +215,10 @@ fn a_reader_keeps_its_origin() {
             readers.finish(&|| format!("finishing after {}", hex(before)));
             readers.feed(&STANDARD, |left| left);
         }
-        match readers.origin {
-            Origin::Live => readers.tally.has_each(&[17], 4),
-            Origin::Trace => readers.tally.has_each(&[0], 4),
+        let tally = &readers.pair.tally;
+        match readers.origin() {
+            Origin::Live => tally.has_each(&[17], 4),
+            Origin::Trace => tally.has_each(&[0], 4),
         }
     }
 }
@@ -353,5 +227,7 @@ fn a_reader_keeps_its_origin() {
 fn a_reader_by_default_is_live() {
     let mut reader = LineReader::default();
     let fed = reader.feed(&[STANDARD_START, 0x41, 0x41, STOP]);
-    assert_eq!(fed.told, Some(Err(Error::Unnamed)));
+    let position = 0;
+    let answer = Error::Unnamed;
+    assert_eq!(fed.told, Some(Err(Located { position, answer })));
 }

@@ -3,7 +3,7 @@
 
 use csafe::frame::{self, Frame, Kind};
 use csafe::workout::{Goal, Hundredths, Metres, Seconds, Workout, FRAME_LIMIT, LEN};
-use csafe::{Error, LineReader};
+use csafe::{Error, LineReader, Located};
 use plain::workout as plain_rust;
 
 use crate::common::Xorshift;
@@ -285,7 +285,11 @@ fn check_read_live(address: u8, workout: Workout, wire: &[u8]) {
     assert_eq!(frame::read(wire, &mut out), Ok(expected));
     let mut reader = LineReader::new();
     let fed = reader.feed(wire);
-    assert_eq!((fed.taken, fed.told), (wire.len(), Some(Ok(expected))));
+    let told = Located {
+        position: 0,
+        answer: expected,
+    };
+    assert_eq!((fed.taken, fed.told), (wire.len(), Some(Ok(told))));
 }
 
 #[test]

@@ -6,7 +6,7 @@ use crate::Texts;
 type Change = (&'static str, &'static str, &'static str);
 
 #[rustfmt::skip]
-const OF_SOURCE: [Change; 12] = [
+const OF_SOURCE: [Change; 14] = [
     ("to: u8, from: u8", "from: u8, to: u8", "csafe_write_extended"),
     ("csafe_extended_length(to: u8, from: u8", "csafe_extended_length(from: u8, to: u8", "csafe_extended_length"),
     ("csafe_standard_length(contents: &[u8]", "csafe_standard_length(contents: &mut [u8]", "csafe_standard_length"),
@@ -16,22 +16,26 @@ const OF_SOURCE: [Change; 12] = [
     ("[u8; 118]", "[u8; 117]", "csafe_feed"),
     ("token: u64", "token: i64", "i64"),
     ("#[no_mangle]", "", "extern"),
-    ("csafe_finish(state: &mut u64) -> u64", "csafe_finish(state: &mut u64) -> u32", "u32"),
+    ("counts: &mut u64, position: &mut u32) -> u64", "counts: &mut u64, position: &mut u32) -> u32", "u32"),
+    ("counts: &mut u64, position: &mut u32)", "counts: &mut u64, position: &mut u64)", "csafe_finish"),
+    ("csafe_finish(state: &mut u64, counts", "csafe_finish(counts: &mut u64, state", "csafe_finish"),
     ("csafe_trace_read(wire: &[u8]", "csafe_trace_read(wire: &mut [u8]", "csafe_trace_read"),
     ("address: u32", "address: u8", "csafe_write_distance_workout_frame"),
 ];
 
 #[rustfmt::skip]
-const OF_BLOCK: [Change; 13] = [
+const OF_BLOCK: [Change; 15] = [
     ("to: u8, from: u8", "from: u8, to: u8", "csafe_write_extended"),
     ("csafe_extended_length(to: u8, from: u8", "csafe_extended_length(from: u8, to: u8", "csafe_extended_length"),
     ("csafe_standard_length(contents: *const u8", "csafe_standard_length(contents: *mut u8", "csafe_standard_length"),
-    ("pub fn csafe_finish(state: *mut u64) -> u64;", "", "csafe_finish"),
+    ("pub fn csafe_finish(state: *mut u64, counts: *mut u64, position: *mut u32) -> u64;", "", "csafe_finish"),
     ("pub fn csafe_finish", "pub fn csafe_reset(state: *mut u64) -> u64; pub fn csafe_finish", "csafe_reset"),
     ("watts: u16", "watts: u32", "csafe_write_distance_workout"),
     ("contents_len: usize", "contents_len: u32", "csafe_write_standard"),
     ("wire: *const u8", "wire: *mut u8", "csafe_read"),
-    ("taken: *mut u64", "taken: *mut u32", "u32"),
+    ("taken: *mut u64", "taken: *mut u16", "u16"),
+    ("position: *mut u32", "position: *mut u64", "csafe_feed"),
+    ("state: *mut u64, counts: *mut u64", "counts: *mut u64, state: *mut u64", "csafe_feed"),
     ("address: u32, token: u64)", "address: u32)", "csafe_hold"),
     ("wire_len", "length", "csafe_read"),
     ("csafe_trace_read(wire: *const u8", "csafe_trace_read(wire: *mut u8", "csafe_trace_read"),
@@ -39,13 +43,15 @@ const OF_BLOCK: [Change; 13] = [
 ];
 
 #[rustfmt::skip]
-const OF_HEADER: [Change; 13] = [
+const OF_HEADER: [Change; 15] = [
     ("uint8_t to, uint8_t from", "uint8_t from, uint8_t to", "csafe_write_extended"),
     ("csafe_extended_length(uint8_t to, uint8_t from", "csafe_extended_length(uint8_t from, uint8_t to",
         "csafe_extended_length"),
     ("csafe_standard_length(const uint8_t", "csafe_standard_length(uint8_t", "csafe_standard_length"),
-    ("uint64_t csafe_finish(uint64_t *state);", "", "csafe_finish"),
+    ("uint64_t csafe_finish(uint64_t *state, uint64_t *counts, uint32_t *position);", "", "csafe_finish"),
     ("uint64_t csafe_finish", "uint64_t csafe_reset(uint64_t *state); uint64_t csafe_finish", "csafe_reset"),
+    ("uint32_t *position", "uint64_t *position", "csafe_feed"),
+    ("uint64_t *state, uint64_t *counts", "uint64_t *counts, uint64_t *state", "csafe_feed"),
     ("uint16_t watts", "uint32_t watts", "csafe_write_distance_workout"),
     ("size_t contents_len", "uint32_t contents_len", "csafe_write_standard"),
     ("const uint8_t *wire", "uint8_t *wire", "csafe_read"),

@@ -47,6 +47,7 @@ fn parameter(part: &[&str]) -> Result<Parameter, String> {
         ["usize"] => Type::Length,
         ["*", "const", "u8"] => Type::ConstBytes,
         ["*", "mut", "u8"] => Type::MutBytes,
+        ["*", "mut", "u32"] => Type::MutU32,
         ["*", "mut", "u64"] => Type::MutU64,
         _ => return Err(format!("{} is an unknown type", kind.concat())),
     };

@@ -120,6 +120,7 @@ fn parameter(part: &[&str], defines: &Constants) -> Result<Parameter, String> {
         ["size_t", name] => (name, Type::Length),
         ["const", "uint8_t", "*", name] => (name, Type::ConstBytes),
         ["uint8_t", "*", name] => (name, Type::MutBytes),
+        ["uint32_t", "*", name] => (name, Type::MutU32),
         ["uint64_t", "*", name] => (name, Type::MutU64),
         ["uint8_t", name, "[", len, "]"] => (name, Type::MutArray(defined(len, defines)?)),
         _ => return Err(format!("{} is an unknown parameter", part.join(" "))),

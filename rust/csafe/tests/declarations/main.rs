@@ -19,7 +19,7 @@ use header::Header;
 use signature::{compare, without_array_lengths};
 
 /// The refusals that the exported functions give.
-const GIVEN: [u8; 13] = [1, 2, 3, 4, 5, 6, 9, 10, 11, 12, 14, 17, 18];
+const GIVEN: [u8; 14] = [1, 2, 3, 4, 5, 6, 9, 10, 11, 12, 14, 16, 17, 18];
 
 /// The crates whose functions are exported: those of the live line first, then those of stored traces.
 const CRATES: [&str; 2] = ["exports", "trace_exports"];
@@ -101,6 +101,7 @@ fn the_headers_lengths_are_those_of_the_package() {
         ("CSAFE_CONTENTS_LIMIT", frame::CONTENTS_LIMIT),
         ("CSAFE_LINE_LEN", line::HELD_LEN),
         ("CSAFE_CHUNK_LIMIT", line::CHUNK_LIMIT),
+        ("CSAFE_LINE_LIMIT", line::LIMIT as usize),
         ("CSAFE_WORKOUT_LEN", workout::LEN),
         ("CSAFE_WORKOUT_FRAME_LIMIT", workout::FRAME_LIMIT),
         ("CSAFE_STOP_LIMIT", lease::STOP_LIMIT),

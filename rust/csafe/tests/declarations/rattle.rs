@@ -49,6 +49,7 @@ fn lent(part: &[&str]) -> Result<Vec<Parameter>, String> {
         ["u16"] => one(Type::U16),
         ["u32"] => one(Type::U32),
         ["u64"] => one(Type::U64),
+        ["&", "mut", "u32"] => one(Type::MutU32),
         ["&", "mut", "u64"] => one(Type::MutU64),
         ["&", "[", "u8", "]"] => slice(Type::ConstBytes),
         ["&", "mut", "[", "u8", "]"] => slice(Type::MutBytes),

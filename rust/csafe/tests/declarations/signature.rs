@@ -13,6 +13,7 @@ pub enum Type {
     MutBytes,
     /// A pointer to this many bytes, without their length.
     MutArray(usize),
+    MutU32,
     MutU64,
 }
 

@@ -55,8 +55,9 @@ fn run(line: &str) -> Option<String> {
         "distance-frame" => workout_frame_answer(arguments, distance)?,
         "time-frame" => workout_frame_answer(arguments, time)?,
         "lease" => lease_answer(arguments)?,
-        "line" => line_answer(Origin::Trace, arguments)?,
-        "live-line" => line_answer(Origin::Live, arguments)?,
+        "line" => line_answer(Origin::Trace, 0, arguments)?,
+        "live-line" => line_answer(Origin::Live, 0, arguments)?,
+        "line-at" => line_at_answer(arguments)?,
         "chunks" => chunks_answer(Origin::Trace, arguments)?,
         "live-chunks" => chunks_answer(Origin::Live, arguments)?,
         "command" => command_answer(&bytes(arguments)?)?,
@@ -435,10 +436,17 @@ fn lease_call(table: &mut [u8], call: &str) -> Option<String> {
     Some(format!(" {name}={answer}"))
 }
 
+/// As `line`, with readers that have taken as many bytes as the first word says.
+fn line_at_answer(arguments: &str) -> Option<String> {
+    let (count, groups) = arguments.split_once(' ')?;
+    line_answer(Origin::Trace, count.parse().ok()?, groups)
+}
+
 /// The answers of a reader that gets single bytes and of one that gets a group's
-/// bytes at once; both are finished after each group.
-fn line_answer(origin: Origin, arguments: &str) -> Option<String> {
-    let (mut single, mut chunked) = (Line::new(origin), Line::new(origin));
+/// bytes at once; both have taken `count` bytes and are finished after each group.
+fn line_answer(origin: Origin, count: u32, arguments: &str) -> Option<String> {
+    let mut single = Line::with_count(origin, count);
+    let mut chunked = single.clone();
     let group = |group| {
         let bytes = bytes(group)?;
         let step = step_all(&mut single, &bytes);
@@ -451,47 +459,54 @@ fn line_answer(origin: Origin, arguments: &str) -> Option<String> {
 /// The answers of the reader by value, whose array has zeros behind the contents.
 fn step_all(line: &mut Line, bytes: &[u8]) -> String {
     let mut answers = String::new();
-    for (at, &byte) in bytes.iter().enumerate() {
+    for (by, &byte) in bytes.iter().enumerate() {
         let answer = line.feed(byte);
-        answers += &stepped_at(at, answer, line.contents());
+        answers += &stepped_by(by, answer, line.contents());
     }
     let last = line.finish();
-    answers + &stepped_at(bytes.len(), last, line.contents())
+    answers + &stepped_by(bytes.len(), last, line.contents())
 }
 
-fn stepped_at(at: usize, answer: Answer, contents: &[u8]) -> String {
+fn stepped_by(by: usize, answer: Answer, contents: &[u8]) -> String {
     let nonzero = match answer {
         Answer::Nothing => return String::new(),
-        Answer::Frame(_) => contents.iter().filter(|&&byte| byte != 0).count(),
-        Answer::Refused(_) => 0,
+        Answer::Frame { .. } => contents.iter().filter(|&&byte| byte != 0).count(),
+        Answer::Refused { .. } => 0,
     };
-    format!("{} nonzero={nonzero}", told_at(at, answer, contents))
+    format!("{} nonzero={nonzero}", told_by(by, answer, contents))
 }
 
+/// The answers up to the first byte that is not taken.
 fn feed_all(line: &mut Line, bytes: &[u8]) -> String {
     let mut answers = String::new();
     let mut fed = 0;
     while fed < bytes.len() {
         let (taken, answer) = line.feed_chunk(&bytes[fed..]);
+        let by = fed + taken.saturating_sub(1);
+        answers += &told_by(by, answer, line.contents());
+        if taken == 0 {
+            break;
+        }
         fed += taken;
-        answers += &told_at(fed - 1, answer, line.contents());
     }
     let last = line.finish();
-    answers + &told_at(bytes.len(), last, line.contents())
+    answers + &told_by(bytes.len(), last, line.contents())
 }
 
-fn told_at(at: usize, answer: Answer, contents: &[u8]) -> String {
+fn told_by(by: usize, answer: Answer, contents: &[u8]) -> String {
     match answer {
         Answer::Nothing => String::new(),
-        _ => format!(" at={at}{}", told(answer, contents)),
+        _ => format!(" by={by}{}", told(answer, contents)),
     }
 }
 
 fn told(answer: Answer, contents: &[u8]) -> String {
     match answer {
         Answer::Nothing => String::new(),
-        Answer::Frame(read) => told_frame(read, contents),
-        Answer::Refused(code) => refusal_of(code),
+        Answer::Frame { position, frame } => {
+            format!(" at={position}{}", told_frame(frame, contents))
+        }
+        Answer::Refused { position, code } => format!(" at={position}{}", refusal_of(code)),
     }
 }
 

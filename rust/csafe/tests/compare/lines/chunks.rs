@@ -120,17 +120,20 @@ enum Ends {
 }
 
 impl Ends {
-    /// What a call does that takes so many bytes. A standard frame is refused on a live line.
-    fn done(self, origin: Origin, taken: usize) -> Done {
+    /// What a call does that takes so many bytes, where the frame begins at a position. A standard frame is refused on
+    /// a live line.
+    fn done(self, origin: Origin, taken: usize, position: usize) -> Done {
         let (to, from, len) = (0x05, 0x00, 1);
+        let position = position as u32;
+        let frame_at = |frame| Answer::Frame { position, frame };
         let answer = match (self, origin) {
             (Ends::Nothing, _) => return nothing(taken),
-            (Ends::Frame, _) => Answer::Frame(Read::Extended { to, from, len }),
-            (Ends::StandardFrame, Origin::Trace) => Answer::Frame(Read::Standard { len }),
-            (Ends::StandardFrame, Origin::Live) => Answer::Refused(17),
+            (Ends::Frame, _) => frame_at(Read::Extended { to, from, len }),
+            (Ends::StandardFrame, Origin::Trace) => frame_at(Read::Standard { len }),
+            (Ends::StandardFrame, Origin::Live) => Answer::Refused { position, code: 17 },
         };
         let contents = match answer {
-            Answer::Frame(_) => vec![0x41],
+            Answer::Frame { .. } => vec![0x41],
             _ => Vec::new(),
         };
         Done {
@@ -182,9 +185,10 @@ fn the_last_byte_within_the_limit_is_answered_and_the_next_is_not_taken() {
     for (frame, ends) in frames {
         for (stop, taken, telling) in STOPS {
             let mut chunk = vec![STRAY; 2 * LIMIT + 1];
-            chunk[stop + 1 - frame.len()..=stop].copy_from_slice(frame);
+            let start = stop + 1 - frame.len();
+            chunk[start..=stop].copy_from_slice(frame);
             for mut readers in readers() {
-                let origin = readers.origin;
+                let origin = readers.origin();
                 let input = || format!("{origin:?}, {} that ends at {stop}", hex(frame));
                 let mut rest = &chunk[..];
                 for (call, taken) in taken.into_iter().enumerate() {
@@ -194,7 +198,7 @@ fn the_last_byte_within_the_limit_is_answered_and_the_next_is_not_taken() {
                         Ends::Nothing
                     };
                     let done = readers.feed_chunk(rest, &input);
-                    assert_eq!(done, ends.done(origin, taken), "{}", input());
+                    assert_eq!(done, ends.done(origin, taken, start), "{}", input());
                     rest = &rest[taken..];
                 }
             }
@@ -348,7 +352,7 @@ fn an_iterator_has_fed_all_but_its_rest() {
         );
         let told = answers.next().expect("the chunk has a frame");
         let done = Done::by_ours(0, Some(borrowed(&told)));
-        assert_eq!(done, Ends::StandardFrame.done(origin, 0));
+        assert_eq!(done, Ends::StandardFrame.done(origin, 0, LIMIT - 3));
         let rest = answers.rest();
         assert_eq!(rest, &chunk[LIMIT + 1..]);
         assert_eq!(reader.finish(), Ok(()));

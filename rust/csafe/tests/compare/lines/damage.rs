@@ -121,9 +121,13 @@ fn check_change(origin: Origin, sound: &Sound, (index, new): (usize, u8), random
     let place = surroundings.place_of_answer(&sound.wire, &expected);
     let (_, answer, contents) = &mut expected[place.expect("a frame's stop flag is answered")];
     let foretold = read_changed(origin, &sound.wire, index, new);
+    let position = surroundings.before.len() as u32;
     let (new_answer, new_contents) = match foretold.expect("the frame is sound") {
-        Ok(read) => (Answer::Frame(read), sound.plain.contents.clone()),
-        Err(number) => (Answer::Refused(number), Vec::new()),
+        Ok(frame) => (
+            Answer::Frame { position, frame },
+            sound.plain.contents.clone(),
+        ),
+        Err(code) => (Answer::Refused { position, code }, Vec::new()),
     };
     assert_ne!(*answer, new_answer, "{index} of {}", hex(&sound.wire));
     (*answer, *contents) = (new_answer, new_contents);
@@ -167,11 +171,11 @@ fn an_allowed_change_is_told_at_the_stop_flag_alone() {
 /// gets no answer.
 #[test]
 fn a_flag_between_the_flags_is_told_too() {
-    let refused = |fed, number| ((0, fed), Answer::Refused(number), Vec::new());
+    let refused = |fed, position, code| ((0, fed), Answer::Refused { position, code }, Vec::new());
     let cases = [
-        (0xF2, vec![refused(4, 4)]),
-        (0xF0, vec![refused(4, 6), refused(11, 5)]),
-        (0xF1, vec![refused(4, 6), refused(11, 5)]),
+        (0xF2, vec![refused(4, 0, 4)]),
+        (0xF0, vec![refused(4, 0, 6), refused(11, 3, 5)]),
+        (0xF1, vec![refused(4, 0, 6), refused(11, 3, 5)]),
     ];
     for (flag, expected) in cases {
         for origin in ORIGINS {

@@ -1,7 +1,7 @@
-//! Readers on lent bytes: any number and any bytes are one, and a call has the origin of the function that is called.
+//! Readers on lent bytes: any numbers and any bytes are one, and a call has the origin of the function that is called.
 
 use csafe::line::{self, HELD_LEN};
-use csafe::Error;
+use csafe::{Error, Located};
 use plain::frame::{self as plain_rust, Origin, Read};
 use plain::line::Answer;
 
@@ -9,11 +9,24 @@ use super::{any_chunk, Done};
 use crate::by_origin;
 use crate::common::Xorshift;
 use crate::frame_damage::{ESCAPE, EXTENDED_START, STANDARD_START, STOP};
-use crate::held::{Held, IN_EXTENDED, IN_STANDARD, MODES, OUTSIDE, OVERLONG};
+use crate::held::{
+    counts_of, Held, IN_EXTENDED, IN_STANDARD, LINE_LIMIT, MODES, OUTSIDE, OVERLONG,
+};
 use crate::output::{hex, told, Output};
 use crate::tally::Tally;
 use crate::traces::Stretches;
 use crate::ORIGINS;
+
+/// Counts of a reader that is far from full, and the position in them.
+const COUNTS: u64 = 9 << 32 | POSITION as u64;
+const POSITION: u32 = 5;
+
+/// What a full reader answers to any byte.
+const FULL: Answer = refused_at(0, 16);
+
+const fn refused_at(position: u32, code: u8) -> Answer {
+    Answer::Refused { position, code }
+}
 
 /// Lengths that no call leaves in a reader's number: more than its bytes, up to the most that a number has.
 const TOO_MANY: [u64; 7] = [
@@ -30,39 +43,47 @@ const TOO_MANY: [u64; 7] = [
 struct Lent {
     output: Output,
     state: u64,
+    counts: u64,
     held: Held,
 }
 
 impl Lent {
-    fn new(bytes: [u8; HELD_LEN], state: u64) -> Lent {
+    fn new(bytes: [u8; HELD_LEN], state: u64, counts: u64) -> Lent {
         let mut output = Output::new(HELD_LEN);
         output.lent().copy_from_slice(&bytes);
         Lent {
             output,
             state,
-            held: Held::new(bytes, state),
+            counts,
+            held: Held::new(bytes, state, counts),
         }
     }
 
     /// Feeds a chunk by one call, which has to do what its bytes do singly.
     fn feed(&mut self, origin: Origin, chunk: &[u8]) -> Done {
-        let before = self.held.clone();
+        let (before, numbers) = (self.held.clone(), (self.state, self.counts));
         let input = || {
-            let (state, bytes) = (before.state(), before.bytes());
-            let reader = format!("the reader {state:#X} {}", hex(bytes));
+            let reader = format!("the reader {numbers:#X?} {}", hex(before.bytes()));
             format!("{origin:?}, {} fed to {reader}", hex(chunk))
         };
         let expected = self.expected(origin, chunk);
         let bytes = self.output.lent().try_into();
         let bytes = bytes.expect("the room is that of a reader");
-        let fed = by_origin::feed(origin, bytes, &mut self.state, chunk);
+        let fed = by_origin::feed(origin, bytes, &mut self.state, &mut self.counts, chunk);
         let done = Done::by_ours(fed.taken, fed.told);
         assert_eq!(done, expected, "{}", told(&input));
         self.check_held(&input);
+        let kept = (self.state, self.counts) == numbers;
+        assert!(
+            done.taken > 0 || kept,
+            "no byte was taken, and the numbers changed: {}",
+            told(&input)
+        );
         done
     }
 
-    /// Feeds a line in chunks, each for an origin of its own, and counts what is told.
+    /// Feeds a line in chunks, each for an origin of its own, and counts what is told. Where the reader is full, it is
+    /// finished.
     fn feed_mixed(&mut self, line: &[u8], random: &mut Xorshift, tally: &mut Tally) {
         let mut rest = line;
         while !rest.is_empty() {
@@ -71,40 +92,48 @@ impl Lent {
             rest = &rest[done.taken..];
             match done.answer {
                 Answer::Nothing => {}
-                Answer::Frame(_) => tally.add(&Ok(())),
-                Answer::Refused(number) => tally.add::<()>(&Err(number)),
+                Answer::Frame { .. } => tally.add(&Ok(())),
+                Answer::Refused { code, .. } => tally.add::<()>(&Err(code)),
+            }
+            if done.answer == FULL {
+                self.finish();
             }
         }
     }
 
-    /// What the bytes of a chunk do up to the first that is answered.
+    /// What the bytes of a chunk do up to the first that is answered. One that a full reader gets is answered where it
+    /// is the first.
     fn expected(&mut self, origin: Origin, chunk: &[u8]) -> Done {
+        let done = |taken, answer, contents| Done {
+            taken,
+            answer,
+            contents,
+        };
         for (at, byte) in chunk.iter().enumerate() {
+            if self.held.is_full() {
+                let answer = if at == 0 { FULL } else { Answer::Nothing };
+                return done(at, answer, Vec::new());
+            }
             let (answer, contents) = answered(origin, &self.held, *byte);
             self.held.take(*byte, &contents);
             if answer != Answer::Nothing {
-                return Done {
-                    taken: at + 1,
-                    answer,
-                    contents,
-                };
+                return done(at + 1, answer, contents);
             }
         }
-        Done {
-            taken: chunk.len(),
-            answer: Answer::Nothing,
-            contents: Vec::new(),
-        }
+        done(chunk.len(), Answer::Nothing, Vec::new())
     }
 
     fn finish(&mut self) {
-        let before = self.held.state();
-        let input = || format!("finishing the reader {before:#X}");
-        let expected = match before % MODES {
+        let before = (self.state, self.counts);
+        let input = || format!("finishing the reader {before:#X?}");
+        let position = position_of(&self.held);
+        let answer = Error::Truncated;
+        let expected = match self.held.state() % MODES {
             OUTSIDE => Ok(()),
-            _ => Err(Error::Truncated),
+            _ => Err(Located { position, answer }),
         };
-        assert_eq!(line::finish(&mut self.state), expected, "{}", told(&input));
+        let finished = line::finish(&mut self.state, &mut self.counts);
+        assert_eq!(finished, expected, "{}", told(&input));
         self.held.finish();
         self.check_held(&input);
     }
@@ -116,6 +145,12 @@ impl Lent {
             told(input)
         );
         assert_eq!(self.state, self.held.state(), "the state: {}", told(input));
+        let counts = self.counts;
+        assert!(
+            self.held.has_counts(counts),
+            "the counts {counts:#X}: {}",
+            told(input)
+        );
         assert!(
             self.output.kept_past(HELD_LEN),
             "bytes around the reader changed: {}",
@@ -124,24 +159,30 @@ impl Lent {
     }
 }
 
-/// What a byte gives, and the contents of a frame. A start flag ends whatever is open as 6. At the stop flag a
-/// candidate that is too long to be held is 2, and the others are read as the slice from their start flag to this stop
-/// flag.
+/// What a byte that is taken gives, and the contents of a frame. A start flag ends whatever is open as 6. At the stop
+/// flag a candidate that is too long to be held is 2, and the others are read as the slice from their start flag to
+/// this stop flag.
 fn answered(origin: Origin, reader: &Held, byte: u8) -> (Answer, Vec<u8>) {
-    let refused = |number| (Answer::Refused(number), Vec::new());
+    let position = position_of(reader);
+    let refused = |code| (refused_at(position, code), Vec::new());
+    let judged = |start| match read(origin, start, body_of(reader)) {
+        Ok((frame, contents)) => (Answer::Frame { position, frame }, contents),
+        Err(code) => refused(code),
+    };
     let nothing = (Answer::Nothing, Vec::new());
     match (byte, reader.state() % MODES) {
         (_, OUTSIDE) => nothing,
         (EXTENDED_START | STANDARD_START, _) => refused(6),
-        (STOP, IN_EXTENDED) => {
-            read(origin, EXTENDED_START, body_of(reader)).unwrap_or_else(refused)
-        }
-        (STOP, IN_STANDARD) => {
-            read(origin, STANDARD_START, body_of(reader)).unwrap_or_else(refused)
-        }
+        (STOP, IN_EXTENDED) => judged(EXTENDED_START),
+        (STOP, IN_STANDARD) => judged(STANDARD_START),
         (STOP, _) => refused(2),
         _ => nothing,
     }
+}
+
+/// The position of the start flag of an open candidate.
+fn position_of(reader: &Held) -> u32 {
+    reader.counts() as u32
 }
 
 /// The bytes of an open candidate. A length of 118 or more counts as a full array.
@@ -151,28 +192,29 @@ fn body_of(reader: &Held) -> &[u8] {
 }
 
 /// What the independent side reads of a start flag, these bytes and a stop flag.
-fn read(origin: Origin, start: u8, body: &[u8]) -> Result<(Answer, Vec<u8>), u8> {
+fn read(origin: Origin, start: u8, body: &[u8]) -> Result<(Read, Vec<u8>), u8> {
     let wire = [&[start], body, &[STOP]].concat();
     let mut out = vec![0; wire.len()];
     let read = plain_rust::read(origin, &wire, &mut out)?;
     let (Read::Standard { len } | Read::Extended { len, .. }) = read;
     out.truncate(len);
-    Ok((Answer::Frame(read), out))
+    Ok((read, out))
 }
 
 /// The origin is that of the call that takes the stop flag. Where the candidate was opened does not matter.
 #[test]
 fn a_lent_reader_has_the_origin_of_each_call() {
     const OPENED: [u8; 3] = [STANDARD_START, 0x41, 0x41];
-    let frame = Answer::Frame(Read::Standard { len: 1 });
-    let endings = [
-        (Origin::Trace, Origin::Live, Answer::Refused(17)),
-        (Origin::Live, Origin::Trace, frame),
-    ];
-    let mut lent = Lent::new([0; HELD_LEN], 0);
-    for (opening, ending, answer) in endings.into_iter().cycle().take(6) {
-        assert_eq!(lent.feed(opening, &OPENED).answer, Answer::Nothing);
-        assert_eq!(lent.feed(ending, &[STOP]).answer, answer);
+    let frame = Read::Standard { len: 1 };
+    let mut lent = Lent::new([0; HELD_LEN], 0, 0);
+    for position in [0, 8, 16] {
+        assert_eq!(lent.feed(Origin::Trace, &OPENED).answer, Answer::Nothing);
+        let refused = lent.feed(Origin::Live, &[STOP]).answer;
+        assert_eq!(refused, refused_at(position, 17));
+        let position = position + 4;
+        assert_eq!(lent.feed(Origin::Live, &OPENED).answer, Answer::Nothing);
+        let told = lent.feed(Origin::Trace, &[STOP]).answer;
+        assert_eq!(told, Answer::Frame { position, frame });
     }
 }
 
@@ -181,7 +223,7 @@ fn a_lent_reader_is_fed_random_lines_at_both_origins() {
     let mut random = Xorshift::new();
     let mut stretches = Stretches::default();
     let mut tally = Tally::default();
-    let mut lent = Lent::new([0; HELD_LEN], 0);
+    let mut lent = Lent::new([0; HELD_LEN], 0, 0);
     for _ in 0..50_000 {
         lent.feed_mixed(stretches.any(&mut random), &mut random, &mut tally);
     }
@@ -191,16 +233,18 @@ fn a_lent_reader_is_fed_random_lines_at_both_origins() {
 /// What the stop flag gives by the mode of a reader whose bytes are all held: nothing outside, 2 where the candidate is
 /// too long, and a frame or a refusal of all 118 bytes. They are 0, so a frame's checksum and its addresses are too.
 fn at_the_stop_flag(origin: Origin, mode: u64) -> Answer {
+    let position = POSITION;
+    let frame_at = |frame| Answer::Frame { position, frame };
     match (mode, origin) {
         (OUTSIDE, _) => Answer::Nothing,
-        (IN_STANDARD, Origin::Live) => Answer::Refused(17),
-        (IN_STANDARD, Origin::Trace) => Answer::Frame(Read::Standard { len: 117 }),
-        (IN_EXTENDED, _) => Answer::Frame(Read::Extended {
+        (IN_STANDARD, Origin::Live) => refused_at(position, 17),
+        (IN_STANDARD, Origin::Trace) => frame_at(Read::Standard { len: 117 }),
+        (IN_EXTENDED, _) => frame_at(Read::Extended {
             to: 0x00,
             from: 0x00,
             len: 115,
         }),
-        _ => Answer::Refused(2),
+        _ => refused_at(position, 2),
     }
 }
 
@@ -210,7 +254,7 @@ fn a_number_with_too_great_a_length_holds_all_bytes() {
     for len in [118].into_iter().chain(TOO_MANY) {
         for mode in OUTSIDE..=OVERLONG {
             for origin in ORIGINS {
-                let new = || Lent::new([0x00; HELD_LEN], MODES * len + mode);
+                let new = || Lent::new([0x00; HELD_LEN], MODES * len + mode, COUNTS);
                 let done = new().feed(origin, &[STOP]);
                 let expected = at_the_stop_flag(origin, mode);
                 assert_eq!(done.answer, expected, "{origin:?}, {len}, mode {mode}");
@@ -219,7 +263,7 @@ fn a_number_with_too_great_a_length_holds_all_bytes() {
                 let done = new().feed(origin, &[0x00, STOP]);
                 let longer = match mode {
                     OUTSIDE => Answer::Nothing,
-                    _ => Answer::Refused(2),
+                    _ => refused_at(POSITION, 2),
                 };
                 assert_eq!(done.answer, longer, "{origin:?}, {len}, mode {mode}");
             }
@@ -227,18 +271,34 @@ fn a_number_with_too_great_a_length_holds_all_bytes() {
     }
 }
 
-/// The greatest number is that of a candidate that is too long.
+/// The greatest state is that of a candidate that is too long.
 #[test]
-fn the_greatest_number_is_a_reader() {
+fn the_greatest_state_is_a_reader() {
     for origin in ORIGINS {
-        let new = || Lent::new([STOP; HELD_LEN], u64::MAX);
+        let new = || Lent::new([STOP; HELD_LEN], u64::MAX, COUNTS);
         let answer = |chunk| new().feed(origin, chunk).answer;
         assert_eq!(answer(&[]), Answer::Nothing);
         assert_eq!(answer(&[0x41]), Answer::Nothing);
-        assert_eq!(answer(&[STOP]), Answer::Refused(2));
-        assert_eq!(answer(&[STANDARD_START]), Answer::Refused(6));
-        assert_eq!(answer(&[EXTENDED_START]), Answer::Refused(6));
+        assert_eq!(answer(&[STOP]), refused_at(POSITION, 2));
+        assert_eq!(answer(&[STANDARD_START]), refused_at(POSITION, 6));
+        assert_eq!(answer(&[EXTENDED_START]), refused_at(POSITION, 6));
         new().finish();
+    }
+}
+
+/// The greatest counts are those of a full reader. No call leaves their position, which is told all the same.
+#[test]
+fn the_greatest_counts_are_a_reader() {
+    for origin in ORIGINS {
+        for state in [OUTSIDE, IN_STANDARD, IN_EXTENDED, OVERLONG, u64::MAX] {
+            let new = || Lent::new([0x00; HELD_LEN], state, u64::MAX);
+            let answer = |chunk: &[u8]| new().feed(origin, chunk).answer;
+            assert_eq!(answer(&[]), Answer::Nothing);
+            for byte in [0x41, STOP, STANDARD_START, EXTENDED_START, ESCAPE] {
+                assert_eq!(answer(&[byte]), FULL);
+            }
+            new().finish();
+        }
     }
 }
 
@@ -251,10 +311,10 @@ fn flags_in_the_bytes_of_a_reader_are_refused_at_the_stop_flag() {
                 for origin in ORIGINS {
                     let mut bytes = [0x00; HELD_LEN];
                     bytes[HELD_LEN - 1] = flag;
-                    let done = Lent::new(bytes, MODES * len + mode).feed(origin, &[STOP]);
-                    assert_eq!(done.answer, Answer::Refused(6));
-                    let done = Lent::new(bytes, MODES * 117 + mode).feed(origin, &[STOP]);
-                    assert_ne!(done.answer, Answer::Refused(6));
+                    let lent = |len| Lent::new(bytes, MODES * len + mode, COUNTS);
+                    let refused = refused_at(POSITION, 6);
+                    assert_eq!(lent(len).feed(origin, &[STOP]).answer, refused);
+                    assert_ne!(lent(117).feed(origin, &[STOP]).answer, refused);
                 }
             }
         }
@@ -276,8 +336,8 @@ fn any_bytes(random: &mut Xorshift) -> [u8; HELD_LEN] {
     bytes.try_into().expect("there are as many")
 }
 
-/// A number with a length that calls leave, one of those that they don't, or any number at all.
-fn any_number(random: &mut Xorshift) -> u64 {
+/// A state with a length that calls leave, one of those that they don't, or any number at all.
+fn any_state(random: &mut Xorshift) -> u64 {
     let mode = random.below(4) as u64;
     match random.below(3) {
         0 => mode + MODES * random.below(HELD_LEN + 1) as u64,
@@ -286,14 +346,24 @@ fn any_number(random: &mut Xorshift) -> u64 {
     }
 }
 
+/// Counts of a reader that has taken few bytes, of one that is nearly full and may have any position, or any at all.
+fn any_counts(random: &mut Xorshift) -> u64 {
+    let position = random.number() >> 32;
+    match random.below(3) {
+        0 => counts_of(random.below(300) as u32) | random.below(300) as u64,
+        1 => counts_of(LINE_LIMIT - random.below(300) as u32) | position,
+        _ => random.number(),
+    }
+}
+
 #[test]
-fn any_number_and_any_bytes_are_a_reader() {
+fn any_numbers_and_any_bytes_are_a_reader() {
     let mut random = Xorshift::new();
     let mut stretches = Stretches::default();
     let mut tally = Tally::default();
     for _ in 0..100_000 {
-        let (bytes, number) = (any_bytes(&mut random), any_number(&mut random));
-        let mut lent = Lent::new(bytes, number);
+        let (bytes, state) = (any_bytes(&mut random), any_state(&mut random));
+        let mut lent = Lent::new(bytes, state, any_counts(&mut random));
         let line = match random.below(4) {
             0 => &[STOP],
             1 => &[ESCAPE, STOP][..],
@@ -304,5 +374,5 @@ fn any_number_and_any_bytes_are_a_reader() {
             lent.finish();
         }
     }
-    tally.has_each(&[0, 2, 3, 4, 5, 6, 17], 1_000);
+    tally.has_each(&[0, 2, 3, 4, 5, 6, 16, 17], 1_000);
 }
