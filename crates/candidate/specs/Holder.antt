@@ -10,7 +10,7 @@ use Rattle.frame.specs.Flags.{roleOf}
 use Rattle.frame.specs.declared.Origin.{Origin}
 use Rattle.frame.specs.declared.Kind.{Kind}
 use Rattle.frame.specs.declared.Kind.the-variants.{Standard, Extended}
-use Rattle.candidate.specs.Outcome.{Outcome, toldMeans, summaryOf, zeros}
+use Rattle.candidate.specs.Outcome.{Outcome, toldMeans, summaryOf}
 use Rattle.candidate.specs.Rowing.{rowing, rowingBounds}
 use Rattle.candidate.specs.declared.Mode.{Mode}
 use Rattle.candidate.specs.declared.Mode.the-variants.{Outside, InStandard, InExtended, Overlong}
@@ -27,10 +27,6 @@ holder bytes held = record { bytes = bytes; held = held }
 
 abbrev pub holderOf : Origin → List ℕ → ℕ → Mode → Holder
 holderOf o bytes len mode = holder bytes (record { len = len; mode = mode; origin = o })
-
--- A new one of an origin.
-abbrev pub newHolder : Origin → Holder
-newHolder o = holderOf o zeros 0 Outside
 
 abbrev pub originHeld : Holder → Origin
 originHeld r = r .held .origin
@@ -80,9 +76,6 @@ finishHeld r = turnSeen (originHeld r) (boundedTurn (rowing (originHeld r)) (row
 abbrev pub turnHeld : Holder → Call → HolderTurn
 turnHeld r (byte b) = stepHeld r b
 turnHeld r finish = finishHeld r
-
-abbrev pub outcomeHeld : Holder → Call → Outcome
-outcomeHeld r c = turnHeld r c .answer
 
 abbrev pub nextHeld : Holder → Call → Holder
 nextHeld r c = turnHeld r c .next

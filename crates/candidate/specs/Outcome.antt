@@ -3,7 +3,6 @@ use mathlib.Core.Path.{_≡_}
 use mathlib.Core.List.{List, [], _∷_}
 use Prim.Native.Nat.{ℕ, _≤_}
 use lib.ListN.{replicate}
-use Rattle.lists.specs.Choice.{Every}
 use Rattle.answer.specs.Answer.{Answer, result, refused}
 use Rattle.answer.specs.Refusals.{numberOf}
 use Rattle.frame.specs.Frame.{standard}
@@ -27,12 +26,9 @@ abbrev pub answersIn : List Outcome → List Verdict
 answersIn [] = []
 answersIn (o ∷ outcomes) = withAnswer o (answersIn outcomes)
 
--- No outcome is refusal 1, which a line reader never answers.
+-- An outcome is not refusal 1, which a line reader never answers.
 abbrev pub Not1 : Outcome → Type 0
 Not1 o = o ≡ judged (refused 1) → ⊥
-
-abbrev pub Never1 : List Outcome → Type 0
-Never1 outcomes = Every Not1 outcomes
 
 -- An outcome is not refusal 17.
 abbrev pub Not17 : Outcome → Type 0

@@ -3,7 +3,7 @@
 -- tell a caller. Calls of `trace_exports` are exported ones at the origin of traces.
 use Prim.Native.Nat.{ℕ, _+_, _≤_}
 use mathlib.Core.Path.{_≡_, refl, sym, ap, ap₂, _∙_, subst}
-use mathlib.Core.List.{List, [], _∷_, _++_, map, append-assoc}
+use mathlib.Core.List.{List, _∷_, _++_, map, append-assoc}
 use native.Mathlib.Omega.{arith}
 use lib.ListN.{length, set, take, length-set, length-append, length-map}
 use lib.Seq.{map-set-same, take-at}
@@ -11,12 +11,12 @@ use contract.Lifetimes.{Lfts}
 use denote.Ref.{RefT}
 use Rattle.lists.specs.Machine.{run, Answered, AnsweredBy, leftAfter}
 use Rattle.lists.proofs.Machines.{run-length}
-use Rattle.framing.specs.Reference.{Call, byte, finish, FlagFree}
+use Rattle.framing.specs.Reference.{Call, byte, FlagFree}
 use Rattle.framing.specs.Demand3.{feed}
 use Rattle.framing.specs.Located.{Located, unlocated, located, noCandidate, Counted, counted, newCounted}
 use Rattle.framing.specs.Located.{LocatedProtocol, locatedAnswer, locatedAfter, LocatedReference}
-use Rattle.framing.specs.LocatedDemand3.{bytesSinceFinish, Within, locatedToldBy, LocatedDemand3}
-use Rattle.framing.proofs.LocatedCandidates.{within-since, within-fed, counted-since, located-around}
+use Rattle.framing.specs.LocatedDemand3.{bytesSinceFinish, locatedToldBy, LocatedDemand3}
+use Rattle.framing.proofs.LocatedCandidates.{counted-since, located-around}
 use Rattle.answer.specs.Answer.{Answer, result, refused}
 use Rattle.frame.specs.Flags.{startFlag, stopFlag, roleOf, candidateOf}
 use Rattle.frame.specs.Frame.{Frame, extended}
@@ -162,14 +162,6 @@ module _ (p o : Origin) (w : List ℕ) (i b : ℕ) (c : OneChange w i b) {out la
 
 -- ---- the line
 
--- a changed byte is one byte as before
-set-within : (limit n : ℕ) (before : List Call) (w : List ℕ) (i b : ℕ) → Within limit n (before ++ feed w)
-    → Within limit n (before ++ feed (set w i b))
-set-within limit n [] w i b h =
-    within-fed limit n (set w i b) .1 (omega (arith, within-fed limit n w .0 h, length-set w i b))
-set-within limit n (byte x ∷ before) w i b h = set-within limit (n + 1) before w i b h
-set-within limit n (finish ∷ before) w i b h = (h .0, set-within limit 0 before w i b (h .1))
-
 module _ {A : Type 0} (tell : Outcome → A) (o : Origin) (answered : List Call → List (Located A) → Type 0)
     (d : LocatedDemand3 (locatedToldBy tell (locatedRowing o)) answered) (before later : List Call) where
   abbrev Q : LocatedProtocol A
@@ -193,19 +185,14 @@ module _ {A : Type 0} (tell : Outcome → A) (o : Origin) (answered : List Call 
   afterwards n = run (locatedAnswer Q) (locatedAfter Q) (counted noCandidate (ready .count + n)) later
 
   around : (kind : Kind) (body w : List ℕ) → w ≡ candidateOf kind body → FlagFree roleOf body
-      → Within mostBytes 0 (before ++ feed w) → (answers : List (Located A))
+      → bytesSinceFinish 0 before + length w ≤ mostBytes → (answers : List (Located A))
       → answered (before ++ (feed w ++ later)) answers
       → answers ≡ up-to-stop kind body
       ++ located (bytesSinceFinish 0 before) (tell (judged (admit o (verdict w)))) ∷ afterwards (length body + 2)
   around kind body w shape inside within answers k =
-      let n : ready .count ≡ bytesSinceFinish 0 before = counted-since Q newCounted before (feed w) within in
+      let n : ready .count ≡ bytesSinceFinish 0 before = counted-since Q before (omega arith) in
       let fits : ready .count + (length body + 2) ≤ mostBytes =
-      omega (
-        arith,
-        n,
-        within-fed mostBytes (bytesSinceFinish 0 before) w .0 (within-since mostBytes 0 before (feed w) within),
-        ap length shape ∙ whole-length kind body,
-      ) in
+      omega (arith, n, ap length shape ∙ whole-length kind body) in
       d .same (before ++ (feed w ++ later)) answers k
       ∙ ap (λ (v : List ℕ). LocatedReference Q (before ++ (feed v ++ later))) shape
       ∙ located-around Q (startFlag kind) body stopFlag (start-role kind) inside refl before later fits
@@ -226,10 +213,10 @@ module _ {A : Type 0} (tell : Outcome → A) (o : Origin) (answered : List Call 
       )
 
   -- Any calls, a sound frame and any calls, and the same with one byte of the frame changed, each answered as demand 3
-  -- says: the answers differ in that to the frame's stop flag alone. The calls up to the end of the frame are within the
-  -- limit of what a line reader takes.
+  -- says: the answers differ in that to the frame's stop flag alone. The bytes since the last finish, up to the end of the
+  -- frame, are within the limit of what a line reader takes.
   pub line-damaged : (p : Origin) (w : List ℕ) (f : Frame) (i b : ℕ) → SoundFrame p w f → OneChange w i b
-      → Within mostBytes 0 (before ++ feed w)
+      → bytesSinceFinish 0 before + length w ≤ mostBytes
       → (intact damaged : List (Located A)) → answered (before ++ (feed w ++ later)) intact
       → answered (before ++ (feed (set w i b) ++ later)) damaged
       → OneAnswer tell o before w f i b intact damaged
@@ -240,7 +227,8 @@ module _ {A : Type 0} (tell : Outcome → A) (o : Origin) (answered : List Call 
       let position = bytesSinceFinish 0 before in
       let rest = afterwards (length (m .body) + 2) in
       let changed = set (m .body) (m .index) b in
-      let within-too = set-within mostBytes 0 before w i b within in
+      let within-too : bytesSinceFinish 0 before + length (set w i b) ≤ mostBytes =
+      omega (arith, within, length-set w i b) in
       record {
         earlier = up-to-stop (m .kind) (m .body);
         later = rest;
@@ -259,7 +247,7 @@ module _ {A : Type 0} (tell : Outcome → A) (o : Origin) (answered : List Call 
       }
 
 module _ (p o : Origin) (before later : List Call) (w : List ℕ) (f : Frame) (i b : ℕ) (s : SoundFrame p w f)
-    (c : OneChange w i b) (within : Within mostBytes 0 (before ++ feed w)) where
+    (c : OneChange w i b) (within : bytesSinceFinish 0 before + length w ≤ mostBytes) where
   -- Calls of `step` and `finish` on readers that `new` made, with all 118 bytes of each answer.
   pub steps-damaged : {intact damaged : List (Located ValueAnswer)}
       → Answered Called (Made o) (before ++ (feed w ++ later)) intact

@@ -4,25 +4,29 @@
 use mathlib.Core.Path.{_≡_, refl, sym, ap, ap₂, _∙_, subst}
 use mathlib.Core.List.{List, [], _∷_, _++_, map}
 use native.Mathlib.Omega.{arith}
-use Prim.Native.Nat.{ℕ, _≤_, _<_}
+use Prim.Native.Nat.{ℕ, _+_, _≤_, _<_}
 use lib.ListN.{length, drop}
 use contract.Lifetimes.{Lfts}
 use denote.Ref.{RefT}
 use Rattle.lists.specs.Choice.{Every, EachPair, Exactly}
 use Rattle.lists.specs.Machine.{RanBy, Through, AnsweredBy}
 use Rattle.lists.proofs.Machines.{ran-by-run, through-known}
-use Rattle.framing.specs.Reference.{Call, finish}
+use Rattle.framing.specs.Reference.{Call, byte, finish, starts, stops, FlagFree}
 use Rattle.framing.specs.Demand3.{feed}
-use Rattle.framing.specs.Located.{Located, answerIn, positionIn, locatedBy}
-use Rattle.framing.specs.LocatedDemand3.{Within, LocatedDemand3}
+use Rattle.framing.specs.Located.{Located, located, answerIn, positionIn, locatedBy}
+use Rattle.framing.specs.LocatedDemand3.{bytesSinceFinish, LocatedDemand3}
 use Rattle.framing.proofs.Located.{located-demand3-of}
+use Rattle.framing.proofs.Positions.{finish-position, stop-position, start-position}
 use Rattle.answer.specs.Answer.{refused}
+use Rattle.frame.specs.Flags.{roleOf}
 use Rattle.frame.specs.Frame.{standard}
+use Rattle.frame.specs.Verdict.{verdict}
+use Rattle.frame.specs.Origin.{admit}
 use Rattle.frame.specs.Conditions.{Terminated, SoundFrame}
 use Rattle.frame.specs.declared.Origin.{Origin}
 use Rattle.frame.specs.declared.Origin.the-variants.{Live, Trace}
 use Rattle.candidate.specs.Outcome.{Outcome, judged, Summary, summaryOf, NotStandard, Not17}
-use Rattle.line.specs.Rowing.{mostBytes, locatedRowing, outcomeFrom, UnnamedAt}
+use Rattle.line.specs.Rowing.{mostBytes, full, locatedRowing, outcomeFrom, UnnamedAt}
 use Rattle.line.specs.Answers.{locatedOutcome}
 use Rattle.line.specs.Reader.{outcomeAt, nextAfter, AsNew}
 use Rattle.line.specs.Feed.{ChunkTurn, cutChunk}
@@ -41,6 +45,7 @@ use Rattle.line.proofs.Follows.{as-new-follows}
 use Rattle.line.proofs.ChunkLaws.{takes-to-answer, takes-first}
 use Rattle.line.proofs.ChunkCalls.{chunk-whole}
 use Rattle.line.proofs.StreamCalls.{Counts, stands-counted, taken-counts}
+use Rattle.line.proofs.FullCalls.{singly-16-exactly}
 use Rattle.line.proofs.Origins.{live-run, trace-run, each-unnamed, reference-from, judged-last}
 use Rattle.exports.proofs.csafe_feed.Reads as feed-reads
 use Rattle.exports.proofs.feed.Reads as feed-at-reads
@@ -244,12 +249,51 @@ exported-line-17-exactly {calls} {outcomes} {traced} k t =
     (subst (Every (λ (a : Located Outcome). Not17 (answerIn a))) (sym (exported-singly (t .ran) .outcomes-are))
     (trace-run (readerOf Trace (t .start)) refl calls))
 
--- Whatever calls came before within the limit, the last byte of a whole candidate is answered 17 exactly on the live line, where the
--- candidate is a sound standard frame in a trace.
+-- Whatever calls came before, the last byte of a whole candidate is answered 17 exactly on the live line, where the
+-- candidate is a sound standard frame in a trace. The bytes since the last finish are within the limit.
 pub exported-candidate-17-exactly : (o : Origin) (calls : List Call) (w : List ℕ) (earlier : List (Located Outcome))
     (last : Located Outcome)
-    → Terminated w → Within mostBytes 0 (calls ++ feed w)
+    → Terminated w → bytesSinceFinish 0 calls + length w ≤ mostBytes
     → AnsweredBy (ExportedLine o) (λ l. AsNew o (readerOf o l)) (calls ++ feed w) (earlier ++ last ∷ [])
     → Exactly (answerIn last ≡ judged (refused 17)) ((o ≡ Live) × ((c : List ℕ) × SoundFrame Trace w (standard c)))
-exported-candidate-17-exactly o calls w earlier last t within k =
-    judged-last o calls w t within earlier last (exported-demand-3 o .same (calls ++ feed w) (earlier ++ last ∷ []) k)
+exported-candidate-17-exactly o calls w earlier last t h k =
+    judged-last o calls w t h earlier last (exported-demand-3 o .same (calls ++ feed w) (earlier ++ last ∷ []) k)
+
+-- ---- positions, and a full reader
+
+module _ (o : Origin) (calls : List Call) (w : ℕ) (body : List ℕ) (s : roleOf w ≡ starts) (f : FlagFree roleOf body)
+    (earlier : List (Located Outcome)) (last : Located Outcome) where
+  -- Any calls, a start flag and bytes that are no flags, then a finish: it is answered with the bytes before the start
+  -- flag since the last finish.
+  pub exported-finished-position : bytesSinceFinish 0 calls + length (w ∷ body) ≤ mostBytes
+      → AnsweredBy (ExportedLine o) (λ l. AsNew o (readerOf o l)) ((calls ++ feed (w ∷ body)) ++ finish ∷ [])
+      (earlier ++ last ∷ [])
+      → last ≡ located (bytesSinceFinish 0 calls) (judged (refused 6))
+  exported-finished-position h k =
+      finish-position (locatedRowing o) (AnsweredBy (ExportedLine o) (λ l. AsNew o (readerOf o l))) (exported-demand-3 o)
+      calls w body s f earlier last h k
+
+  module _ (b : ℕ) (h : bytesSinceFinish 0 calls + length (w ∷ body) < mostBytes)
+      (k : AnsweredBy (ExportedLine o) (λ l. AsNew o (readerOf o l)) ((calls ++ feed (w ∷ body)) ++ byte b ∷ [])
+      (earlier ++ last ∷ [])) where
+    -- So is the stop flag, and so is another start flag.
+    pub exported-terminated-position : roleOf b ≡ stops
+        → last ≡ located (bytesSinceFinish 0 calls) (judged (admit o (verdict ((w ∷ body) ++ b ∷ []))))
+    exported-terminated-position =
+        stop-position (locatedRowing o) (AnsweredBy (ExportedLine o) (λ l. AsNew o (readerOf o l))) (exported-demand-3 o)
+        calls w body s f earlier last b h k
+
+    pub exported-truncated-position : roleOf b ≡ starts
+        → last ≡ located (bytesSinceFinish 0 calls) (judged (refused 6))
+    exported-truncated-position =
+        start-position (locatedRowing o) (AnsweredBy (ExportedLine o) (λ l. AsNew o (readerOf o l))) (exported-demand-3 o)
+        calls w body s f earlier last b h k
+
+-- A byte after any calls is answered 16 exactly where 4,294,967,295 bytes or more were fed since the last finish.
+pub exported-16-exactly : (o : Origin) (calls : List Call) (b : ℕ) (earlier : List (Located Outcome))
+    (last : Located Outcome)
+    → AnsweredBy (ExportedLine o) (λ l. AsNew o (readerOf o l)) (calls ++ byte b ∷ []) (earlier ++ last ∷ [])
+    → Exactly (answerIn last ≡ full) (mostBytes ≤ bytesSinceFinish 0 calls)
+exported-16-exactly o calls b earlier last k =
+    singly-16-exactly (readerOf o (k .start)) (k .made .count-is) calls b earlier last (readerOf o (k .last))
+    (exported-singly (k .ran))

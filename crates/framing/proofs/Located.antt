@@ -154,7 +154,7 @@ module _ {A : Type 0} (Q : LocatedProtocol A) where
   ahead-end n (candidateAt p s) = refl
 
   -- a decoder that took n bytes more, its candidate n further on
-  from-ahead : (n : ℕ) (k : CandidateAt) (c : ℕ) (calls : List Call) → n + c + bytesBeforeFinish calls ≤ Q .limit
+  pub from-ahead : (n : ℕ) (k : CandidateAt) (c : ℕ) (calls : List Call) → n + c + bytesBeforeFinish calls ≤ Q .limit
       → from (counted (ahead n k) (n + c)) calls ≡ shiftToFinish n calls (from (counted k c) calls)
   from-ahead n k c [] h = refl
   from-ahead n k c (finish ∷ calls) h = ap (λ (a : Located A). a ∷ from newCounted calls) (ahead-end n k)
@@ -179,7 +179,7 @@ module _ {A : Type 0} (Q : LocatedProtocol A) where
   opens-at k n w h e = taken-after k n w h ∙ ap (λ (ρ : Role). counted (byteAfterAt Q ρ k n w) (n + 1)) e
 
   -- bytes that are no flags keep it open, at its position
-  keeps-at : (p n : ℕ) (s bytes : List ℕ) → n + length bytes ≤ Q .limit → FlagFree (Q .protocol .role) bytes
+  pub keeps-at : (p n : ℕ) (s bytes : List ℕ) → n + length bytes ≤ Q .limit → FlagFree (Q .protocol .role) bytes
       → fedTo (counted (candidateAt p s) n) bytes ≡ counted (candidateAt p (s ++ bytes)) (n + length bytes)
   keeps-at p n s [] h f = let e : n ≡ n + 0 =
       omega arith in ap (λ (l : List ℕ). counted (candidateAt p l) n) (sym (append-nil s))
@@ -322,65 +322,3 @@ module _ {A : Type 0} (Q : LocatedProtocol A) where
       → f (calls ++ finish ∷ rest) ≡ f (calls ++ finish ∷ []) ++ f rest
   as-new-at-finish f e calls rest = simp e (runs-anew (locatedAnswer Q) (locatedAfter Q) newCounted finish (λ s. refl)
       newCounted calls rest)
-
-  -- A stop flag leaves the decoder as new but for the count: every later call is answered with positions larger by the
-  -- bytes so far, within the limit.
-  pub as-new-at-stop : (f : List Call → List (Located A)) → ((calls : List Call) → f calls ≡ LocatedReference Q calls)
-      → (bytes : List ℕ) (b : ℕ) → Q .protocol .role b ≡ stops
-      → (rest : List Call) → length bytes + 1 + bytesBeforeFinish rest ≤ Q .limit
-      → f (feed bytes ++ byte b ∷ rest) ≡ f (feed bytes ++ byte b ∷ []) ++ shiftToFinish (length bytes + 1) rest
-      (f rest)
-  as-new-at-stop f e bytes b q rest h =
-      let s = fedTo newCounted bytes in
-      let n : s .count ≡ length bytes = fed-count noCandidate 0 bytes (omega arith) ∙ omega arith in
-      let z : length bytes + 1 ≡ length bytes + 1 + 0 = omega arith in
-      let a : from (locatedAfter Q s (byte b)) rest ≡ shiftToFinish (length bytes + 1) rest (LocatedReference Q rest) =
-      ap (λ (t : Counted). from t rest) (taken-after (s .candidate) (s .count) b (omega arith)
-      ∙ ap (λ (ρ : Role). counted (byteAfterAt Q ρ (s .candidate) (s .count) b) (s .count + 1)) q)
-      ∙ ap (λ (m : ℕ). from (counted noCandidate (m + 1)) rest) n ∙ ap (λ (m : ℕ). from (counted noCandidate m) rest) z
-      ∙ from-ahead (length bytes + 1) noCandidate 0 rest (omega arith) in
-      let w : LocatedReference Q (feed bytes ++ byte b ∷ rest)
-      ≡ LocatedReference Q (feed bytes ++ byte b ∷ []) ++ shiftToFinish (length bytes + 1) rest
-      (LocatedReference Q rest) =
-      run-append (locatedAnswer Q) (locatedAfter Q) newCounted (feed bytes) (byte b ∷ rest)
-      ∙ ap (λ (l : List (Located A)). LocatedReference Q (feed bytes) ++ locatedAnswer Q s (byte b) ∷ l) a
-      ∙ sym (append-assoc (LocatedReference Q (feed bytes)) (locatedAnswer Q s (byte b) ∷ [])
-      (shiftToFinish (length bytes + 1) rest (LocatedReference Q rest)))
-      ∙ ap (λ (l : List (Located A)). l ++ shiftToFinish (length bytes + 1) rest (LocatedReference Q rest))
-      (sym (run-append (locatedAnswer Q) (locatedAfter Q) newCounted (feed bytes) (byte b ∷ []))) in
-      simp e w
-
-  -- Any bytes, a start flag and bytes that are no flags: what ends the candidate is answered with the number of the bytes
-  -- before the flag.
-  module _ (before : List ℕ) (w : ℕ) (body : List ℕ) (h : length before + length (w ∷ body) ≤ Q .limit)
-      (e : Q .protocol .role w ≡ starts) (f : FlagFree (Q .protocol .role) body) where
-    next-answer : (c : Call) → LocatedReference Q (feed (before ++ w ∷ body) ++ c ∷ [])
-        ≡ LocatedReference Q (feed (before ++ w ∷ body)) ++ locatedAnswer Q
-        (counted (candidateAt (length before) (w ∷ body)) (length before + length (w ∷ body))) c ∷ []
-    next-answer c =
-        run-append (locatedAnswer Q) (locatedAfter Q) newCounted (feed (before ++ w ∷ body)) (c ∷ [])
-        ∙ ap (λ (s : Counted). LocatedReference Q (feed (before ++ w ∷ body)) ++ locatedAnswer Q s c ∷ [])
-        (fed-open before w body h e f)
-
-    pub finished-at : LocatedReference Q (feed (before ++ w ∷ body) ++ finish ∷ [])
-        ≡ LocatedReference Q (feed (before ++ w ∷ body)) ++ located (length before) (Q .protocol .truncated) ∷ []
-    finished-at = next-answer finish
-
-    module _ (b : ℕ) (room : length before + length (w ∷ body) < Q .limit) where
-      next-byte : (ρ : Role) → Q .protocol .role b ≡ ρ → LocatedReference Q (feed (before ++ w ∷ body) ++ byte b ∷ [])
-          ≡ LocatedReference Q (feed (before ++ w ∷ body)) ++ byteAnswerAt Q ρ (candidateAt (length before) (w ∷ body))
-          b ∷ []
-      next-byte ρ q =
-          next-answer (byte b)
-          ∙ ap (λ (a : Located A). LocatedReference Q (feed (before ++ w ∷ body)) ++ a ∷ [])
-          (taken-answer (candidateAt (length before) (w ∷ body)) (length before + length (w ∷ body)) b room
-          ∙ ap (λ (r : Role). byteAnswerAt Q r (candidateAt (length before) (w ∷ body)) b) q)
-
-      pub terminated-at : Q .protocol .role b ≡ stops → LocatedReference Q (feed (before ++ w ∷ body) ++ byte b ∷ [])
-          ≡ LocatedReference Q (feed (before ++ w ∷ body)) ++ located (length before)
-          (Q .protocol .judge ((w ∷ body) ++ b ∷ [])) ∷ []
-      terminated-at q = next-byte stops q
-
-      pub truncated-at : Q .protocol .role b ≡ starts → LocatedReference Q (feed (before ++ w ∷ body) ++ byte b ∷ [])
-          ≡ LocatedReference Q (feed (before ++ w ∷ body)) ++ located (length before) (Q .protocol .truncated) ∷ []
-      truncated-at q = next-byte starts q

@@ -1,37 +1,60 @@
 -- A whole candidate, as the located reference decoder answers it: at its stop flag, with the position of its start flag,
 -- which is how many bytes came before it since the last finish.
-use mathlib.Core.Path.{_≡_, refl, sym, ap, ap₂, _∙_}
+use mathlib.Core.Path.{_≡_, refl, sym, ap, ap₂, _∙_, subst}
+use mathlib.Core.Bool.{Bool, true, false}
 use mathlib.Core.List.{List, [], _∷_, _++_, map, append-assoc, append-nil}
 use native.Mathlib.Omega.{arith}
-use Prim.Native.Nat.{ℕ, _+_, _≤_}
+use Prim.Native.Nat.{ℕ, _+_, _≤_, _<_}
+use lib.Dec.{leb, ltb}
 use lib.ListN.{length}
-use Rattle.lists.specs.Choice.{Exactly}
+use borrow.Author.Tests.{leb-true, leb-false, ltb-true, ltb-false}
+use Rattle.lists.specs.Choice.{pick}
 use Rattle.lists.specs.Machine.{run, leftAfter}
-use Rattle.lists.proofs.Machines.{run-append}
+use Rattle.lists.proofs.Cases.{by-bool}
+use Rattle.lists.proofs.Machines.{run-append, left-append}
 use Rattle.framing.specs.Reference.{Call, byte, finish, Role, starts, stops, FlagFree}
 use Rattle.framing.specs.Demand3.{feed}
 use Rattle.framing.specs.Located.{Located, unlocated, located, noCandidate, candidateAt, Counted, counted}
 use Rattle.framing.specs.Located.{newCounted, LocatedProtocol, byteAnswerAt, byteAfterAt, locatedAnswer}
 use Rattle.framing.specs.Located.{locatedAfter, LocatedReference}
-use Rattle.framing.specs.LocatedDemand3.{bytesSinceFinish, Within}
+use Rattle.framing.specs.LocatedDemand3.{bytesBeforeFinish, bytesSinceFinish, Capped, shiftToFinish}
 use Rattle.framing.proofs.Restart.{feed-append}
-use Rattle.framing.proofs.Located.{within-now, from-byte, taken-answer, taken-after, opens-at}
+use Rattle.framing.proofs.Located.{from-byte, taken-answer, taken-after, opens-at, keeps-at, from-ahead}
 
 -- ---- the count
 
--- What comes after calls within the limit is within it too, from the bytes since the last finish on.
-pub within-since : (limit n : ℕ) (calls rest : List Call) → Within limit n (calls ++ rest)
-    → Within limit (bytesSinceFinish n calls) rest
-within-since limit n [] rest w = w
-within-since limit n (byte b ∷ calls) rest w = within-since limit (n + 1) calls rest w
-within-since limit n (finish ∷ calls) rest w = within-since limit 0 calls rest (w .1)
+capped-next : (limit n c : ℕ) → Capped limit n c → Capped limit (n + 1) (pick (ltb c limit) (c + 1) c)
+capped-next limit n c k =
+    by-bool (ltb c limit)
+    (λ y. let h : c < limit = ltb-true c limit y in simp y (below h (leb n limit) refl))
+    (λ z. let h : limit ≤ c = ltb-false c limit z in simp z (above h (leb n limit) refl))
+  where
+    below : c < limit → (q : Bool) → leb n limit ≡ q → Capped limit (n + 1) (c + 1)
+    below h true e =
+        let s : c ≡ n = k .0 (leb-true n limit e) in ((λ l. omega arith), (λ l. omega arith))
+    below h false e =
+        let s : c ≡ limit = k .1 (omega (arith, leb-false n limit e)) in absurd (omega arith)
 
--- Bytes are within the limit exactly where they are few enough.
-pub within-fed : (limit n : ℕ) (bytes : List ℕ) → Exactly (Within limit n (feed bytes)) (n + length bytes ≤ limit)
-within-fed limit n [] = ((λ w. omega (arith, w)), (λ h. omega arith))
-within-fed limit n (b ∷ bytes) =
-    let k = within-fed limit (n + 1) bytes in
-    ((λ w. omega (arith, k .0 w)), (λ h. k .1 (omega arith)))
+    above : limit ≤ c → (q : Bool) → leb n limit ≡ q → Capped limit (n + 1) c
+    above h true e =
+        let s : c ≡ n = k .0 (leb-true n limit e) in
+        let l : n ≤ limit = leb-true n limit e in ((λ m. absurd (omega arith)), (λ m. omega arith))
+    above h false e =
+        let l : limit < n = leb-false n limit e in
+        let s : c ≡ limit = k .1 (omega arith) in ((λ m. absurd (omega arith)), (λ m. s))
+
+-- Whatever counts the bytes that it takes and stops at the limit has counted those since the last finish.
+pub capped-left : {S : Type 0} (limit : ℕ) (next : S → Call → S) (count : S → ℕ)
+    → ((s : S) (b : ℕ) → count (next s (byte b)) ≡ pick (ltb (count s) limit) (count s + 1) (count s))
+    → ((s : S) → count (next s finish) ≡ 0) → (s : S) (n : ℕ) → Capped limit n (count s) → (calls : List Call)
+    → Capped limit (bytesSinceFinish n calls) (count (leftAfter next s calls))
+capped-left limit next count one end s n k [] = k
+capped-left limit next count one end s n k (byte b ∷ calls) =
+    capped-left limit next count one end (next s (byte b)) (n + 1)
+    (subst (Capped limit (n + 1)) (sym (one s b)) (capped-next limit n (count s) k)) calls
+capped-left limit next count one end s n k (finish ∷ calls) =
+    capped-left limit next count one end (next s finish) 0
+    ((λ h. end s), (λ h. end s ∙ omega (arith, h))) calls
 
 module _ {A : Type 0} (Q : LocatedProtocol A) where
   -- the answers from any state on
@@ -41,17 +64,22 @@ module _ {A : Type 0} (Q : LocatedProtocol A) where
   abbrev silence : Located A
   silence = unlocated (Q .protocol .nothing)
 
-  -- Within the limit the count is that of the bytes since the last finish.
-  pub counted-since : (u : Counted) (calls rest : List Call) → Within (Q .limit) (u .count) (calls ++ rest)
-      → leftAfter (locatedAfter Q) u calls .count ≡ bytesSinceFinish (u .count) calls
-  counted-since u [] rest w = refl
-  counted-since u (byte b ∷ calls) rest w =
-      let n = u .count in
-      let after = counted (byteAfterAt Q (Q .protocol .role b) (u .candidate) n b) (n + 1) in
-      ap (λ (t : Counted). leftAfter (locatedAfter Q) t calls .count)
-      (taken-after Q (u .candidate) n b (omega (arith, within-now (Q .limit) (n + 1) (calls ++ rest) w)))
-      ∙ counted-since after calls rest w
-  counted-since u (finish ∷ calls) rest w = counted-since newCounted calls rest (w .1)
+  count-after : (u : Counted) (b : ℕ)
+      → locatedAfter Q u (byte b) .count ≡ pick (ltb (u .count) (Q .limit)) (u .count + 1) (u .count)
+  count-after u b = by-room (ltb (u .count) (Q .limit))
+    where
+      by-room : (room : Bool)
+          → pick room (counted (byteAfterAt Q (Q .protocol .role b) (u .candidate) (u .count) b) (u .count + 1)) u .count
+          ≡ pick room (u .count + 1) (u .count)
+      by-room true = refl
+      by-room false = refl
+
+  -- Up to the limit the count is that of the bytes since the last finish, whatever was refused before it.
+  pub counted-since : (calls : List Call) → bytesSinceFinish 0 calls ≤ Q .limit
+      → leftAfter (locatedAfter Q) newCounted calls .count ≡ bytesSinceFinish 0 calls
+  counted-since calls h =
+      capped-left (Q .limit) (locatedAfter Q) (λ (u : Counted). u .count) count-after (λ u. refl) newCounted 0
+      ((λ l. refl), (λ l. omega (arith, l))) calls .0 h
 
   -- the bytes of an open candidate are answered with nothing
   silently : (p n : ℕ) (t body : List ℕ) (rest : List Call) → n + length body ≤ Q .limit
@@ -122,3 +150,64 @@ module _ {A : Type 0} (Q : LocatedProtocol A) where
         let u = leftAfter (locatedAfter Q) newCounted calls in
         run-append (locatedAnswer Q) (locatedAfter Q) newCounted calls (feed (flag ∷ (body ++ b ∷ [])) ++ rest)
         ∙ ap (λ (l : List (Located A)). LocatedReference Q calls ++ l) (candidate-from u rest h)
+
+    -- The last answer to any calls and then the candidate is the judgement, at the bytes since the last finish.
+    pub located-judges : (calls : List Call) → bytesSinceFinish 0 calls + (length body + 2) ≤ Q .limit
+        → (earlier : List (Located A)) × (LocatedReference Q (calls ++ feed (flag ∷ (body ++ b ∷ [])))
+        ≡ earlier ++ located (bytesSinceFinish 0 calls) (Q .protocol .judge (flag ∷ (body ++ b ∷ []))) ∷ [])
+    located-judges calls h =
+        let n = counted-since calls (omega arith) in
+        let first = locatedAnswer Q (leftAfter (locatedAfter Q) newCounted calls) (byte flag) in
+        let between = first ∷ map (λ (x : ℕ). silence) body in
+        let judged = Q .protocol .judge (flag ∷ (body ++ b ∷ [])) in (
+          LocatedReference Q calls ++ between,
+          ap (λ (l : List Call). LocatedReference Q (calls ++ l)) (sym (append-nil (feed (flag ∷ (body ++ b ∷ [])))))
+              ∙ located-around calls [] (omega (arith, n))
+              ∙ ap (λ (p : ℕ). LocatedReference Q calls ++ (between ++ located p judged ∷ [])) n
+              ∙ sym (append-assoc (LocatedReference Q calls) between (located (bytesSinceFinish 0 calls) judged ∷ [])),
+        )
+
+  -- ---- after a stop flag
+
+  -- A stop flag leaves the decoder as new but for the count: every later call is answered with positions larger by the
+  -- bytes since the last finish, within the limit.
+  pub as-new-at-stop : (calls : List Call) (b : ℕ) → Q .protocol .role b ≡ stops → (rest : List Call)
+      → bytesSinceFinish 0 calls + 1 + bytesBeforeFinish rest ≤ Q .limit
+      → LocatedReference Q (calls ++ byte b ∷ rest)
+      ≡ LocatedReference Q (calls ++ byte b ∷ [])
+      ++ shiftToFinish (bytesSinceFinish 0 calls + 1) rest (LocatedReference Q rest)
+  as-new-at-stop calls b q rest h =
+      let u = leftAfter (locatedAfter Q) newCounted calls in
+      let n : u .count ≡ bytesSinceFinish 0 calls = counted-since calls (omega arith) in
+      let m = bytesSinceFinish 0 calls + 1 in
+      let z : m ≡ m + 0 = omega arith in
+      let later : from (locatedAfter Q u (byte b)) rest ≡ shiftToFinish m rest (LocatedReference Q rest) =
+      ap (λ (t : Counted). from t rest) (taken-after Q (u .candidate) (u .count) b (omega arith)
+      ∙ ap (λ (ρ : Role). counted (byteAfterAt Q ρ (u .candidate) (u .count) b) (u .count + 1)) q)
+      ∙ ap (λ (k : ℕ). from (counted noCandidate (k + 1)) rest) n
+      ∙ ap (λ (k : ℕ). from (counted noCandidate k) rest) z
+      ∙ from-ahead Q m noCandidate 0 rest (omega arith) in
+      run-append (locatedAnswer Q) (locatedAfter Q) newCounted calls (byte b ∷ rest)
+      ∙ ap (λ (l : List (Located A)). LocatedReference Q calls ++ locatedAnswer Q u (byte b) ∷ l) later
+      ∙ sym (append-assoc (LocatedReference Q calls) (locatedAnswer Q u (byte b) ∷ [])
+      (shiftToFinish m rest (LocatedReference Q rest)))
+      ∙ ap (λ (l : List (Located A)). l ++ shiftToFinish m rest (LocatedReference Q rest))
+      (sym (run-append (locatedAnswer Q) (locatedAfter Q) newCounted calls (byte b ∷ [])))
+
+  -- ---- an open candidate
+
+  -- Any calls, a start flag and bytes that are no flags leave a candidate open at the bytes since the last finish.
+  pub left-opened-at : (calls : List Call) (w : ℕ) (body : List ℕ) → Q .protocol .role w ≡ starts
+      → FlagFree (Q .protocol .role) body → bytesSinceFinish 0 calls + length (w ∷ body) ≤ Q .limit
+      → leftAfter (locatedAfter Q) newCounted (calls ++ feed (w ∷ body))
+      ≡ counted (candidateAt (bytesSinceFinish 0 calls) (w ∷ body)) (bytesSinceFinish 0 calls + length (w ∷ body))
+  left-opened-at calls w body s f h =
+      let u = leftAfter (locatedAfter Q) newCounted calls in
+      let p = bytesSinceFinish 0 calls in
+      let n : u .count ≡ p = counted-since calls (omega arith) in
+      let m : p + 1 + length body ≡ p + length (w ∷ body) = omega arith in
+      left-append (locatedAfter Q) newCounted calls (feed (w ∷ body))
+      ∙ ap (λ (t : Counted). leftAfter (locatedAfter Q) t (feed body)) (opens-at Q (u .candidate) (u .count) w (omega arith) s)
+      ∙ ap (λ (k : ℕ). leftAfter (locatedAfter Q) (counted (candidateAt k (w ∷ [])) (k + 1)) (feed body)) n
+      ∙ keeps-at Q p (p + 1) (w ∷ []) body (omega arith) f
+      ∙ ap (counted (candidateAt p (w ∷ body))) m

@@ -163,14 +163,6 @@ module _ {A : Type 0} (P : Protocol A) where
         ∙ held-silently (flag ∷ []) body (byte b ∷ rest) f
         ∙ ap (λ (xs : List A). map (λ (x : ℕ). P .nothing) body ++ xs) (rw e refl))
 
-    -- A whole candidate is judged at its stop flag, and nothing is answered before it.
-    pub reference-candidate : Reference P (feed (flag ∷ (body ++ b ∷ [])))
-        ≡ P .nothing ∷ (map (λ (x : ℕ). P .nothing) body ++ P .judge (flag ∷ (body ++ b ∷ [])) ∷ [])
-    reference-candidate =
-        ap (Reference P) (sym (append-nil (feed (flag ∷ (body ++ b ∷ [])))))
-        ∙ candidate-from none []
-        ∙ ap (λ (a : A). a ∷ (map (λ (x : ℕ). P .nothing) body ++ P .judge (flag ∷ (body ++ b ∷ [])) ∷ [])) (rw s refl)
-
     -- Any calls, a whole candidate and any calls: the first are answered as they are alone, the candidate's start flag as
     -- it is after them, its other bytes with nothing and its stop flag with the judgement, and the last as they are alone.
     pub reference-around : (calls rest : List Call)

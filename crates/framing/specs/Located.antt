@@ -8,7 +8,8 @@ use Rattle.lists.specs.Choice.{pick}
 use Rattle.lists.specs.Machine.{run}
 use Rattle.framing.specs.Reference.{Call, byte, finish, Role, starts, stops, plain, Candidate, none, opened, Protocol}
 
--- An answer with the position of its candidate's start flag. Nothing alone has none.
+-- An answer with its position, that of its candidate's start flag, or 0 where a byte can't be taken. Nothing alone has
+-- none.
 pub data Located (A : Type 0) : Type 0 where
   unlocated : A → Located A
   located : (position : ℕ) → A → Located A

@@ -19,11 +19,16 @@ bytesSinceFinish n [] = n
 bytesSinceFinish n (byte b ∷ calls) = bytesSinceFinish (n + 1) calls
 bytesSinceFinish n (finish ∷ calls) = bytesSinceFinish 0 calls
 
--- After n bytes no more are fed before a finish than the limit allows, and nowhere after it.
+-- Where n bytes were fed before these calls, no more than the limit are fed up to each finish, and none over it up to
+-- the end.
 abbrev pub Within : (limit n : ℕ) → List Call → Type 0
 Within limit n [] = n ≤ limit
 Within limit n (byte b ∷ calls) = Within limit (n + 1) calls
 Within limit n (finish ∷ calls) = (n ≤ limit) × Within limit 0 calls
+
+-- A count of n bytes that stops at the limit.
+abbrev pub Capped : (limit n count : ℕ) → Type 0
+Capped limit n count = (n ≤ limit → count ≡ n) × (limit ≤ n → count ≡ limit)
 
 -- An answer with its position, if it has one, larger by n.
 abbrev pub shift : {A : Type 0} → ℕ → Located A → Located A
@@ -42,14 +47,14 @@ abbrev pub locatedToldBy : {A B : Type 0} → (A → B) → LocatedProtocol A �
 locatedToldBy tell Q = record { protocol = toldBy tell (Q .protocol); limit = Q .limit; full = tell (Q .full) }
 
 module _ {A : Type 0} (Q : LocatedProtocol A) where
-  -- D, W and the bytes of L before its first finish, or to its end, are together within the limit. W begins with w.
+  -- D, then w and W, and the bytes of L before its first finish, or to its end, are together within the limit.
   abbrev pub Together : (D : List ℕ) (w : ℕ) (W : List ℕ) (L : List Call) → Type 0
   Together D w W L = length D + length (w ∷ W) + bytesBeforeFinish L ≤ Q .limit
 
-  -- The answers to D, W and L, to D alone, and to W and L where they come first. D is answered as D alone is. W's first
-  -- byte is answered with the truncation of the candidate that D left open, at the position of D's last start flag, or
-  -- with nothing. Every later call is answered as it is where W and L come first, with positions larger by the length of
-  -- D up to and with the next finish's own.
+  -- The answers to D, a start flag, W and L, to D alone, and to the flag, W and L where they come first. D is answered as
+  -- D alone is. The flag is answered with the truncation of the candidate that D left open, at the position of D's last
+  -- start flag, or with nothing. Every later call is answered as it is where the flag comes first, with positions larger
+  -- by the length of D up to and with the next finish's own.
   pub record LocatedRestarts (D W : List ℕ) (L : List Call) (all alone later : List (Located A)) : Type 0 where
     pub first : Located A
     pub whole : all ≡ alone ++ first ∷ shiftToFinish (length D) (feed W ++ L) (drop 1 later)

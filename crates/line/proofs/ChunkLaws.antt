@@ -231,6 +231,7 @@ counted-taken r s h =
       some = λ n m. by-bool (isAnswer (g .answer)) (λ y. omega (arith, t, k .some y))
           (λ q. absurd (n (a ∙ silent (g .answer) p q)));
       refuses = ((λ e. absurd (fed-not-full r s e)), (λ x. absurd (omega (arith, x .0))));
+      untaken = λ e. absurd (fed-not-full r s e);
     }
   where
     untold : (o : Outcome) (p : ℕ) → locate isAnswer p o ≡ unlocated nothing → isAnswer o ≡ false
@@ -257,6 +258,7 @@ cut-taken r given =
         (λ q. absurd (silent-not-full q)),
         (λ x. absurd (omega (arith, x .1, take-bounds chunkLimit given .1))),
       );
+      untaken = λ q. absurd (silent-not-full q);
     })
     (λ h k. let z = none-left r (cutChunk given) (inr k) in
     record {
@@ -264,6 +266,7 @@ cut-taken r given =
       all = λ q. omega arith;
       some = λ n m. absurd (m refl);
       refuses = ((λ q. (k, cut-some given h)), (λ x. refl));
+      untaken = λ q. (refl, refl);
     })
     (λ h. counted-taken r (cutChunk given) h)
 

@@ -1,51 +1,84 @@
 -- What follows from demand 3: after a finish the reader is as new, after the stop flag as new but for the count, and it
--- never answers 1. These are of the definitions and of calls of the functions.
-use mathlib.Core.Path.{_≡_, refl, sym, subst}
+-- never answers 1. These are of calls of the functions, in any form.
+use mathlib.Core.Path.{_≡_, refl, sym, ap, ap₂, _∙_, subst}
 use mathlib.Core.Bool.{Bool, true, false}
 use mathlib.Core.Logic.{inl, inr}
 use mathlib.Core.List.{List, [], _∷_, _++_}
 use native.Mathlib.Omega.{arith}
 use Prim.Native.Nat.{ℕ, _+_, _≤_, _<_}
 use lib.Dec.{ltb}
-use lib.ListN.{length}
+use lib.ListN.{length, length-set}
 use Rattle.lists.specs.Choice.{pick, Every}
-use Rattle.lists.specs.Machine.{turn, run, RanBy}
-use Rattle.framing.specs.Reference.{Call, byte, finish}
-use Rattle.framing.specs.Demand3.{feed}
-use Rattle.framing.specs.Located.{Located, located, answerIn}
-use Rattle.framing.specs.LocatedDemand3.{bytesBeforeFinish, shiftToFinish}
+use Rattle.lists.specs.Machine.{turn, run, leftAfter, RanBy, AnsweredBy}
+use Rattle.lists.proofs.Cases.{by-bool}
+use Rattle.lists.proofs.Machines.{left-append}
+use Rattle.framing.specs.Reference.{Call, byte, finish, Role, starts, stops, plain}
+use Rattle.framing.specs.Located.{Located, located, answerIn, LocatedReference}
+use Rattle.framing.specs.LocatedDemand3.{bytesBeforeFinish, bytesSinceFinish, shiftToFinish}
 use Rattle.framing.specs.Counting.{takenTurn}
-use Rattle.framing.proofs.Located.{as-new-at-finish, as-new-at-stop}
-use Rattle.frame.specs.Flags.{stopFlag}
+use Rattle.framing.proofs.Located.{as-new-at-finish}
+use Rattle.framing.proofs.LocatedCandidates.{as-new-at-stop}
+use Rattle.frame.specs.Flags.{stopFlag, roleOf}
 use Rattle.frame.specs.declared.Origin.{Origin}
 use Rattle.frame.specs.declared.Kind.the-variants.{Standard, Extended}
 use Rattle.candidate.specs.Outcome.{Outcome, capacity, Not1}
-use Rattle.candidate.specs.Holder.{holder, holderOf, nextHeld, turnHeld}
+use Rattle.candidate.specs.Holder.{Holder, holder, holderOf, roleStep, nextHeld, turnHeld}
 use Rattle.candidate.specs.Feed.{isAnswer}
+use Rattle.candidate.specs.declared.Held.{Held}
 use Rattle.candidate.specs.declared.Mode.{Mode}
 use Rattle.candidate.specs.declared.Mode.the-variants.{Outside, InStandard, InExtended, Overlong}
+use Rattle.candidate.specs.Private.{isHeld}
+use Rattle.candidate.proofs.HolderLaws.{held-byte, unheld-byte}
+use Rattle.candidate.proofs.HolderLaws.{origin-kept as held-origin}
 use Rattle.candidate.proofs.Follows.{rowing-suits}
 use Rattle.candidate.proofs.OutcomeLaws.{OwnNumber, OwnOutcome, own-outcome}
 use Rattle.line.specs.Rowing.{mostBytes, full, locatedRowing}
-use Rattle.line.specs.Reader.{originOf, counterOf, ReaderTurn, turnFrom, outcomeAt, nextAfter, readerOutcomes}
-use Rattle.line.specs.Reader.{ClosedAt, AsNew}
+use Rattle.line.specs.Reader.{originOf, counterOf, ReaderTurn, turnFrom, outcomeAt, nextAfter, ClosedAt, AsNew}
 use Rattle.line.specs.declared.LineReader.{LineReader}
-use Rattle.line.proofs.Follows.{reader-follows}
 use Rattle.line.proofs.StepLaws.{answer-located, step-taken}
-use Rattle.line.proofs.Calls.{CalledLent, lent-turns}
-use Rattle.line.proofs.ChunkCalls.{CalledOn, chunks-singly}
+use Rattle.line.proofs.ChunkCalls.{CalledOn, chunks-singly, chunks-demand-3}
 
-module _ (o : Origin) where
-  pub as-new-after-finish : (calls rest : List Call)
-      → readerOutcomes o (calls ++ finish ∷ rest) ≡ readerOutcomes o (calls ++ finish ∷ []) ++ readerOutcomes o rest
-  as-new-after-finish = as-new-at-finish (locatedRowing o) (readerOutcomes o) (reader-follows o .same)
+-- ---- later calls
 
-  -- A closed candidate leaves the count running: positions are larger by the bytes so far.
-  pub as-new-after-stop : (bytes : List ℕ) (rest : List Call) → length bytes + 1 + bytesBeforeFinish rest ≤ mostBytes
-      → readerOutcomes o (feed bytes ++ byte stopFlag ∷ rest) ≡ readerOutcomes o (feed bytes ++ byte stopFlag ∷ [])
-      ++ shiftToFinish (length bytes + 1) rest (readerOutcomes o rest)
-  as-new-after-stop bytes rest h =
-      as-new-at-stop (locatedRowing o) (readerOutcomes o) (reader-follows o .same) bytes stopFlag refl rest h
+module _ (o : Origin) (calls rest : List Call) (all first later : List (Located Outcome)) where
+  -- After a finish every call, in whichever form, is answered as by a reader that is as new.
+  pub finish-then : AnsweredBy CalledOn (AsNew o) (calls ++ finish ∷ rest) all
+      → AnsweredBy CalledOn (AsNew o) (calls ++ finish ∷ []) first → AnsweredBy CalledOn (AsNew o) rest later
+      → all ≡ first ++ later
+  finish-then k l m =
+      let d = chunks-demand-3 o in
+      d .same (calls ++ finish ∷ rest) all k
+      ∙ as-new-at-finish (locatedRowing o) (LocatedReference (locatedRowing o)) (λ c. refl) calls rest
+      ∙ sym (ap₂ (λ (x y : List (Located Outcome)). x ++ y) (d .same (calls ++ finish ∷ []) first l) (d .same rest later m))
+
+  -- After the stop flag so too, but that the count runs on: positions are larger by the bytes since the last finish.
+  pub stop-then : bytesSinceFinish 0 calls + 1 + bytesBeforeFinish rest ≤ mostBytes
+      → AnsweredBy CalledOn (AsNew o) (calls ++ byte stopFlag ∷ rest) all
+      → AnsweredBy CalledOn (AsNew o) (calls ++ byte stopFlag ∷ []) first → AnsweredBy CalledOn (AsNew o) rest later
+      → all ≡ first ++ shiftToFinish (bytesSinceFinish 0 calls + 1) rest later
+  stop-then h k l m =
+      let d = chunks-demand-3 o in
+      d .same (calls ++ byte stopFlag ∷ rest) all k
+      ∙ as-new-at-stop (locatedRowing o) calls stopFlag refl rest h
+      ∙ sym (ap₂ (λ (x y : List (Located Outcome)). x ++ shiftToFinish (bytesSinceFinish 0 calls + 1) rest y)
+      (d .same (calls ++ byte stopFlag ∷ []) first l) (d .same rest later m))
+
+-- ---- a reader keeps its origin
+
+-- Every call keeps the reader's origin.
+pub origin-kept : (r : LineReader) (c : Call) → originOf (nextAfter r c) ≡ originOf r
+origin-kept r (byte b) = by-room (ltb (r .state .count) mostBytes)
+  where
+    by-room : (room : Bool)
+        → originOf (turnFrom (pick room (takenTurn (locatedRowing (originOf r)) isAnswer turnHeld (counterOf r) b)
+        (turn (located 0 full) (counterOf r))) .next) ≡ originOf r
+    by-room true = held-origin (holder (r .bytes) (r .state .held)) (byte b)
+    by-room false = refl
+origin-kept r finish = held-origin (holder (r .bytes) (r .state .held)) finish
+
+pub left-origin : (r : LineReader) (calls : List Call) → originOf (leftAfter nextAfter r calls) ≡ originOf r
+left-origin r [] = refl
+left-origin r (c ∷ calls) = left-origin (nextAfter r c) calls ∙ origin-kept r c
 
 -- ---- what holds of every outcome of a reader
 
@@ -102,23 +135,65 @@ stop-kept o InStandard bytes len h = rowing-suits o .kept Standard len bytes h
 stop-kept o InExtended bytes len h = rowing-suits o .kept Extended len bytes h
 stop-kept o Overlong bytes len h = h
 
--- The reader that a call of `finish_in` left is as a new one of its origin, whatever else it was before, full or not.
-pub finish-left-new : (r u : LineReader) (a : Located Outcome) → CalledLent r finish a u
-    → length (r .bytes) ≡ capacity → AsNew (originOf r) u
-finish-left-new r u a k h =
-    subst (AsNew (originOf r)) (sym (lent-turns r u finish a k .1))
-    (record { array = h; outside-is = refl; origin-is = refl; count-is = refl })
+-- a byte of a role keeps the array's length
+byte-kept : (o : Origin) (bytes : List ℕ) (len b : ℕ) → length bytes ≡ capacity → (mode : Mode) (ρ : Role)
+    → length (roleStep ρ (holderOf o bytes len mode) b .next .bytes) ≡ capacity
+byte-kept o bytes len b h mode starts = h
+byte-kept o bytes len b h Outside stops = h
+byte-kept o bytes len b h InStandard stops = rowing-suits o .kept Standard len bytes h
+byte-kept o bytes len b h InExtended stops = rowing-suits o .kept Extended len bytes h
+byte-kept o bytes len b h Overlong stops = h
+byte-kept o bytes len b h mode plain =
+    by-held (isHeld mode) refl
+  where
+    by-held : (q : Bool) → isHeld mode ≡ q → length (roleStep plain (holderOf o bytes len mode) b .next .bytes) ≡ capacity
+    by-held true e =
+        ap (λ (r : Holder). length (r .bytes)) (held-byte o mode bytes len b e)
+        ∙ by-bool (ltb len capacity) (λ y. simp (y, length-set bytes len b) h) (λ n. simp n h)
+    by-held false e = ap (λ (r : Holder). length (r .bytes)) (unheld-byte o mode bytes len b e) ∙ h
 
--- One that a call of `step_in` with the stop flag left is as new but for its count.
-pub stop-left-closed : (r u : LineReader) (a : Located Outcome) → CalledLent r (byte stopFlag) a u
-    → length (r .bytes) ≡ capacity → r .state .count < mostBytes → ClosedAt (r .state .count + 1) (originOf r) u
-stop-left-closed r u a k h room =
-    let s = r .state .held in
-    subst (ClosedAt (r .state .count + 1) (originOf r)) (sym (lent-turns r u (byte stopFlag) a k .1))
-    (subst (λ (t : ReaderTurn). ClosedAt (r .state .count + 1) (originOf r) (t .next)) (sym (step-taken r stopFlag room))
+call-kept : (r : LineReader) (c : Call) → length (r .bytes) ≡ capacity → length (nextAfter r c .bytes) ≡ capacity
+call-kept r finish h = h
+call-kept r (byte b) h = by-room (ltb (r .state .count) mostBytes)
+  where
+    s : Held
+    s = r .state .held
+
+    by-room : (room : Bool)
+        → length (turnFrom (pick room (takenTurn (locatedRowing (originOf r)) isAnswer turnHeld (counterOf r) b)
+        (turn (located 0 full) (counterOf r))) .next .bytes) ≡ capacity
+    by-room true = byte-kept (s .origin) (r .bytes) (s .len) b h (s .mode) (roleOf b)
+    by-room false = h
+
+left-kept : (r : LineReader) (calls : List Call) → length (r .bytes) ≡ capacity
+    → length (leftAfter nextAfter r calls .bytes) ≡ capacity
+left-kept r [] h = h
+left-kept r (c ∷ calls) h = left-kept (nextAfter r c) calls (call-kept r c h)
+
+-- The reader that any calls in a row leave, in whichever form, the last a finish, is as a new one of the origin that it
+-- had, whatever else it was before, full or not.
+pub calls-left-new : (r last : LineReader) (calls : List Call) (outcomes : List (Located Outcome))
+    → RanBy CalledOn r (calls ++ finish ∷ []) outcomes last → length (r .bytes) ≡ capacity → AsNew (originOf r) last
+calls-left-new r last calls outcomes k h =
+    let u = leftAfter nextAfter r calls in
+    subst (AsNew (originOf r))
+    (sym (chunks-singly k .reader-is ∙ left-append nextAfter r calls (finish ∷ [])))
+    (record { array = left-kept r calls h; outside-is = refl; origin-is = left-origin r calls; count-is = refl })
+
+-- Where the last is the stop flag, and the reader can take it, it is so but for the count.
+pub calls-left-closed : (r last : LineReader) (calls : List Call) (outcomes : List (Located Outcome))
+    → RanBy CalledOn r (calls ++ byte stopFlag ∷ []) outcomes last → length (r .bytes) ≡ capacity
+    → leftAfter nextAfter r calls .state .count < mostBytes
+    → ClosedAt (leftAfter nextAfter r calls .state .count + 1) (originOf r) last
+calls-left-closed r last calls outcomes k h room =
+    let u = leftAfter nextAfter r calls in
+    let s = u .state .held in
+    subst (ClosedAt (u .state .count + 1) (originOf r))
+    (sym (chunks-singly k .reader-is ∙ left-append nextAfter r calls (byte stopFlag ∷ [])))
+    (subst (λ (t : ReaderTurn). ClosedAt (u .state .count + 1) (originOf r) (t .next)) (sym (step-taken u stopFlag room))
     (record {
-      array = stop-kept (s .origin) (s .mode) (r .bytes) (s .len) h;
+      array = stop-kept (s .origin) (s .mode) (u .bytes) (s .len) (left-kept r calls h);
       outside-is = refl;
-      origin-is = refl;
+      origin-is = left-origin r calls;
       count-is = refl;
     }))

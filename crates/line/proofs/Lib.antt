@@ -11,3 +11,4 @@ pub mod Origins
 pub mod WrittenTold
 pub mod FeedBounds
 pub mod Positions
+pub mod FullCalls

@@ -2,24 +2,22 @@
 -- never tells a standard frame, one of a trace is never answered 17, and otherwise the two origins are answered alike, at
 -- the same positions.
 use mathlib.Core.Path.{_≡_, refl, sym, ap, _∙_, subst}
-use mathlib.Core.Bool.{Bool, true, false}
 use mathlib.Core.List.{List, [], _∷_, _++_, map}
 use native.Mathlib.Omega.{arith}
-use Prim.Native.Nat.{ℕ}
-use lib.Dec.{ltb}
-use Rattle.lists.specs.Choice.{pick, Every, EachPair, Exactly}
-use Rattle.lists.specs.Machine.{turn, run, leftAfter, RanBy, AnsweredBy}
-use Rattle.framing.specs.Reference.{Call, byte, finish, Reference}
+use Prim.Native.Nat.{ℕ, _+_, _≤_}
+use lib.ListN.{length}
+use Rattle.lists.specs.Choice.{Every, EachPair, Exactly}
+use Rattle.lists.proofs.Lists.{last-same}
+use Rattle.lists.specs.Machine.{run, RanBy, AnsweredBy}
+use Rattle.framing.specs.Reference.{Call}
 use Rattle.framing.specs.Demand3.{feed}
 use Rattle.framing.specs.Located.{Located, unlocated, located, answerIn, locatedBy, LocatedProtocol}
 use Rattle.framing.specs.Located.{LocatedReference}
-use Rattle.framing.specs.LocatedDemand3.{locatedToldBy, Within}
-use Rattle.framing.specs.Counting.{takenTurn}
-use Rattle.framing.proofs.Restart.{reference-judges}
-use Rattle.framing.proofs.Located.{without-positions}
+use Rattle.framing.specs.LocatedDemand3.{bytesSinceFinish, locatedToldBy}
+use Rattle.framing.proofs.LocatedCandidates.{located-judges}
 use Rattle.framing.proofs.Counting.{located-told}
 use Rattle.answer.specs.Answer.{result, refused}
-use Rattle.frame.specs.Flags.{startFlag, stopFlag, candidateOf}
+use Rattle.frame.specs.Flags.{startFlag, stopFlag}
 use Rattle.frame.specs.Frame.{standard, extended}
 use Rattle.frame.specs.Verdict.{Verdict, verdict}
 use Rattle.frame.specs.Origin.{admit}
@@ -29,36 +27,19 @@ use Rattle.frame.specs.declared.Origin.the-variants.{Live, Trace}
 use Rattle.frame.specs.declared.Kind.the-variants.{Standard, Extended}
 use Rattle.frame.proofs.OriginLaws.{admit-means}
 use Rattle.frame.proofs.FlagLaws.{start-role}
+use Rattle.frame.proofs.VerdictLaws.{whole-length}
 use Rattle.frame.proofs.Unnamed.{not-17, unnamed-verdict}
 use Rattle.candidate.specs.Outcome.{Outcome, nothing, judged, NotStandard, Not17}
-use Rattle.candidate.specs.Rowing.{rowing}
-use Rattle.candidate.specs.Holder.{holder, turnHeld}
-use Rattle.candidate.specs.Feed.{isAnswer}
-use Rattle.candidate.proofs.HolderLaws.{origin-kept as held-origin}
+use Rattle.candidate.specs.Holder.{holder}
 use Rattle.candidate.proofs.OutcomeLaws.{every-outcome}
-use Rattle.line.specs.Rowing.{mostBytes, full, locatedRowing, outcomeFrom, UnnamedLive, UnnamedAt}
-use Rattle.line.specs.Reader.{originOf, counterOf, turnFrom, outcomeAt, nextAfter, AsNew}
+use Rattle.line.specs.Rowing.{mostBytes, locatedRowing, outcomeFrom, UnnamedLive, UnnamedAt}
+use Rattle.line.specs.Reader.{originOf, outcomeAt, nextAfter, AsNew}
 use Rattle.line.specs.declared.LineReader.{LineReader}
 use Rattle.line.proofs.Calls.{Made}
-use Rattle.line.proofs.Consequences.{every-run}
+use Rattle.line.proofs.Consequences.{origin-kept, left-origin, every-run}
 use Rattle.line.proofs.ChunkCalls.{CalledOn, chunks-singly, chunks-demand-3}
 
 -- ---- a reader keeps its origin
-
--- Every call keeps the reader's origin.
-pub origin-kept : (r : LineReader) (c : Call) → originOf (nextAfter r c) ≡ originOf r
-origin-kept r (byte b) = by-room (ltb (r .state .count) mostBytes)
-  where
-    by-room : (room : Bool)
-        → originOf (turnFrom (pick room (takenTurn (locatedRowing (originOf r)) isAnswer turnHeld (counterOf r) b)
-        (turn (located 0 full) (counterOf r))) .next) ≡ originOf r
-    by-room true = held-origin (holder (r .bytes) (r .state .held)) (byte b)
-    by-room false = refl
-origin-kept r finish = held-origin (holder (r .bytes) (r .state .held)) finish
-
-left-origin : (r : LineReader) (calls : List Call) → originOf (leftAfter nextAfter r calls) ≡ originOf r
-left-origin r [] = refl
-left-origin r (c ∷ calls) = left-origin (nextAfter r c) calls ∙ origin-kept r c
 
 -- A reader that `new` made has the origin that it was made for.
 pub made-origin : {o : Origin} {r : LineReader} → Made o r → originOf r ≡ o
@@ -209,38 +190,13 @@ line-17-exactly {calls} {outcomes} {traced} k t =
 
 -- ---- one reader alone
 
--- the last of a list that is not empty
-abbrev last-of : Outcome → List Outcome → Outcome
-last-of a [] = a
-last-of a (b ∷ s) = last-of b s
-
-last-is : (a b : Outcome) (s : List Outcome) → last-of a (s ++ b ∷ []) ≡ b
-last-is a b [] = refl
-last-is a b (c ∷ s) = last-is c b s
-
-last-told : (x : Outcome) (s : List (Located Outcome)) (a : Located Outcome)
-    → last-of x (map answerIn (s ++ a ∷ [])) ≡ answerIn a
-last-told x [] a = refl
-last-told x (b ∷ s) a = last-told (answerIn b) s a
-
--- what the last outcome is that the plain reference decoder gives to any calls and then a whole candidate
-reference-last : (o : Origin) (calls : List Call) (w : List ℕ) → Terminated w
-    → last-of nothing (Reference (rowing o) (calls ++ feed w)) ≡ judged (admit o (verdict w))
-reference-last o calls w t =
-    let k =
-    reference-judges (rowing o) (startFlag (t .kind)) (t .body) stopFlag (start-role (t .kind)) (t .inside) refl calls in
-    subst (λ (u : List ℕ). last-of nothing (Reference (rowing o) (calls ++ feed u)) ≡ judged (admit o (verdict u)))
-    (sym (t .shape))
-    (ap (last-of nothing) (k .1)
-    ∙ last-is nothing (judged (admit o (verdict (candidateOf (t .kind) (t .body))))) (k .0))
-
--- What the last outcome is that the located reference decoder gives to any calls and then a whole candidate, within the
--- limit.
-pub judged-last : (o : Origin) (calls : List Call) (w : List ℕ) → Terminated w → Within mostBytes 0 (calls ++ feed w)
-    → (earlier : List (Located Outcome)) (last : Located Outcome)
+-- What the last outcome is that the located reference decoder gives to any calls and then a whole candidate, where the
+-- bytes since the last finish are within the limit.
+pub judged-last : (o : Origin) (calls : List Call) (w : List ℕ) → Terminated w
+    → bytesSinceFinish 0 calls + length w ≤ mostBytes → (earlier : List (Located Outcome)) (last : Located Outcome)
     → earlier ++ last ∷ [] ≡ LocatedReference (locatedRowing o) (calls ++ feed w)
     → Exactly (answerIn last ≡ judged (refused 17)) ((o ≡ Live) × ((c : List ℕ) × SoundFrame Trace w (standard c)))
-judged-last o calls w t within earlier last e = (
+judged-last o calls w t h earlier last e = (
   (λ q. let j : judged (admit o (verdict w)) ≡ judged (refused 17) = sym is ∙ q in
       let z : admit o (verdict w) ≡ refused 17 = cc in unnamed-verdict o w .0 z),
   (λ k. is ∙ ap judged (unnamed-verdict o w .1 k)),
@@ -248,16 +204,19 @@ judged-last o calls w t within earlier last e = (
   where
     is : answerIn last ≡ judged (admit o (verdict w))
     is =
-        sym (last-told nothing earlier last) ∙ ap (λ (l : List (Located Outcome)). last-of nothing (map answerIn l)) e
-        ∙ ap (last-of nothing) (without-positions (locatedRowing o) (calls ++ feed w) within)
-        ∙ reference-last o calls w t
+        let k =
+        located-judges (locatedRowing o) (startFlag (t .kind)) (t .body) stopFlag (start-role (t .kind)) (t .inside) refl
+        calls (omega (arith, h, ap length (t .shape) ∙ whole-length (t .kind) (t .body))) in
+        ap answerIn (last-same earlier (k .0) last _
+        (e ∙ ap (λ (u : List ℕ). LocatedReference (locatedRowing o) (calls ++ feed u)) (t .shape) ∙ k .1))
+        ∙ ap (λ (u : List ℕ). judged (admit o (verdict u))) (sym (t .shape))
 
--- Whatever calls came before within the limit, in whichever form, the last byte of a whole candidate is answered 17
--- exactly on the live line, where the candidate is a sound standard frame in a trace.
+-- Whatever calls came before, in whichever form, the last byte of a whole candidate is answered 17 exactly on the live
+-- line, where the candidate is a sound standard frame in a trace. The bytes since the last finish are within the limit.
 pub candidate-17-exactly : (o : Origin) (calls : List Call) (w : List ℕ) (earlier : List (Located Outcome))
     (last : Located Outcome)
-    → Terminated w → Within mostBytes 0 (calls ++ feed w)
+    → Terminated w → bytesSinceFinish 0 calls + length w ≤ mostBytes
     → AnsweredBy CalledOn (AsNew o) (calls ++ feed w) (earlier ++ last ∷ [])
     → Exactly (answerIn last ≡ judged (refused 17)) ((o ≡ Live) × ((c : List ℕ) × SoundFrame Trace w (standard c)))
-candidate-17-exactly o calls w earlier last t within k =
-    judged-last o calls w t within earlier last (chunks-demand-3 o .same (calls ++ feed w) (earlier ++ last ∷ []) k)
+candidate-17-exactly o calls w earlier last t h k =
+    judged-last o calls w t h earlier last (chunks-demand-3 o .same (calls ++ feed w) (earlier ++ last ∷ []) k)

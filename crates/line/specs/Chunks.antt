@@ -17,12 +17,14 @@ use Rattle.line.specs.declared.LineReader.{LineReader}
 -- ---- how far a chunk is taken
 
 -- A chunk is taken to its end where nothing is answered, or as far as the count allows, and at least a byte of it where
--- something is answered, but for 16. That is answered exactly where the count is full before the chunk's first byte.
+-- something is answered, but for 16. That is answered, at position 0 and with no byte taken, exactly where the count is
+-- full before the chunk's first byte.
 pub record TakenToAnswer (r : LineReader) (given : List ℕ) (taken : ℕ) (a : Located Outcome) : Type 0 where
   pub within : taken ≤ length (take (mostBytes - r .state .count) given)
   pub all : a ≡ unlocated nothing → taken ≡ length (take (mostBytes - r .state .count) given)
   pub some : (a ≡ unlocated nothing → ⊥) → (answerIn a ≡ full → ⊥) → 1 ≤ taken
   pub refuses : Exactly (answerIn a ≡ full) ((mostBytes ≤ r .state .count) × (1 ≤ length given))
+  pub untaken : answerIn a ≡ full → (a ≡ located 0 full) × (taken ≡ 0)
 
 -- ---- the single calls that a chunk stands for
 

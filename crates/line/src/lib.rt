@@ -44,8 +44,8 @@ pub struct LineReader {
     pub state: State,
 }
 
-// The answer to a call, and the position of its candidate's start flag; 0 where nothing is told. The array holds a
-// frame's contents, and zeros after them; where no frame is told, zeros alone.
+// The answer to a call, and its position: that of the candidate's start flag, 0 where nothing is told and for 16. The
+// array holds a frame's contents, and zeros after them; where no frame is told, zeros alone.
 pub struct StepAnswer {
     pub told: Told,
     pub position: u32,
@@ -158,13 +158,14 @@ pub fn step_in(bytes: &mut [u8; 118], state: State, b: u8) -> LentStep
     let step = candidate::step_in(bytes, held, b);
     let told = step.told;
     let next = step.held;
+    let opened = start_after(b, start, count);
     let position = told_at(told, start);
     LentStep {
         told,
         position,
         state: State {
             held: next,
-            start: start_after(b, start, count),
+            start: opened,
             count: count + 1,
         },
     }
@@ -195,12 +196,12 @@ pub fn feed_in(bytes: &mut [u8; 118], state: State, chunk: &[u8]) -> ChunkStep
     let held = state.held;
     let start = state.start;
     let count = state.count;
-    let room = LIMIT - count;
+    let room = (LIMIT - count) as usize;
     if room == 0 {
         return refuse(state, chunk);
     }
     let most = lists::lesser(CHUNK_LIMIT, chunk.len());
-    let part = lists::lesser(room as usize, most);
+    let part = lists::lesser(room, most);
     let fed = chunk::feed_all(bytes, held, &chunk[..part]);
     advanced(start, count, fed)
 }

@@ -192,7 +192,7 @@ fn advance(bytes: &mut [u8; 118], t: Tally, rest: &[u8], out: &mut [u8], at: usi
     }
 }
 
-// Feeds a chunk, as far as the line reader takes one; a full one refuses its first byte. The stray bytes are counted
+// Feeds a chunk, as far as the line reader takes one; a full reader refuses its first byte. The stray bytes are counted
 // first, and passed over where they would change nothing but the reader's count, so that they are looked at once.
 fn feed(bytes: &mut [u8; 118], before: State, rest: &[u8]) -> Fed
     ensures { λ r. ⌜ ChunkStepIs (now (bytes .exit)) (r .step)
@@ -310,7 +310,7 @@ fn stray_count(mode: Mode, rest: &[u8]) -> usize
     lists::count_before(rest, flags::EXTENDED_START, flags::STANDARD_START)
 }
 
-// How many of them need not be fed: all, where the reader's length is 0, because none of them changes it then.
+// How many of them need not be fed: all, where the reader's length is 0, because none of them changes that length.
 fn passed_over(len: usize, strays: usize) -> usize
     ensures { λ r. ⌜ r ≡ passedOver len strays ⌝ }
 {

@@ -13,6 +13,9 @@ use Rattle.line.proofs.feed_in.Tie as tie
 sub-room : tie.Need-sub-room
 sub-room c = search needs
 
+cast-room : tie.Need-cast-room
+cast-room c = search needs
+
 refuse-requires : tie.Need-refuse-requires
 refuse-requires c κs = omega (arith, c .if1 .taken, c .before .before .before .good)
 
@@ -21,9 +24,6 @@ returns c = c .refuse .ensures _
 
 lesser-requires : tie.Need-lesser-requires
 lesser-requires c κs = search needs
-
-cast-lesser : tie.Need-cast-lesser
-cast-lesser c = search needs
 
 lesser-requires-2 : tie.Need-lesser-requires-2
 lesser-requires-2 c κs = search needs
@@ -71,10 +71,10 @@ feed-in-spec =
     tie.close
     (tie.spec
     sub-room
+    cast-room
     refuse-requires
     returns
     lesser-requires
-    cast-lesser
     lesser-requires-2
     slice-aggregate-feed-all
     feed-all-requires

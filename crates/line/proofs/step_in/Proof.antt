@@ -21,19 +21,18 @@ returns c =
 step-in-requires : tie.Need-step-in-requires
 step-in-requires c κs = search needs
 
-told-at-requires : tie.Need-told-at-requires
-told-at-requires c κs = search needs
-
 start-after-requires : tie.Need-start-after-requires
 start-after-requires c κs = search needs
+
+told-at-requires : tie.Need-told-at-requires
+told-at-requires c κs = search needs
 
 add-t14 : tie.Need-add-t14
 add-t14 c = search needs
 
 returns-2 : tie.Need-returns-2
 returns-2 c =
-    let t = c .before in
-    let k = t .before .before in
+    let k = c .before .before .before in
     let i = k .before .before in
     let p = i .before .before in
     let a = p .args in
@@ -41,9 +40,9 @@ returns-2 c =
     let h = stepHeld (holder (a .bytes .now) (a .state .held)) (a .b) in
     subst (LentStepIs _ _) (sym (step-taken r (a .b) (omega (arith, i .if1 .left, p .good))))
     (located-step _ (a .state .start) _ (a .state .count + 1) (k .step-in .result) h (k .step-in .ensures) _ _
-    (t .told-at .ensures) (c .start-after .ensures))
+    (c .told-at .ensures) (c .before .start-after .ensures))
 
 pub step-in-spec : {M : Type 1} → statement M
 step-in-spec =
     tie.close
-    (tie.spec full-requires returns step-in-requires told-at-requires start-after-requires add-t14 returns-2)
+    (tie.spec full-requires returns step-in-requires start-after-requires told-at-requires add-t14 returns-2)
