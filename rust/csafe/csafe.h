@@ -5,12 +5,12 @@
  * stand in target/staticlib/libtrace_exports.a, which `rt staticlib trace_exports` makes.
  *
  * A slice is a pointer and a length. Every function takes any numbers and any slices, returns, and answers one
- * 64-bit number: a result or a refusal. A refusal changes no lent byte, but that a line reader goes on. After a result
- * the bytes of the output past it are as they were.
+ * 64-bit number: a result or a refusal. A refusal changes no lent byte, but that a line reader that is not full goes
+ * on. After a result the bytes of the output past it are as they were.
  *
  * The slices and numbers that are lent to one call must not overlap, and nobody else may access them during the call:
  * no thread, and where they are in shared memory or a mapped file no other process. The functions take no lock. The
- * pointer of an empty slice is not followed.
+ * pointer of an empty slice is not followed. No pointer to a number may be null.
  *
  * Bytes and addresses of two digits, as F3, are hexadecimal in these comments.
  */
@@ -161,7 +161,7 @@ uint64_t csafe_read(const uint8_t *wire, size_t wire_len, uint8_t *out, size_t o
  * both. Any bytes and any numbers are a reader. The state says how many of the bytes are held, and more than there are
  * counts as all. The counts have
  *
- *   bits  0 to 31   the position of the start flag of the open candidate
+ *   bits  0 to 31   the position of the last start flag, which matters only while a candidate is open
  *   bits 32 to 63   how many bytes were taken since the reader was new or finished last
  *
  * No call holds a flag. Where the caller's own bytes have one among those held, the candidate is refused at its stop
@@ -170,8 +170,8 @@ uint64_t csafe_read(const uint8_t *wire, size_t wire_len, uint8_t *out, size_t o
  * A candidate for a frame begins at a start flag. At its stop flag it is answered as csafe_read answers a slice, its
  * contents being the first bytes of the reader, or refused. Where nothing is told, the kind is CSAFE_NOTHING and all
  * bytes were taken, or the first CSAFE_CHUNK_LIMIT of them, or those up to CSAFE_LINE_LIMIT. The next call has to start
- * right after the last byte taken. However a stream is cut into calls, its answers are those of its bytes fed one by
- * one.
+ * right after the last byte taken. However a stream that the reader can take is cut into calls, its answers are those
+ * of its bytes fed one by one.
  *
  * The position of an answer, a refusal too, is that of the candidate's start flag: how many bytes the reader had taken
  * before it since it was new or finished last. It is 0 where nothing is told.
@@ -181,7 +181,8 @@ uint64_t csafe_read(const uint8_t *wire, size_t wire_len, uint8_t *out, size_t o
  *
  * A reader takes CSAFE_LINE_LIMIT bytes. A call stops before the byte that would be one more, and tells nothing of it.
  * Where that is its first byte, the call is refused as CSAFE_FULL, whatever the byte is. Then `taken` and `position`
- * are 0, and the reader stays as it is. It takes bytes again after csafe_finish.
+ * are 0, and the reader stays as it is. It takes bytes again after csafe_finish. A loop that feeds again what was not
+ * taken has to finish the reader here, or it never ends.
  *
  * Refused at the first byte, before any other: CSAFE_FULL where the reader has taken CSAFE_LINE_LIMIT bytes.
  * Refused where a start flag comes before the stop flag: CSAFE_TRUNCATED, and the flag begins the next candidate.
@@ -192,9 +193,9 @@ uint64_t csafe_feed(uint8_t bytes[CSAFE_LINE_LEN], uint64_t *state, uint64_t *co
                     size_t input_len, uint64_t *taken, uint32_t *position);
 
 /*
- * Ends the input of a reader, of a live line or of a trace, which is as new afterwards: positions begin at 0 again, and
- * one that was full takes bytes. The reader's bytes stay as they are. Sets `position` to that of the start flag of the
- * open candidate. Where none was open, the kind is CSAFE_NOTHING and the position 0.
+ * Ends the input of a reader, of a live line or of a trace, which is as new afterwards: both numbers are 0, positions
+ * begin at 0 again, and one that was full takes bytes. The reader's bytes stay as they are. Sets `position` to that of
+ * the start flag of the open candidate. Where none was open, the kind is CSAFE_NOTHING and the position 0.
  * Refused: CSAFE_TRUNCATED where a candidate for a frame was open.
  */
 uint64_t csafe_finish(uint64_t *state, uint64_t *counts, uint32_t *position);

@@ -403,11 +403,11 @@ mod tests {
         let (mut state, mut counts) = (4 * 2 + 2, 8 << 32 | 5);
         let told = finish(&mut state, &mut counts);
         assert_eq!((told.answer.0, told.position), (6, 5));
-        assert_eq!((state, counts >> 32), (0, 0));
+        assert_eq!((state, counts), (0, 0));
         counts |= 9 << 32;
         let told = finish(&mut state, &mut counts);
         assert_eq!((told.answer.0, told.position), (0x200, 0));
-        assert_eq!((state, counts >> 32), (0, 0));
+        assert_eq!((state, counts), (0, 0));
     }
 
     #[test]

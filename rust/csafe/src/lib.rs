@@ -2,9 +2,9 @@
 //!
 //! The work is done by functions that are proved: each takes any bytes and any numbers, returns, and answers a
 //! result or one numbered refusal, an [`Error`]. A refusal leaves every lent byte as it was, but that a line reader
-//! goes on. After a success the bytes of the output past the result are as they were. This crate passes slices and
-//! numbers to these functions and takes their answers apart, which is tested. It allocates nothing and does without
-//! the standard library.
+//! that is not full goes on. After a success the bytes of the output past the result are as they were. This crate
+//! passes slices and numbers to these functions and takes their answers apart, which is tested. It allocates nothing
+//! and does without the standard library.
 //!
 //! - [`frame`] tells how long a frame is on the wire, writes it, and reads one from a slice.
 //! - [`mod@line`] reads the frames of a live line, in whatever chunks its bytes arrive, and tells where each began.

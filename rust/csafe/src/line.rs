@@ -24,7 +24,7 @@
 //!
 //! type Told = Result<Located<OwnedFrame>, Located<Error>>;
 //!
-//! /// All frames and refusals of a stream, in order.
+//! /// All frames and refusals of a stream of at most `LIMIT` bytes, in order.
 //! fn read_to_end(mut stream: impl Read) -> io::Result<Vec<Told>> {
 //!     let mut reader = LineReader::new();
 //!     let mut told = Vec::new();
@@ -120,8 +120,8 @@ impl<'a> Fed<'a> {
 /// the bytes. A chunk longer than [`CHUNK_LIMIT`] is cut here too.
 ///
 /// The state says how many of the bytes are held, and more than there are counts as all. The counts have in bits 0 to
-/// 31 the position of the start flag of the open candidate, and in bits 32 to 63 how many bytes were taken since the
-/// reader was new or finished last.
+/// 31 the position of the last start flag, which matters only while a candidate is open, and in bits 32 to 63 how many
+/// bytes were taken since the reader was new or finished last.
 ///
 /// # Errors
 ///
@@ -153,8 +153,8 @@ pub fn feed<'a>(
     Fed::of(bytes, taken, told)
 }
 
-/// As [`LineReader::finish`], on the numbers of a reader that was fed with [`feed`] or with [`trace::feed`]. Its bytes
-/// stay as they are.
+/// As [`LineReader::finish`], on the numbers of a reader that was fed with [`feed`] or with [`trace::feed`]. Both are 0
+/// afterwards. Its bytes stay as they are.
 ///
 /// # Errors
 ///
@@ -268,13 +268,14 @@ impl LineReader {
     }
 
     /// Feeds bytes up to the first that is answered. Answers how many were taken, and what they gave. With no answer
-    /// all of them were taken. An empty chunk gives no answer. The next call starts right after the last byte taken.
+    /// all of them were taken, up to the two limits below. An empty chunk gives no answer. The next call starts right
+    /// after the last byte taken.
     ///
     /// A chunk longer than [`CHUNK_LIMIT`] is cut to its first [`CHUNK_LIMIT`] bytes, so with no answer among those
     /// that many were taken. Before a byte that would be one more than [`LIMIT`] the call stops, and with no answer
     /// before it only those up to there were taken. The next call is then refused.
     ///
-    /// However a stream is cut into calls, its answers are those of its bytes fed one by one.
+    /// However a stream that the reader can take is cut into calls, its answers are those of its bytes fed one by one.
     ///
     /// # Errors
     ///
@@ -382,8 +383,8 @@ pub struct Answers<'r, 'c> {
 }
 
 impl<'c> Answers<'_, 'c> {
-    /// The bytes that are not fed yet: those after the last that was answered. Once the iterator has answered `None`,
-    /// all are fed, but where the reader is full.
+    /// The bytes that are not taken yet: those after the last answer, from the refused byte on where that is
+    /// [`Error::Full`]. Once the iterator has answered `None`, none are left but those of a full reader.
     #[inline]
     #[must_use]
     pub fn rest(&self) -> &'c [u8] {

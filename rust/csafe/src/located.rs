@@ -35,6 +35,14 @@ impl fmt::Display for Located<Error> {
 
 impl core::error::Error for Located<Error> {}
 
+/// The refusal without its position, so that `?` passes it on as any other call's.
+impl From<Located<Error>> for Error {
+    #[inline]
+    fn from(refusal: Located<Error>) -> Error {
+        refusal.answer
+    }
+}
+
 #[cfg(test)]
 mod tests {
     use std::string::ToString;
@@ -47,5 +55,16 @@ mod tests {
         let at_812 = shown(812, Error::TooShort);
         assert_eq!(at_812, std::format!("at 812: {}", Error::TooShort));
         assert_eq!(shown(0, Error::Full), Error::Full.to_string());
+    }
+
+    #[test]
+    fn a_refusal_is_passed_on_without_its_position() {
+        let refused = || -> Result<(), Error> {
+            Err(Located {
+                position: 812,
+                answer: Error::TooShort,
+            })?
+        };
+        assert_eq!(refused(), Err(Error::TooShort));
     }
 }

@@ -6,9 +6,8 @@
 //! traces with inputs of the same kinds. Sound frames with one byte changed are read too, and the answer is foretold
 //! from the frame before the change. Line readers begin new, or nearly full. The listing program lists traces of many
 //! frames. Answers are compared, with their positions, and so are outputs, tables and readers, whole, with the bytes
-//! around them. The first difference ends the program with exit
-//! status 1 and the input that shows it. At the end stands a table of what each function answered, so that one sees
-//! that each refusal was met.
+//! around them. The first difference ends the program with exit status 1 and the input that shows it. At the end
+//! stands a table of what each function answered, so that one sees that each refusal was met.
 //!
 //! The listing program is made with `rt check listing`, unless `CSAFE_LISTING` names a ready one.
 
