@@ -1,15 +1,16 @@
 -- Laws of bytes fed up to the first that is answered: one byte more, and no byte left.
 use mathlib.Core.Path.{_≡_, refl, sym, ap, ap₂, _∙_}
 use mathlib.Core.Bool.{Bool, true, false}
-use mathlib.Core.List.{List, [], _∷_}
+use mathlib.Core.List.{List, [], _∷_, _++_}
 use native.Mathlib.Numerals.{add-one}
 use native.Mathlib.Omega.{arith}
 use lib.ListN.{length, take, drop, getD, drop-of-length-le}
 use lib.Seq.{drop-cons, take-suc, length-take-le}
 use Prim.Native.Nat.{ℕ, _+_, _-_, _≤_, _<_}
-use Rattle.lists.specs.Choice.{pick}
+use Rattle.lists.specs.Choice.{pick, Every}
+use Rattle.framing.specs.Reference.{starts}
 use Rattle.framing.specs.Counting.{startAfter}
-use Rattle.framing.proofs.Counting.{start-append}
+use Rattle.framing.proofs.Counting.{start-append, start-none, start-last}
 use Rattle.frame.specs.Flags.{roleOf}
 use Rattle.candidate.specs.Outcome.{nothing, toldMeans, summaryOf}
 use Rattle.candidate.specs.Holder.{holder, HolderTurn, stepHeld, HeldStepIs}
@@ -59,9 +60,9 @@ module _ (r : Holder) (s : List ℕ) (i : ℕ) (below : i < length s) where
 
 -- by whether something is told, and how many bytes were taken
 opens-at : (s : List ℕ) (r : HeldChunk) (f : FedTurn) (n : ℕ) (q : Bool) → isAnswer (f .answer) ≡ q → f .taken ≡ n
-    → r .from ≡ lastStart (take (pick q (n - 1) n) s) → r .opened ≡ lastStart (take n s) → Opens s r f
+    → r .began ≡ lastStart (take (pick q (n - 1) n) s) → r .opened ≡ lastStart (take n s) → Opens s r f
 opens-at s r f n q a t e o = record {
-  from-is = e ∙ sym (ap₂ (λ (x : Bool) (m : ℕ). lastStart (take (pick x (m - 1) m) s)) a t);
+  began-is = e ∙ sym (ap₂ (λ (x : Bool) (m : ℕ). lastStart (take (pick x (m - 1) m) s)) a t);
   opened-is = o ∙ ap (λ (m : ℕ). lastStart (take m s)) (sym t);
 }
 
@@ -76,7 +77,7 @@ start-more s i below =
 
 -- an answer, where the last start flag before its byte and after it are these
 pub opens-answered : (s : List ℕ) (r : HeldChunk) (f : FedTurn) (n : ℕ) → isAnswer (f .answer) ≡ true → f .taken ≡ n
-    → r .from ≡ lastStart (take (n - 1) s) → r .opened ≡ lastStart (take n s) → Opens s r f
+    → r .began ≡ lastStart (take (n - 1) s) → r .opened ≡ lastStart (take n s) → Opens s r f
 opens-answered s r f n a t e o = opens-at s r f n true a t e o
 
 -- a turn of a loop over the bytes s, where f is what all of them give
@@ -89,11 +90,11 @@ module _ (f : FedTurn) (r₀ : Holder) (s : List ℕ) (i : ℕ) (below : i < len
       so-far ∙ not-answered r₀ s i below (ap says (sym (moves .told-is)) ∙ e)
       ∙ ap (λ (u : Holder). laterBy (i + 1) (feedHeld u (drop (i + 1) s))) (sym (moves .next-is))
 
-  pub answers : says (toldMeans (m .told)) ≡ true → (from opened : ℕ) → from ≡ lastStart (take i s)
-      → opened ≡ startAfter (roleOf (getD s i 0)) from (i + 1)
-      → (r : HeldChunk) → r ≡ record { told = m .told; held = m .held; taken = i + 1; from = from; opened = opened }
+  pub answers : says (toldMeans (m .told)) ≡ true → (began opened : ℕ) → began ≡ lastStart (take i s)
+      → opened ≡ startAfter (roleOf (getD s i 0)) began (i + 1)
+      → (r : HeldChunk) → r ≡ record { told = m .told; held = m .held; taken = i + 1; began = began; opened = opened }
       → HeldChunkIs bytes r f × Opens s r f
-  answers e from opened fe oe r is =
+  answers e began opened fe oe r is =
       let q : f ≡ fedTurn (stepHeld r₀ (getD s i 0) .answer) (stepHeld r₀ (getD s i 0) .next) (i + 1) =
       so-far ∙ answered r₀ s i below (ap says (sym (moves .told-is)) ∙ e) in
       let z : i ≡ i + 1 - 1 = omega arith in (
@@ -106,15 +107,23 @@ module _ (f : FedTurn) (r₀ : Holder) (s : List ℕ) (i : ℕ) (below : i < len
         },
         opens-answered s r f (i + 1) (ap (λ (g : FedTurn). isAnswer (g .answer)) q ∙ ap says (sym (moves .told-is)) ∙ e)
             (ap (λ (g : FedTurn). g .taken) q)
-            (ap (λ (g : HeldChunk). g .from) is ∙ fe ∙ ap (λ (n : ℕ). lastStart (take n s)) z)
+            (ap (λ (g : HeldChunk). g .began) is ∙ fe ∙ ap (λ (n : ℕ). lastStart (take n s)) z)
             (ap (λ (g : HeldChunk). g .opened) is ∙ oe
             ∙ ap (λ (n : ℕ). startAfter (roleOf (getD s i 0)) n (i + 1)) fe ∙ sym (start-more s i below)),
       )
 
+-- The place of the last start flag, by the bytes alone.
+pub last-start-is : (before : List ℕ) (flag : ℕ) (after : List ℕ) → roleOf flag ≡ starts
+    → Every (λ (b : ℕ). roleOf b ≡ starts → ⊥) after → lastStart (before ++ flag ∷ after) ≡ length before + 1
+last-start-is before flag after e n = start-last roleOf 0 1 before flag after e n ∙ omega arith
+
+pub last-start-none : (s : List ℕ) → Every (λ (b : ℕ). roleOf b ≡ starts → ⊥) s → lastStart s ≡ 0
+last-start-none s n = start-none roleOf 0 1 s n
+
 -- no byte is left
 pub ends : (f : FedTurn) (bytes : List ℕ) (held : Held) (s : List ℕ) (i : ℕ) → length s ≤ i
     → f ≡ laterBy i (feedHeld (holder bytes held) (drop i s)) → (opened : ℕ) → opened ≡ lastStart (take i s)
-    → (r : HeldChunk) → r ≡ record { told = Nothing; held = held; taken = i; from = opened; opened = opened }
+    → (r : HeldChunk) → r ≡ record { told = Nothing; held = held; taken = i; began = opened; opened = opened }
     → HeldChunkIs bytes r f × Opens s r f
 unfolding feedHeld
 ends f bytes held s i h so-far opened oe r is =
@@ -128,5 +137,5 @@ ends f bytes held s i h so-far opened oe r is =
         taken-is = ap (λ (g : HeldChunk). g .taken) is ∙ ap (λ (g : FedTurn). g .taken) (sym q);
       },
       opens-at s r f i false (ap (λ (g : FedTurn). isAnswer (g .answer)) q) (ap (λ (g : FedTurn). g .taken) q)
-          (ap (λ (g : HeldChunk). g .from) is ∙ oe) (ap (λ (g : HeldChunk). g .opened) is ∙ oe),
+          (ap (λ (g : HeldChunk). g .began) is ∙ oe) (ap (λ (g : HeldChunk). g .opened) is ∙ oe),
     )

@@ -387,7 +387,7 @@ module _ (mode : Mode) (s : List ℕ) (at taken : ℕ) (count : taken ≡ leadin
         told = told;
         held = record { len = 0; mode = Outside; origin = held .origin };
         taken = at + taken;
-        from = at + 1;
+        began = at + 1;
         opened = at + 1;
       }
       → HeldChunkIs left r f × Opens s r f
@@ -420,7 +420,7 @@ module _ (mode : Mode) (s : List ℕ) (at taken : ℕ) (count : taken ≡ leadin
         },
         opens-answered s r f (at + taken) (ap (λ (g : FedTurn). isAnswer (g .answer)) q)
             (ap (λ (g : FedTurn). g .taken) q)
-            (ap (λ (g : HeldChunk). g .from) is ∙ sym (ap (λ (k : ℕ). lastStart (take k s)) before
+            (ap (λ (g : HeldChunk). g .began) is ∙ sym (ap (λ (k : ℕ). lastStart (take k s)) before
             ∙ last-past s at (leadingCount rest - 1) ∙ starts .0 ∙ place))
             (ap (λ (g : HeldChunk). g .opened) is ∙ sym (ap (λ (k : ℕ). lastStart (take (at + k) s)) n
             ∙ last-past s at (leadingCount rest) ∙ starts .1 ∙ place)),

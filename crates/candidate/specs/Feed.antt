@@ -58,5 +58,5 @@ pub record HeldChunkIs (bytes : List ℕ) (s : HeldChunk) (t : FedTurn) : Type 0
 
 -- The last start flag before the byte that is answered, and the last of all that were taken.
 pub record Opens (input : List ℕ) (s : HeldChunk) (t : FedTurn) : Type 0 where
-  pub from-is : s .from ≡ lastStart (take (unanswered t) input)
+  pub began-is : s .began ≡ lastStart (take (unanswered t) input)
   pub opened-is : s .opened ≡ lastStart (take (t .taken) input)

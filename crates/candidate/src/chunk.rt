@@ -46,10 +46,10 @@ pub fn feed_all(bytes: &mut [u8; 118], held: Held, input: &[u8]) -> HeldChunk
         s = step.held;
         i = j + 1;
         let told = step.told;
-        let from = opened;
-        opened = opened_by(b, from, i);
+        let began = opened;
+        opened = opened_by(b, began, i);
         if is_answer(told) {
-            return fed(told, s, i, from, opened);
+            return fed(told, s, i, began, opened);
         }
     }
     fed(Told::Nothing, s, i, opened, opened)
@@ -66,14 +66,14 @@ fn closed(origin: Origin) -> Held
     }
 }
 
-fn fed(told: Told, held: Held, taken: usize, from: usize, opened: usize) -> HeldChunk
-    ensures { λ r. ⌜ r ≡ record { told = told; held = held; taken = taken; from = from; opened = opened } ⌝ }
+fn fed(told: Told, held: Held, taken: usize, began: usize, opened: usize) -> HeldChunk
+    ensures { λ r. ⌜ r ≡ record { told = told; held = held; taken = taken; began = began; opened = opened } ⌝ }
 {
     HeldChunk {
         told,
         held,
         taken,
-        from,
+        began,
         opened,
     }
 }

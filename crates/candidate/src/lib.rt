@@ -44,8 +44,8 @@ pub enum Mode {
     Overlong,
 }
 
-// What is held: how many bytes of an array, the mode, and where the bytes come from, which no call changes. A length of
-// 118 or more counts as a full array, so every value is one.
+// What is held: how many bytes of an array, the mode, and where the bytes come from, which no call changes. A length over
+// 118 counts as 118, so every value is one.
 pub struct Held {
     pub len: usize,
     pub mode: Mode,
@@ -59,18 +59,18 @@ pub struct HeldStep {
     pub held: Held,
 }
 
-// The answer to a chunk over a lent array, what is held afterwards, and how many bytes of the chunk were taken. `from` is
+// The answer to a chunk over a lent array, what is held afterwards, and how many bytes of the chunk were taken. `began` is
 // how many there are up to and with the last start flag before the byte that is answered, and `opened` up to and with the
 // last of all that were taken; each is 0 where there is none.
 pub struct HeldChunk {
     pub told: Told,
     pub held: Held,
     pub taken: usize,
-    pub from: usize,
+    pub began: usize,
     pub opened: usize,
 }
 
-// Takes a byte: the path of every flag.
+// Takes a byte. Of a chunk only flags come here.
 pub fn step_in(bytes: &mut [u8; 118], held: Held, b: u8) -> HeldStep
     ensures { λ r. ⌜ HeldStepIs (now (bytes .exit)) r (stepHeld (holder (now (bytes .entry)) held) b) ⌝ }
 {

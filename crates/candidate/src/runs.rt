@@ -13,7 +13,7 @@ ghost use Rattle.candidate.specs.Outcome.{capacity};
 ghost use Rattle.candidate.specs.Holder.{holder, holderOf};
 ghost use Rattle.candidate.specs.Private.{isHeld, Reaches, afterRun};
 
-// Where a run ends, and the state of the reader there.
+// Where a run ends, and what is held there.
 pub(crate) struct Consumed {
     pub(crate) at: usize,
     pub(crate) held: Held,

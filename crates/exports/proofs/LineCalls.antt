@@ -9,28 +9,27 @@ use lib.ListN.{length, drop}
 use contract.Lifetimes.{Lfts}
 use denote.Ref.{RefT}
 use Rattle.lists.specs.Choice.{Every, EachPair, Exactly}
-use Rattle.lists.specs.Machine.{RanBy, Through, AnsweredBy}
-use Rattle.lists.proofs.Machines.{ran-by-run, through-known}
-use Rattle.framing.specs.Reference.{Call, byte, finish, starts, stops, FlagFree}
+use Rattle.lists.specs.Machine.{leftAfter, RanBy, Through, AnsweredBy}
+use Rattle.lists.proofs.Machines.{left-append, ran-by-run, through-known}
+use Rattle.framing.specs.Reference.{Call, byte, finish}
 use Rattle.framing.specs.Demand3.{feed}
-use Rattle.framing.specs.Located.{Located, located, answerIn, positionIn, locatedBy}
-use Rattle.framing.specs.LocatedDemand3.{bytesSinceFinish, LocatedDemand3}
+use Rattle.framing.specs.Located.{Located, answerIn, positionIn, locatedBy}
+use Rattle.framing.specs.LocatedDemand3.{bytesSinceFinish, Within, LocatedDemand3}
+use Rattle.framing.specs.LocatedTable.{LocatedLaws}
 use Rattle.framing.proofs.Located.{located-demand3-of}
-use Rattle.framing.proofs.Positions.{finish-position, stop-position, start-position}
+use Rattle.framing.proofs.LocatedTable.{located-laws}
 use Rattle.answer.specs.Answer.{refused}
-use Rattle.frame.specs.Flags.{roleOf}
 use Rattle.frame.specs.Frame.{standard}
-use Rattle.frame.specs.Verdict.{verdict}
-use Rattle.frame.specs.Origin.{admit}
 use Rattle.frame.specs.Conditions.{Terminated, SoundFrame}
 use Rattle.frame.specs.declared.Origin.{Origin}
 use Rattle.frame.specs.declared.Origin.the-variants.{Live, Trace}
-use Rattle.candidate.specs.Outcome.{Outcome, judged, Summary, summaryOf, NotStandard, Not17}
+use Rattle.candidate.specs.Outcome.{Outcome, judged, Summary, summaryOf, capacity, Not1, NotStandard, Not17}
 use Rattle.line.specs.Rowing.{mostBytes, full, locatedRowing, outcomeFrom, UnnamedAt}
 use Rattle.line.specs.Answers.{locatedOutcome}
 use Rattle.line.specs.Reader.{outcomeAt, nextAfter, AsNew}
 use Rattle.line.specs.Feed.{ChunkTurn, cutChunk}
 use Rattle.line.specs.Chunks.{standsFor, toldBytes, TakenToAnswer, TakesFirst, AsSingly}
+use Rattle.line.specs.declared.LineReader.{LineReader}
 use Rattle.line.proofs.ValueLaws.{call-whole}
 use Rattle.line.proofs.FeedLaws.{chunk-full}
 use Rattle.line.proofs.FeedBounds.{chunk-origin}
@@ -45,7 +44,8 @@ use Rattle.line.proofs.Follows.{as-new-follows}
 use Rattle.line.proofs.ChunkLaws.{takes-to-answer, takes-first}
 use Rattle.line.proofs.ChunkCalls.{chunk-whole}
 use Rattle.line.proofs.StreamCalls.{Counts, stands-counted, taken-counts}
-use Rattle.line.proofs.FullCalls.{singly-16-exactly}
+use Rattle.line.proofs.FullCalls.{singly-16-exactly, left-counting}
+use Rattle.line.proofs.Consequences.{run-never-1, left-new}
 use Rattle.line.proofs.Origins.{live-run, trace-run, each-unnamed, reference-from, judged-last}
 use Rattle.exports.proofs.csafe_feed.Reads as feed-reads
 use Rattle.exports.proofs.feed.Reads as feed-at-reads
@@ -259,35 +259,14 @@ pub exported-candidate-17-exactly : (o : Origin) (calls : List Call) (w : List �
 exported-candidate-17-exactly o calls w earlier last t h k =
     judged-last o calls w t h earlier last (exported-demand-3 o .same (calls ++ feed w) (earlier ++ last ∷ []) k)
 
--- ---- positions, and a full reader
+-- ---- positions, a full reader, and what a finish leaves
 
-module _ (o : Origin) (calls : List Call) (w : ℕ) (body : List ℕ) (s : roleOf w ≡ starts) (f : FlagFree roleOf body)
-    (earlier : List (Located Outcome)) (last : Located Outcome) where
-  -- Any calls, a start flag and bytes that are no flags, then a finish: it is answered with the bytes before the start
-  -- flag since the last finish.
-  pub exported-finished-position : bytesSinceFinish 0 calls + length (w ∷ body) ≤ mostBytes
-      → AnsweredBy (ExportedLine o) (λ l. AsNew o (readerOf o l)) ((calls ++ feed (w ∷ body)) ++ finish ∷ [])
-      (earlier ++ last ∷ [])
-      → last ≡ located (bytesSinceFinish 0 calls) (judged (refused 6))
-  exported-finished-position h k =
-      finish-position (locatedRowing o) (AnsweredBy (ExportedLine o) (λ l. AsNew o (readerOf o l))) (exported-demand-3 o)
-      calls w body s f earlier last h k
-
-  module _ (b : ℕ) (h : bytesSinceFinish 0 calls + length (w ∷ body) < mostBytes)
-      (k : AnsweredBy (ExportedLine o) (λ l. AsNew o (readerOf o l)) ((calls ++ feed (w ∷ body)) ++ byte b ∷ [])
-      (earlier ++ last ∷ [])) where
-    -- So is the stop flag, and so is another start flag.
-    pub exported-terminated-position : roleOf b ≡ stops
-        → last ≡ located (bytesSinceFinish 0 calls) (judged (admit o (verdict ((w ∷ body) ++ b ∷ []))))
-    exported-terminated-position =
-        stop-position (locatedRowing o) (AnsweredBy (ExportedLine o) (λ l. AsNew o (readerOf o l))) (exported-demand-3 o)
-        calls w body s f earlier last b h k
-
-    pub exported-truncated-position : roleOf b ≡ starts
-        → last ≡ located (bytesSinceFinish 0 calls) (judged (refused 6))
-    exported-truncated-position =
-        start-position (locatedRowing o) (AnsweredBy (ExportedLine o) (λ l. AsNew o (readerOf o l))) (exported-demand-3 o)
-        calls w body s f earlier last b h k
+-- What is told, and at which position, exactly where the table says so, and what a full reader, a finish and a stop flag
+-- leave.
+pub exported-laws : (o : Origin)
+    → LocatedLaws (locatedRowing o) (AnsweredBy (ExportedLine o) (λ l. AsNew o (readerOf o l)))
+exported-laws o =
+    located-laws (locatedRowing o) (AnsweredBy (ExportedLine o) (λ l. AsNew o (readerOf o l))) (exported-demand-3 o)
 
 -- A byte after any calls is answered 16 exactly where 4,294,967,295 bytes or more were fed since the last finish.
 pub exported-16-exactly : (o : Origin) (calls : List Call) (b : ℕ) (earlier : List (Located Outcome))
@@ -295,5 +274,36 @@ pub exported-16-exactly : (o : Origin) (calls : List Call) (b : ℕ) (earlier : 
     → AnsweredBy (ExportedLine o) (λ l. AsNew o (readerOf o l)) (calls ++ byte b ∷ []) (earlier ++ last ∷ [])
     → Exactly (answerIn last ≡ full) (mostBytes ≤ bytesSinceFinish 0 calls)
 exported-16-exactly o calls b earlier last k =
-    singly-16-exactly (readerOf o (k .start)) (k .made .count-is) calls b earlier last (readerOf o (k .last))
-    (exported-singly (k .ran))
+    subst (λ (n : ℕ). Exactly (answerIn last ≡ full) (mostBytes ≤ bytesSinceFinish n calls)) (k .made .count-is)
+    (singly-16-exactly (readerOf o (k .start)) (omega (arith, k .made .count-is)) calls b earlier last
+    (readerOf o (k .last)) (exported-singly (k .ran)))
+
+module _ {o : Origin} where
+  -- A stream after any calls, where with the bytes since the last finish it is within the limit, up to each finish.
+  pub exported-stream-after : {l m last : LentLine} {calls stream : List Call} {first outcomes : List (Located Outcome)}
+      → AsNew o (readerOf o l) → RanBy (ExportedLine o) l calls first m
+      → Within mostBytes (bytesSinceFinish 0 calls) stream → Through (ExportedTaken o) m stream outcomes last
+      → AsSingly (readerOf o m) stream outcomes (readerOf o last)
+  exported-stream-after {l} {m} {last} {calls} {stream} n k w t =
+      exported-stream (left-counting (readerOf o l) (readerOf o m) calls stream (n .count-is) (exported-singly k .reader-is) w) t
+
+  -- The array and the numbers that any calls leave, the last a finish, are a new reader, and both numbers are 0, whatever
+  -- they were before, full or not.
+  pub exported-left-new : (l last : LentLine) (calls : List Call) (outcomes : List (Located Outcome))
+      → RanBy (ExportedLine o) l (calls ++ finish ∷ []) outcomes last → length (l .bytes) ≡ capacity
+      → AsNew o (readerOf o last) × (last .state ≡ 0) × (last .counts ≡ 0)
+  exported-left-new l last calls outcomes k h =
+      let e : readerOf o last .state ≡ nextAfter (leftAfter nextAfter (readerOf o l) calls) finish .state =
+      ap (λ (r : LineReader). r .state)
+      (exported-singly k .reader-is ∙ left-append nextAfter (readerOf o l) calls (finish ∷ [])) in (
+        left-new (readerOf o l) (readerOf o last) calls outcomes h (exported-singly k),
+        sym (state-packs o (last .state) (last .counts)) ∙ ap packedState e,
+        sym (counts-pack o (last .state) (last .counts)) ∙ ap packedCounts e ∙ omega arith,
+      )
+
+  -- No call of a row, from whichever array and numbers, is answered 1.
+  pub exported-never-1 : {l last : LentLine} {calls : List Call} {outcomes : List (Located Outcome)}
+      → RanBy (ExportedLine o) l calls outcomes last → Every (λ (a : Located Outcome). Not1 (answerIn a)) outcomes
+  exported-never-1 {l} {last} {calls} k =
+      subst (Every (λ (a : Located Outcome). Not1 (answerIn a))) (sym (exported-singly k .outcomes-are))
+      (run-never-1 (readerOf o l) calls)

@@ -6,7 +6,7 @@ use native.Mathlib.Omega.{arith}
 use Prim.Native.Nat.{ℕ, _+_, _≤_}
 use lib.Dec.{ltb}
 use lib.ListN.{length}
-use Rattle.lists.specs.Choice.{pick}
+use Rattle.lists.specs.Choice.{pick, Every}
 use Rattle.lists.specs.Machine.{Turn, turn, run}
 use Rattle.lists.proofs.Machines.{run-told, simulates}
 use Rattle.framing.specs.Reference.{Call, byte, finish, Role, starts, stops, plain, FlagFree, Candidate, none}
@@ -193,6 +193,28 @@ module _ (role : ℕ → Role) where
   start-opens start count flag body e f =
       ap (λ (ρ : Role). startIn role (startAfter ρ start count) (count + 1) body) e
       ∙ start-free count (count + 1) body f
+
+  -- Bytes without a start flag leave it where it was.
+  pub start-none : (start count : ℕ) (s : List ℕ) → Every (λ (b : ℕ). role b ≡ starts → ⊥) s
+      → startIn role start count s ≡ start
+  start-none start count [] n = refl
+  start-none start count (b ∷ s) n =
+      ap (λ (m : ℕ). startIn role m (count + 1) s) (by-role (role b) refl) ∙ start-none start (count + 1) s (n .1)
+    where
+      by-role : (ρ : Role) → role b ≡ ρ → startAfter ρ start count ≡ start
+      by-role starts e = absurd (n .0 e)
+      by-role stops e = refl
+      by-role plain e = refl
+
+  -- The last start flag is the one after which there is none.
+  pub start-last : (start count : ℕ) (before : List ℕ) (flag : ℕ) (after : List ℕ) → role flag ≡ starts
+      → Every (λ (b : ℕ). role b ≡ starts → ⊥) after
+      → startIn role start count (before ++ flag ∷ after) ≡ count + length before
+  start-last start count before flag after e n =
+      start-append start count before (flag ∷ after)
+      ∙ ap (λ (ρ : Role). startIn role (startAfter ρ (startIn role start count before) (count + length before))
+      (count + length before + 1) after) e
+      ∙ start-none (count + length before) (count + length before + 1) after n
 
   -- It stands among the bytes.
   pub start-within : (most start count : ℕ) (s : List ℕ) → start ≤ most → count + length s ≤ most + 1

@@ -3,4 +3,4 @@ pub mod Bounded
 pub mod Located
 pub mod Counting
 pub mod LocatedCandidates
-pub mod Positions
+pub mod LocatedTable

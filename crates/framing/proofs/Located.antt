@@ -4,11 +4,10 @@ use mathlib.Core.Path.{_≡_, refl, sym, ap, _∙_}
 use mathlib.Core.List.{List, [], _∷_, _++_, map, append-assoc, append-nil}
 use native.Mathlib.Omega.{arith}
 use Prim.Native.Nat.{ℕ, _+_, _≤_, _<_}
-use lib.ListN.{length, drop, length-append}
-use lib.Seq.{drop-at}
+use lib.ListN.{length, length-append}
 use borrow.Author.Tests.{lt-ltb, le-ltb}
 use Rattle.lists.specs.Machine.{run, leftAfter}
-use Rattle.lists.proofs.Machines.{simulates, run-append, run-length, left-append, runs-anew}
+use Rattle.lists.proofs.Machines.{simulates, run-append, left-append, runs-anew}
 use Rattle.framing.specs.Reference.{Call, byte, finish, Role, starts, stops, plain, FlagFree, Candidate}
 use Rattle.framing.specs.Reference.{byteAnswer, byteAfter, endAnswer, answerTo, candidateAfter, Reference}
 use Rattle.framing.specs.Demand3.{feed, LeftOpen}
@@ -289,32 +288,14 @@ module _ {A : Type 0} (Q : LocatedProtocol A) where
 
   -- ---- a full count
 
-  full-after : (s : Counted) (more : List ℕ) (rest : List Call) → Q .limit ≤ s .count → from s (feed more ++ rest)
+  -- Bytes at a full count get the refusal, and every later call is answered as if they had not been fed.
+  pub full-after : (s : Counted) (more : List ℕ) (rest : List Call) → Q .limit ≤ s .count → from s (feed more ++ rest)
       ≡ map (λ b. located 0 (Q .full)) more ++ from s rest
   full-after s [] rest h = refl
   full-after s (b ∷ more) rest h = full-refused s b (feed more ++ rest) h
       ∙ ap (λ (l : List (Located A)). located 0 (Q .full) ∷ l) (full-after s more rest h)
 
-  -- After as many bytes as the limit each byte more is refused at position 0, and every later call is answered as if those
-  -- bytes had not been fed.
-  pub full-keeps : (bytes more : List ℕ) (rest : List Call) → length bytes ≡ Q .limit
-      → LocatedReference Q (feed bytes ++ (feed more ++ rest))
-      ≡ LocatedReference Q (feed bytes) ++ (map (λ b. located 0 (Q .full)) more ++ drop (length bytes)
-      (LocatedReference Q (feed bytes ++ rest)))
-  full-keeps bytes more rest h =
-      let s = fedTo newCounted bytes in
-      let n : s .count ≡ length bytes = fed-count noCandidate 0 bytes (omega arith) ∙ omega arith in
-      let l : length (LocatedReference Q (feed bytes)) ≡ length bytes =
-      run-length (locatedAnswer Q) (locatedAfter Q) newCounted (feed bytes) ∙ feed-length bytes in
-      let d : drop (length bytes) (LocatedReference Q (feed bytes ++ rest)) ≡ from s rest =
-      ap (drop (length bytes)) (run-append (locatedAnswer Q) (locatedAfter Q) newCounted (feed bytes) rest)
-      ∙ drop-at (LocatedReference Q (feed bytes)) (from s rest) (length bytes) l in
-      run-append (locatedAnswer Q) (locatedAfter Q) newCounted (feed bytes) (feed more ++ rest)
-      ∙ ap (λ (x : List (Located A)). LocatedReference Q (feed bytes) ++ x) (full-after s more rest (omega arith))
-      ∙ sym (ap (λ (x : List (Located A)). LocatedReference Q (feed bytes)
-      ++ (map (λ b. located 0 (Q .full)) more ++ x)) d)
-
-  -- ---- after a finish, and where an answer's position is
+  -- ---- after a finish
 
   -- A finish leaves the decoder as new, full or not; so does everything that answers as it does.
   pub as-new-at-finish : (f : List Call → List (Located A)) → ((calls : List Call) → f calls ≡ LocatedReference Q calls)

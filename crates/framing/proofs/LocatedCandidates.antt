@@ -74,12 +74,16 @@ module _ {A : Type 0} (Q : LocatedProtocol A) where
       by-room true = refl
       by-room false = refl
 
-  -- Up to the limit the count is that of the bytes since the last finish, whatever was refused before it.
+  -- The count is that of the bytes since the last finish, up to the limit, whatever was refused before it.
+  pub counted-capped : (calls : List Call)
+      → Capped (Q .limit) (bytesSinceFinish 0 calls) (leftAfter (locatedAfter Q) newCounted calls .count)
+  counted-capped calls =
+      capped-left (Q .limit) (locatedAfter Q) (λ (u : Counted). u .count) count-after (λ u. refl) newCounted 0
+      ((λ l. refl), (λ l. omega (arith, l))) calls
+
   pub counted-since : (calls : List Call) → bytesSinceFinish 0 calls ≤ Q .limit
       → leftAfter (locatedAfter Q) newCounted calls .count ≡ bytesSinceFinish 0 calls
-  counted-since calls h =
-      capped-left (Q .limit) (locatedAfter Q) (λ (u : Counted). u .count) count-after (λ u. refl) newCounted 0
-      ((λ l. refl), (λ l. omega (arith, l))) calls .0 h
+  counted-since calls h = counted-capped calls .0 h
 
   -- the bytes of an open candidate are answered with nothing
   silently : (p n : ℕ) (t body : List ℕ) (rest : List Call) → n + length body ≤ Q .limit

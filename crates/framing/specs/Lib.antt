@@ -3,4 +3,5 @@ pub mod Demand3
 pub mod Bounded
 pub mod Located
 pub mod LocatedDemand3
+pub mod LocatedTable
 pub mod Counting

@@ -19,8 +19,7 @@ bytesSinceFinish n [] = n
 bytesSinceFinish n (byte b ∷ calls) = bytesSinceFinish (n + 1) calls
 bytesSinceFinish n (finish ∷ calls) = bytesSinceFinish 0 calls
 
--- Where n bytes were fed before these calls, no more than the limit are fed up to each finish, and none over it up to
--- the end.
+-- At most the limit are fed up to each finish and after the last one, where n bytes were fed before these calls.
 abbrev pub Within : (limit n : ℕ) → List Call → Type 0
 Within limit n [] = n ≤ limit
 Within limit n (byte b ∷ calls) = Within limit (n + 1) calls

@@ -18,13 +18,13 @@ use Rattle.lists.specs.Machine.{run, Ran, RanBy, AnsweredBy}
 use Rattle.lists.proofs.Machines.{ran-run, ran-by-run}
 use Rattle.framing.specs.Reference.{Call}
 use Rattle.framing.specs.Demand3.{feed}
-use Rattle.framing.specs.Located.{Located, unlocated, located, answerIn, positionIn, locatedBy}
+use Rattle.framing.specs.Located.{Located, answerIn, positionIn}
 use Rattle.framing.specs.Counting.{startIn}
 use Rattle.framing.specs.LocatedDemand3.{LocatedDemand3}
 use Rattle.framing.proofs.Located.{located-demand3-of}
 use Rattle.frame.specs.Flags.{roleOf}
 use Rattle.frame.specs.declared.Origin.{Origin}
-use Rattle.candidate.specs.Outcome.{Outcome, toldMeans, summaryOf, outcomeOf}
+use Rattle.candidate.specs.Outcome.{Outcome, toldMeans, summaryOf}
 use Rattle.candidate.specs.Holder.{holder}
 use Rattle.candidate.specs.Feed.{feedHeld, unanswered}
 use Rattle.candidate.specs.declared.Told.{Told}

@@ -1,6 +1,6 @@
--- What follows from demand 3: after a finish the reader is as new, after the stop flag as new but for the count, and it
--- never answers 1. These are of calls of the functions, in any form.
-use mathlib.Core.Path.{_≡_, refl, sym, ap, ap₂, _∙_, subst}
+-- The reader that calls leave, in any form: after a finish it is as new, after the stop flag as new but for the count. It
+-- keeps its origin, and never answers 1.
+use mathlib.Core.Path.{_≡_, refl, sym, ap, _∙_, subst}
 use mathlib.Core.Bool.{Bool, true, false}
 use mathlib.Core.Logic.{inl, inr}
 use mathlib.Core.List.{List, [], _∷_, _++_}
@@ -9,15 +9,13 @@ use Prim.Native.Nat.{ℕ, _+_, _≤_, _<_}
 use lib.Dec.{ltb}
 use lib.ListN.{length, length-set}
 use Rattle.lists.specs.Choice.{pick, Every}
-use Rattle.lists.specs.Machine.{turn, run, leftAfter, RanBy, AnsweredBy}
+use Rattle.lists.specs.Machine.{turn, run, leftAfter, RanBy}
 use Rattle.lists.proofs.Cases.{by-bool}
 use Rattle.lists.proofs.Machines.{left-append}
 use Rattle.framing.specs.Reference.{Call, byte, finish, Role, starts, stops, plain}
-use Rattle.framing.specs.Located.{Located, located, answerIn, LocatedReference}
-use Rattle.framing.specs.LocatedDemand3.{bytesBeforeFinish, bytesSinceFinish, shiftToFinish}
+use Rattle.framing.specs.Located.{Located, located, answerIn}
+use Rattle.framing.specs.LocatedDemand3.{bytesSinceFinish}
 use Rattle.framing.specs.Counting.{takenTurn}
-use Rattle.framing.proofs.Located.{as-new-at-finish}
-use Rattle.framing.proofs.LocatedCandidates.{as-new-at-stop}
 use Rattle.frame.specs.Flags.{stopFlag, roleOf}
 use Rattle.frame.specs.declared.Origin.{Origin}
 use Rattle.frame.specs.declared.Kind.the-variants.{Standard, Extended}
@@ -34,34 +32,11 @@ use Rattle.candidate.proofs.Follows.{rowing-suits}
 use Rattle.candidate.proofs.OutcomeLaws.{OwnNumber, OwnOutcome, own-outcome}
 use Rattle.line.specs.Rowing.{mostBytes, full, locatedRowing}
 use Rattle.line.specs.Reader.{originOf, counterOf, ReaderTurn, turnFrom, outcomeAt, nextAfter, ClosedAt, AsNew}
+use Rattle.line.specs.Chunks.{AsSingly}
 use Rattle.line.specs.declared.LineReader.{LineReader}
 use Rattle.line.proofs.StepLaws.{answer-located, step-taken}
-use Rattle.line.proofs.ChunkCalls.{CalledOn, chunks-singly, chunks-demand-3}
-
--- ---- later calls
-
-module _ (o : Origin) (calls rest : List Call) (all first later : List (Located Outcome)) where
-  -- After a finish every call, in whichever form, is answered as by a reader that is as new.
-  pub finish-then : AnsweredBy CalledOn (AsNew o) (calls ++ finish ∷ rest) all
-      → AnsweredBy CalledOn (AsNew o) (calls ++ finish ∷ []) first → AnsweredBy CalledOn (AsNew o) rest later
-      → all ≡ first ++ later
-  finish-then k l m =
-      let d = chunks-demand-3 o in
-      d .same (calls ++ finish ∷ rest) all k
-      ∙ as-new-at-finish (locatedRowing o) (LocatedReference (locatedRowing o)) (λ c. refl) calls rest
-      ∙ sym (ap₂ (λ (x y : List (Located Outcome)). x ++ y) (d .same (calls ++ finish ∷ []) first l) (d .same rest later m))
-
-  -- After the stop flag so too, but that the count runs on: positions are larger by the bytes since the last finish.
-  pub stop-then : bytesSinceFinish 0 calls + 1 + bytesBeforeFinish rest ≤ mostBytes
-      → AnsweredBy CalledOn (AsNew o) (calls ++ byte stopFlag ∷ rest) all
-      → AnsweredBy CalledOn (AsNew o) (calls ++ byte stopFlag ∷ []) first → AnsweredBy CalledOn (AsNew o) rest later
-      → all ≡ first ++ shiftToFinish (bytesSinceFinish 0 calls + 1) rest later
-  stop-then h k l m =
-      let d = chunks-demand-3 o in
-      d .same (calls ++ byte stopFlag ∷ rest) all k
-      ∙ as-new-at-stop (locatedRowing o) calls stopFlag refl rest h
-      ∙ sym (ap₂ (λ (x y : List (Located Outcome)). x ++ shiftToFinish (bytesSinceFinish 0 calls + 1) rest y)
-      (d .same (calls ++ byte stopFlag ∷ []) first l) (d .same rest later m))
+use Rattle.line.proofs.ChunkCalls.{CalledOn, chunks-singly}
+use Rattle.line.proofs.FullCalls.{left-count}
 
 -- ---- a reader keeps its origin
 
@@ -170,30 +145,41 @@ left-kept : (r : LineReader) (calls : List Call) → length (r .bytes) ≡ capac
 left-kept r [] h = h
 left-kept r (c ∷ calls) h = left-kept (nextAfter r c) calls (call-kept r c h)
 
--- The reader that any calls in a row leave, in whichever form, the last a finish, is as a new one of the origin that it
--- had, whatever else it was before, full or not.
-pub calls-left-new : (r last : LineReader) (calls : List Call) (outcomes : List (Located Outcome))
-    → RanBy CalledOn r (calls ++ finish ∷ []) outcomes last → length (r .bytes) ≡ capacity → AsNew (originOf r) last
-calls-left-new r last calls outcomes k h =
-    let u = leftAfter nextAfter r calls in
-    subst (AsNew (originOf r))
-    (sym (chunks-singly k .reader-is ∙ left-append nextAfter r calls (finish ∷ [])))
-    (record { array = left-kept r calls h; outside-is = refl; origin-is = left-origin r calls; count-is = refl })
+-- of what is answered as single calls are
+module _ (r last : LineReader) (calls : List Call) (outcomes : List (Located Outcome)) (h : length (r .bytes) ≡ capacity)
+  where
+    pub left-new : AsSingly r (calls ++ finish ∷ []) outcomes last → AsNew (originOf r) last
+    left-new k =
+        let u = leftAfter nextAfter r calls in
+        subst (AsNew (originOf r)) (sym (k .reader-is ∙ left-append nextAfter r calls (finish ∷ [])))
+        (record { array = left-kept r calls h; outside-is = refl; origin-is = left-origin r calls; count-is = refl })
 
--- Where the last is the stop flag, and the reader can take it, it is so but for the count.
-pub calls-left-closed : (r last : LineReader) (calls : List Call) (outcomes : List (Located Outcome))
-    → RanBy CalledOn r (calls ++ byte stopFlag ∷ []) outcomes last → length (r .bytes) ≡ capacity
-    → leftAfter nextAfter r calls .state .count < mostBytes
-    → ClosedAt (leftAfter nextAfter r calls .state .count + 1) (originOf r) last
-calls-left-closed r last calls outcomes k h room =
-    let u = leftAfter nextAfter r calls in
-    let s = u .state .held in
-    subst (ClosedAt (u .state .count + 1) (originOf r))
-    (sym (chunks-singly k .reader-is ∙ left-append nextAfter r calls (byte stopFlag ∷ [])))
-    (subst (λ (t : ReaderTurn). ClosedAt (u .state .count + 1) (originOf r) (t .next)) (sym (step-taken u stopFlag room))
-    (record {
-      array = stop-kept (s .origin) (s .mode) (u .bytes) (s .len) (left-kept r calls h);
-      outside-is = refl;
-      origin-is = left-origin r calls;
-      count-is = refl;
-    }))
+    pub left-closed : AsSingly r (calls ++ byte stopFlag ∷ []) outcomes last → r .state .count ≤ mostBytes
+        → bytesSinceFinish (r .state .count) calls < mostBytes
+        → ClosedAt (bytesSinceFinish (r .state .count) calls + 1) (originOf r) last
+    left-closed k l room =
+        let u = leftAfter nextAfter r calls in
+        let s = u .state .held in
+        let n : u .state .count ≡ bytesSinceFinish (r .state .count) calls =
+        left-count r l calls .0 (omega (arith, room)) in
+        subst (ClosedAt (bytesSinceFinish (r .state .count) calls + 1) (originOf r))
+        (sym (k .reader-is ∙ left-append nextAfter r calls (byte stopFlag ∷ [])))
+        (subst (λ (t : ReaderTurn). ClosedAt (bytesSinceFinish (r .state .count) calls + 1) (originOf r) (t .next))
+        (sym (step-taken u stopFlag (omega (arith, n, room))))
+        (record {
+          array = stop-kept (s .origin) (s .mode) (u .bytes) (s .len) (left-kept r calls h);
+          outside-is = refl;
+          origin-is = left-origin r calls;
+          count-is = ap (λ (m : ℕ). m + 1) n;
+        }))
+
+    -- The reader that any calls in a row leave, in whichever form, the last a finish, is as a new one of the origin that it
+    -- had, whatever else it was before, full or not.
+    pub calls-left-new : RanBy CalledOn r (calls ++ finish ∷ []) outcomes last → AsNew (originOf r) last
+    calls-left-new k = left-new (chunks-singly k)
+
+    -- Where the last is the stop flag, and the reader can take it, it is so but for the count.
+    pub calls-left-closed : RanBy CalledOn r (calls ++ byte stopFlag ∷ []) outcomes last → r .state .count ≤ mostBytes
+        → bytesSinceFinish (r .state .count) calls < mostBytes
+        → ClosedAt (bytesSinceFinish (r .state .count) calls + 1) (originOf r) last
+    calls-left-closed k = left-closed (chunks-singly k)

@@ -238,12 +238,12 @@ module _ (bytes left : List ℕ) (state : State) (s : List ℕ) (n : ℕ) (room 
       )
 
   -- what the code asks for
-  pub part-fits : (state .count + fed .taken ≤ mostBytes) × (fed .from ≤ fed .taken) × (fed .opened ≤ fed .taken)
+  pub part-fits : (state .count + fed .taken ≤ mostBytes) × (fed .began ≤ fed .taken) × (fed .opened ≤ fed .taken)
   part-fits = (
     omega (arith, within, taken .taken-is),
     omega (
       arith,
-      opens .from-is,
+      opens .began-is,
       taken .taken-is,
       last-within (unanswered given) (given .taken) (take n s)
           (unanswered-within given),
@@ -270,13 +270,13 @@ module _ (bytes left : List ℕ) (state : State) (s : List ℕ) (n : ℕ) (room 
   pub chunk-advances : (r : ChunkStep) → Advances (state .start) (state .count) fed r
       → ChunkStepIs left r (chunkOf (lentReader bytes state) s)
   chunk-advances r k =
-      let from = start-at (unanswered given) (fed .from) (unanswered-within given) (opens .from-is) in
+      let began = start-at (unanswered given) (fed .began) (unanswered-within given) (opens .began-is) in
       let opened = start-at (given .taken) (fed .opened) (omega arith) (opens .opened-is) in
       let position = startIn roleOf (state .start) (state .count) (take (unanswered counted) (cutChunk s)) in
       let told : toldMeans (fed .told) ≡ summaryOf (counted .answer) =
       taken .told-is ∙ ap (λ (f : FedTurn). summaryOf (f .answer)) same in
-      let at : placeAt (state .start) (state .count) (fed .from) ≡ position =
-      from ∙ ap (λ (f : FedTurn). startIn roleOf (state .start) (state .count) (take (unanswered f) (cutChunk s))) same in
+      let at : placeAt (state .start) (state .count) (fed .began) ≡ position =
+      began ∙ ap (λ (f : FedTurn). startIn roleOf (state .start) (state .count) (take (unanswered f) (cutChunk s))) same in
       let start : placeAt (state .start) (state .count) (fed .opened)
       ≡ startIn roleOf (state .start) (state .count) (take (counted .taken) (cutChunk s)) =
       opened ∙ ap (λ (f : FedTurn). startIn roleOf (state .start) (state .count) (take (f .taken) (cutChunk s))) same in

@@ -8,14 +8,15 @@ use Prim.Native.Nat.{ℕ, _+_, _≤_}
 use lib.Dec.{leb, ltb}
 use borrow.Author.Tests.{leb-true, leb-false}
 use Rattle.lists.specs.Choice.{pick, Exactly}
-use Rattle.lists.specs.Machine.{turn, run, leftAfter, RanBy, AnsweredBy}
+use Rattle.lists.specs.Machine.{turn, run, leftAfter, RanBy, Through, AnsweredBy}
 use Rattle.lists.proofs.Cases.{by-bool}
 use Rattle.lists.proofs.Lists.{last-same}
 use Rattle.lists.proofs.Machines.{run-append}
 use Rattle.framing.specs.Reference.{Call, byte}
 use Rattle.framing.specs.Located.{Located, located, answerIn}
-use Rattle.framing.specs.LocatedDemand3.{bytesSinceFinish, Capped}
+use Rattle.framing.specs.LocatedDemand3.{bytesSinceFinish, Within, Capped}
 use Rattle.framing.specs.Counting.{takenTurn}
+use Rattle.framing.proofs.Located.{within-now}
 use Rattle.framing.proofs.LocatedCandidates.{capped-left}
 use Rattle.frame.specs.declared.Origin.{Origin}
 use Rattle.candidate.specs.Outcome.{Outcome}
@@ -27,6 +28,7 @@ use Rattle.line.specs.Chunks.{AsSingly}
 use Rattle.line.specs.declared.LineReader.{LineReader}
 use Rattle.line.proofs.ChunkLaws.{full-exactly}
 use Rattle.line.proofs.ChunkCalls.{CalledOn, chunks-singly}
+use Rattle.line.proofs.StreamCalls.{Counts, TakenOn, stream-singly}
 
 -- a byte that is taken adds one to the count
 count-after : (r : LineReader) (b : ℕ) → nextAfter r (byte b) .state .count
@@ -41,19 +43,19 @@ count-after r b = by-room (ltb (r .state .count) mostBytes)
     by-room false = refl
 
 -- The count after single calls is that of the bytes since the last finish, up to the limit.
-pub left-count : (r : LineReader) → r .state .count ≡ 0 → (calls : List Call)
-    → Capped mostBytes (bytesSinceFinish 0 calls) (leftAfter nextAfter r calls .state .count)
-left-count r e calls =
-    capped-left mostBytes nextAfter (λ (u : LineReader). u .state .count) count-after (λ u. refl) r 0
-    ((λ h. e), (λ h. e ∙ omega (arith, h))) calls
+pub left-count : (r : LineReader) → r .state .count ≤ mostBytes → (calls : List Call)
+    → Capped mostBytes (bytesSinceFinish (r .state .count) calls) (leftAfter nextAfter r calls .state .count)
+left-count r h calls =
+    capped-left mostBytes nextAfter (λ (u : LineReader). u .state .count) count-after (λ u. refl) r (r .state .count)
+    ((λ l. refl), (λ l. omega (arith, h, l))) calls
 
 -- So it is after any calls in a row, in whichever form.
 pub calls-count : {r last : LineReader} {calls : List Call} {outcomes : List (Located Outcome)}
-    → RanBy CalledOn r calls outcomes last → r .state .count ≡ 0
-    → Capped mostBytes (bytesSinceFinish 0 calls) (last .state .count)
-calls-count {r} {last} {calls} k e =
-    subst (λ (u : LineReader). Capped mostBytes (bytesSinceFinish 0 calls) (u .state .count))
-    (sym (chunks-singly k .reader-is)) (left-count r e calls)
+    → RanBy CalledOn r calls outcomes last → r .state .count ≤ mostBytes
+    → Capped mostBytes (bytesSinceFinish (r .state .count) calls) (last .state .count)
+calls-count {r} {last} {calls} k h =
+    subst (λ (u : LineReader). Capped mostBytes (bytesSinceFinish (r .state .count) calls) (u .state .count))
+    (sym (chunks-singly k .reader-is)) (left-count r h calls)
 
 -- the count is full exactly where so many bytes were fed
 capped-full : (n c : ℕ) → Capped mostBytes n c → Exactly (mostBytes ≤ c) (mostBytes ≤ n)
@@ -64,17 +66,17 @@ capped-full n c k = (
 )
 
 -- of what is answered as single calls are
-pub singly-16-exactly : (r : LineReader) → r .state .count ≡ 0 → (calls : List Call) (b : ℕ)
+pub singly-16-exactly : (r : LineReader) → r .state .count ≤ mostBytes → (calls : List Call) (b : ℕ)
     (earlier : List (Located Outcome)) (last : Located Outcome) (left : LineReader)
     → AsSingly r (calls ++ byte b ∷ []) (earlier ++ last ∷ []) left
-    → Exactly (answerIn last ≡ full) (mostBytes ≤ bytesSinceFinish 0 calls)
-singly-16-exactly r e calls b earlier last left k =
+    → Exactly (answerIn last ≡ full) (mostBytes ≤ bytesSinceFinish (r .state .count) calls)
+singly-16-exactly r h calls b earlier last left k =
     let u = leftAfter nextAfter r calls in
     let is : last ≡ outcomeAt u (byte b) =
     last-same earlier (run outcomeAt nextAfter r calls) last (outcomeAt u (byte b))
     (k .outcomes-are ∙ run-append outcomeAt nextAfter r calls (byte b ∷ [])) in
     let f = full-exactly u (byte b) .exactly in
-    let c = capped-full (bytesSinceFinish 0 calls) (u .state .count) (left-count r e calls) in
+    let c = capped-full (bytesSinceFinish (r .state .count) calls) (u .state .count) (left-count r h calls) in
     ((λ q. c .0 (f .0 (ap answerIn (sym is) ∙ q))), (λ h. ap answerIn is ∙ f .1 (c .1 h)))
 
 -- A byte after any calls in a row, in whichever form, is answered 16 exactly where 4,294,967,295 bytes or more were fed
@@ -83,4 +85,27 @@ pub calls-16-exactly : (o : Origin) (calls : List Call) (b : ℕ) (earlier : Lis
     (last : Located Outcome) → AnsweredBy CalledOn (AsNew o) (calls ++ byte b ∷ []) (earlier ++ last ∷ [])
     → Exactly (answerIn last ≡ full) (mostBytes ≤ bytesSinceFinish 0 calls)
 calls-16-exactly o calls b earlier last k =
-    singly-16-exactly (k .start) (k .made .count-is) calls b earlier last (k .last) (chunks-singly (k .ran))
+    subst (λ (n : ℕ). Exactly (answerIn last ≡ full) (mostBytes ≤ bytesSinceFinish n calls)) (k .made .count-is)
+    (singly-16-exactly (k .start) (omega (arith, k .made .count-is)) calls b earlier last (k .last)
+    (chunks-singly (k .ran)))
+
+-- ---- a stream after other calls
+
+-- what single calls leave of a reader that has taken no byte can count a stream, by the bytes since the last finish
+pub left-counting : (r u : LineReader) (calls stream : List Call) → r .state .count ≡ 0 → u ≡ leftAfter nextAfter r calls
+    → Within mostBytes (bytesSinceFinish 0 calls) stream → Counts u stream
+left-counting r u calls stream e f w =
+    let n = bytesSinceFinish 0 calls in
+    let c : Capped mostBytes n (leftAfter nextAfter r calls .state .count) =
+    subst (λ (m : ℕ). Capped mostBytes (bytesSinceFinish m calls) (leftAfter nextAfter r calls .state .count)) e
+    (left-count r (omega (arith, e)) calls) in
+    subst (λ (m : ℕ). Within mostBytes m stream)
+    (sym (ap (λ (x : LineReader). x .state .count) f ∙ c .0 (within-now mostBytes n stream w))) w
+
+-- Document 02, No. 4, after any calls in a row: a stream is answered as its bytes and finishes are singly, where with the
+-- bytes since the last finish it is within the limit, up to each finish.
+pub stream-after : {o : Origin} {r u last : LineReader} {calls stream : List Call} {first outcomes : List (Located Outcome)}
+    → AsNew o r → RanBy CalledOn r calls first u → Within mostBytes (bytesSinceFinish 0 calls) stream
+    → Through TakenOn u stream outcomes last → AsSingly u stream outcomes last
+stream-after {o} {r} {u} {last} {calls} {stream} n k w t =
+    stream-singly (left-counting r u calls stream (n .count-is) (chunks-singly k .reader-is) w) t

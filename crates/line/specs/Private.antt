@@ -40,7 +40,7 @@ placeAt start count place = pick (eqb place 0) start (count + (place - 1))
 -- What bytes that were taken make of a start and a count.
 pub record Advances (start count : ℕ) (fed : HeldChunk) (r : ChunkStep) : Type 0 where
   pub told-is : r .told ≡ fed .told
-  pub position-is : r .position ≡ toldAt (toldMeans (fed .told)) (placeAt start count (fed .from))
+  pub position-is : r .position ≡ toldAt (toldMeans (fed .told)) (placeAt start count (fed .began))
   pub state-is : r .state
       ≡ record { held = fed .held; start = placeAt start count (fed .opened); count = count + fed .taken }
   pub taken-is : r .taken ≡ fed .taken

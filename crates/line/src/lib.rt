@@ -265,14 +265,14 @@ fn untaken(told: Told, state: State) -> ChunkStep
 // What bytes that were taken make of the position and the count.
 fn advanced(start: u32, count: u32, fed: HeldChunk) -> ChunkStep
     requires { ⌜ count + fed .taken ≤ mostBytes ⌝ }
-    requires { ⌜ fed .from ≤ fed .taken ⌝ }
+    requires { ⌜ fed .began ≤ fed .taken ⌝ }
     requires { ⌜ fed .opened ≤ fed .taken ⌝ }
     ensures { λ r. ⌜ Advances start count fed r ⌝ }
 {
     let told = fed.told;
     let held = fed.held;
     let taken = fed.taken;
-    let position = place_at(start, count, fed.from);
+    let position = place_at(start, count, fed.began);
     ChunkStep {
         told,
         position: told_at(told, position),

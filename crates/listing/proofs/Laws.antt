@@ -16,7 +16,7 @@ use Rattle.answer.specs.Answer.{Answer, result, refused}
 use Rattle.answer.specs.Draft.{draftAnswer, draftOut}
 use Rattle.text.specs.Text.{text}
 use Rattle.trace.specs.Machine.{add64, newListing, listingAfter, texts, lastText, Lists}
-use Rattle.trace.specs.Cutting.{longest}
+use Rattle.line.specs.Rowing.{mostBytes}
 use Rattle.trace.specs.declared.Listing.{Listing}
 use Rattle.trace.specs.declared.Listed.{Listed}
 use Rattle.trace.proofs.ChunkLaws.{after-append, texts-append}
@@ -99,7 +99,7 @@ fetched room left n f h e = subst (Fetches room left) e h
 pub record Reading (s : Listing) (read wrote : ℕ) : Type 0 where
   pub bytes : List ℕ
   pub read-is : read ≡ length bytes
-  pub within : length bytes ≤ longest
+  pub within : length bytes ≤ mostBytes
   pub after : After newListing bytes s wrote
 
 pub reading-none : (s : Listing) → s ≡ newListing → Reading s 0 0
@@ -111,7 +111,7 @@ reading-none s e = record {
 }
 
 module _ (s : Listing) (read wrote : ℕ) (g : Reading s read wrote) (chunk : List ℕ) (n : ℕ) (size : n ≡ length chunk)
-    (h : read + n ≤ longest) (p : Pumped) (l : Pumps s chunk p) where
+    (h : read + n ≤ mostBytes) (p : Pumped) (l : Pumps s chunk p) where
   pub reading-more : p .whole ≡ true → (wrote′ : ℕ) → wrote′ ≡ add64 wrote (p .wrote)
       → Reading (p .next) (read + n) wrote′
   reading-more e wrote′ w =
@@ -181,7 +181,7 @@ module _ (s : Listing) (read wrote : ℕ) (g : Reading s read wrote) where
       closed (LastRead (Bytes n)) out out′ r c
       (λ w t. subst (λ (k : ℕ). Stops (g .bytes) (LastRead (Bytes k)) w out′) (sym e) t)
 
-  pub at-limit : read ≡ longest → (out out′ : List ℕ) (r : Ran) → Closes s AtLimit read wrote out out′ r → Runs out′ r
+  pub at-limit : read ≡ mostBytes → (out out′ : List ℕ) (r : Ran) → Closes s AtLimit read wrote out out′ r → Runs out′ r
   at-limit h out out′ r c = closed AtLimit out out′ r c (λ w t. (sym (g .read-is) ∙ h, t))
 
 -- ---- the finish

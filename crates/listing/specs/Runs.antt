@@ -6,7 +6,7 @@ use Prim.Native.Nat.{ℕ, zero, suc, _≤_}
 use lib.ListN.{length, take, drop}
 use Rattle.text.specs.Text.{text}
 use Rattle.trace.specs.Machine.{add64, newListing, listingAfter, texts, lastText}
-use Rattle.trace.specs.Cutting.{longest}
+use Rattle.line.specs.Rowing.{mostBytes}
 use Rattle.trace.specs.declared.Listing.{Listing}
 use Rattle.listing.specs.declared.Stop.{Stop}
 use Rattle.listing.specs.declared.Stop.the-variants.{LastRead, AtLimit, LastWrite}
@@ -40,7 +40,7 @@ abbrev pub Stops : (bytes : List ℕ) → Stop → ℕ → (out′ : List ℕ) �
 Stops bytes (LastRead (Bytes zero)) wrote out′ = TextCounted bytes wrote out′
 Stops bytes (LastRead (Bytes (suc n))) wrote out′ = ⊥
 Stops bytes (LastRead Failed) wrote out′ = wrote ≡ add64 0 (length (texts newListing bytes))
-Stops bytes AtLimit wrote out′ = (length bytes ≡ longest) × TextCounted bytes wrote out′
+Stops bytes AtLimit wrote out′ = (length bytes ≡ mostBytes) × TextCounted bytes wrote out′
 Stops bytes (LastWrite all) wrote out′ = all ≡ false
 
 -- The bytes that the program listed: as many as it counted, at most so many as a trace has, and the reason for which it
@@ -48,5 +48,5 @@ Stops bytes (LastWrite all) wrote out′ = all ≡ false
 pub record Runs (out′ : List ℕ) (r : Ran) : Type 0 where
   pub bytes : List ℕ
   pub read-is : r .read ≡ length bytes
-  pub within : length bytes ≤ longest
+  pub within : length bytes ≤ mostBytes
   pub stops : Stops bytes (r .stop) (r .wrote) out′

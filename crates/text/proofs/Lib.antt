@@ -4,4 +4,5 @@ pub mod Spelling
 pub mod StrayCounts
 pub mod LineLaws
 pub mod Positions
+pub mod Listed
 pub mod Examples

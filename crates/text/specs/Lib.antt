@@ -3,5 +3,6 @@ pub mod Spelling
 pub mod Lines
 pub mod Strays
 pub mod Text
+pub mod Listed
 pub mod Writing
 pub mod Private

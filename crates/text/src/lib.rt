@@ -182,7 +182,7 @@ fn put_field(word: &[u8], v: u64, out: &mut [u8], at: usize) -> usize
     put_short_field(word, v, out, at)
 }
 
-// A word and a number, which may need less room than 20 digits.
+// A word and a number. The room that is asked for is what they need.
 fn put_short_field(word: &[u8], v: u64, out: &mut [u8], at: usize) -> usize
     requires { ⌜ at + length (field (now word) v) ≤ length (now out) ⌝ }
     ensures { λ r. ⌜ Wrote (now (out .entry)) at (field (now (word .entry)) v) (now (out .exit)) r ⌝ }

@@ -13,10 +13,11 @@ use Rattle.answer.specs.Draft.{writtenMeans}
 use Rattle.answer.specs.declared.Written.{Written}
 use Rattle.answer.proofs.Drafts.{writes-no-room}
 use native.Mathlib.Omega.{arith}
+use Rattle.line.specs.Rowing.{mostBytes}
 use Rattle.text.specs.Text.{text}
 use Rattle.text.specs.Writing.{lineRoom}
 use Rattle.trace.specs.Machine.{lastRoom, lastText}
-use Rattle.trace.specs.Cutting.{Calls, ended, call, longest}
+use Rattle.trace.specs.Cutting.{Calls, ended, call}
 use Rattle.trace.specs.declared.Listing.{Listing}
 use Rattle.trace.specs.declared.Listed.{Listed}
 use Rattle.trace.proofs.AnswerLaws.{room-answers, no-room-exactly}
@@ -40,7 +41,7 @@ ran ended-lent = ended
 ran (listed κs chunk chunk′ out out′ rest r l t) = call (chunk .now) rest (out .now) (out′ .now) r l (ran t)
 
 -- `new`, calls of `list` over the whole trace, and a `finish` that answered a length.
-pub calls-write-text : (trace : List ℕ) → length trace ≤ longest → (s : Listing) → new-reads.Learnt tt tt s tt
+pub calls-write-text : (trace : List ℕ) → length trace ≤ mostBytes → (s : Listing) → new-reads.Learnt tt tt s tt
     → (s′ : Listing) (before : List ℕ) → ListCalls s trace before s′
     → (κs : Lfts 1) (out out′ : RefT (List ℕ)) (r : Written)
     → finish-reads.Learnt κs (s′, (out, tt)) r (s′, (out′, tt))

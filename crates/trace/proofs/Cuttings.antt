@@ -16,14 +16,14 @@ use Rattle.answer.specs.Answer.{Answer, result}
 use Rattle.answer.proofs.Drafts.{written-first}
 use Rattle.candidate.specs.Outcome.{Outcome}
 use Rattle.frame.specs.declared.Origin.the-variants.{Trace}
-use Rattle.line.specs.Rowing.{locatedRowing}
+use Rattle.line.specs.Rowing.{mostBytes, locatedRowing}
 use Rattle.line.proofs.Follows.{reader-follows}
 use Rattle.text.specs.Lines.{totals}
 use Rattle.text.specs.Strays.{strays}
 use Rattle.text.specs.Text.{locatedIn, verdicts, frames, refusals, lines, text}
 use Rattle.text.specs.Writing.{lineRoom}
 use Rattle.trace.specs.Machine.{newListing, nextOf, textOf, listingAfter, texts, takenOf, lastText, Lists}
-use Rattle.trace.specs.Cutting.{Calls, ended, call, longest, WritesText, TakesSome}
+use Rattle.trace.specs.Cutting.{Calls, ended, call, WritesText, TakesSome}
 use Rattle.trace.specs.declared.Listing.{Listing}
 use Rattle.trace.specs.declared.Listed.{Listed}
 use Rattle.trace.proofs.ChunkLaws.{after-append, texts-append}
@@ -73,7 +73,7 @@ from-zero os bytes =
     rw (x, y, z)
 
 -- the lines of a trace, and the last text after it, are its text
-pub new-text : (trace : List ℕ) → length trace ≤ longest
+pub new-text : (trace : List ℕ) → length trace ≤ mostBytes
     → texts newListing trace ++ lastText (listingAfter newListing trace) ≡ text trace
 new-text trace h =
     all-text newListing trace (omega arith) (omega arith) (omega arith)

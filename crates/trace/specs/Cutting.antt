@@ -5,6 +5,7 @@ use Prim.Native.Nat.{ℕ, _≤_, _<_}
 use lib.ListN.{length, take, drop}
 use Rattle.answer.specs.Answer.{result}
 use Rattle.answer.specs.Draft.{draftAnswer, draftOut}
+use Rattle.line.specs.Rowing.{mostBytes}
 use Rattle.text.specs.Text.{text}
 use Rattle.text.specs.Writing.{lineRoom}
 use Rattle.trace.specs.Machine.{newListing, lastText, Lists}
@@ -32,13 +33,9 @@ pub record Session (trace written : List ℕ) : Type 0 where
   pub left : out′ ≡ draftOut (result (lastText state)) out
   pub all : written ≡ before ++ take wrote out′
 
--- The most bytes of a trace.
-abbrev pub longest : ℕ
-longest = 4294967295
-
--- However the trace is cut, all that is written is its text.
+-- However a trace is cut that has no more bytes than a line reader takes, all that is written is its text.
 abbrev pub WritesText : Type 0
-WritesText = (trace written : List ℕ) → length trace ≤ longest → Session trace written → written ≡ text trace
+WritesText = (trace written : List ℕ) → length trace ≤ mostBytes → Session trace written → written ≡ text trace
 
 -- No call stands still: one with a byte to take and room for any line takes a byte.
 abbrev pub TakesSome : Type 0

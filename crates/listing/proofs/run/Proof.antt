@@ -3,7 +3,7 @@ use Prim.Native.Nat.{_+_, _-_, _≤_}
 use native.Mathlib.Omega.{arith}
 use lib.ListN.{length, take}
 use lib.Seq.{length-take-le}
-use Rattle.trace.specs.Cutting.{longest}
+use Rattle.line.specs.Rowing.{mostBytes}
 use Rattle.listing.proofs.Laws.{Reading, reading-none, fetched, reading-more, write-failed, read-failed}
 use Rattle.listing.proofs.Laws.{input-ended, at-limit}
 use borrow.Author.Tests.{not-true, not-false}
@@ -16,7 +16,7 @@ Inv-loop fd input₀ out₀ state₀ read₀ wrote₀ input out state read wrote
     (length input ≡ length input₀) × (length out ≡ length out₀) × Reading state read wrote
 
 abbrev μ-loop : tie.MeasureT-loop
-μ-loop fd input₀ out₀ state₀ read₀ wrote₀ input out state read wrote = longest - read
+μ-loop fd input₀ out₀ state₀ read₀ wrote₀ input out state read wrote = mostBytes - read
 
 new-requires : tie.Need-new-requires Inv-loop μ-loop
 new-requires c κs = tt
@@ -56,7 +56,7 @@ bounds : (c : tie.After-known-told Inv-loop μ-loop)
     → (c .before .fetched .given .0 .0 ≤ length (c .before .before .before .before .before .before .before .before
     .loop .input))
     × (c .before .before .before .before .before .before .before .before .loop .read + c .before .fetched .given .0 .0
-    ≤ longest)
+    ≤ mostBytes)
 bounds c =
     let f = c .before .before .before .before .before .fetch in
     let b = fetched (length (c .before .before .before .before .before .before .before .before .loop .input)) _ (c

@@ -89,7 +89,7 @@ returns-2 c =
       told = j .judge .result .told;
       held = h;
       taken = p .consume .result .at + j .judge .result .taken;
-      from = p .consume .result .at + 1;
+      began = p .consume .result .at + 1;
       opened = p .consume .result .at + 1;
     }) (c .before .closed .ensures))
 
