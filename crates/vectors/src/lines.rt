@@ -15,10 +15,10 @@ pub(crate) fn run_new(origin: Origin, calls: &[u8]) {
     run_calls(LineReader::new(origin), calls);
 }
 
-// Readers for a trace that have taken so many bytes.
-pub(crate) fn run_counted(arguments: &[u8]) {
+// Readers that have taken so many bytes.
+pub(crate) fn run_counted(origin: Origin, arguments: &[u8]) {
     let count = words::number(words::nth(arguments, b' ', 0));
-    let new = LineReader::new(Origin::Trace);
+    let new = LineReader::new(origin);
     let state = new.state;
     let held = state.held;
     run_calls(

@@ -47,26 +47,28 @@ pub(crate) const LIVE_LENGTH: usize = 21;
 
 pub(crate) const LIVE_LINE: usize = 22;
 
-pub(crate) const LIVE_CHUNKS: usize = 23;
+pub(crate) const LIVE_LINE_AT: usize = 23;
 
-pub(crate) const DISTANCE_FRAME: usize = 24;
+pub(crate) const LIVE_CHUNKS: usize = 24;
 
-pub(crate) const TIME_FRAME: usize = 25;
+pub(crate) const DISTANCE_FRAME: usize = 25;
 
-pub(crate) const HOLD: usize = 26;
+pub(crate) const TIME_FRAME: usize = 26;
 
-pub(crate) const RELEASE: usize = 27;
+pub(crate) const HOLD: usize = 27;
 
-pub(crate) const STOP: usize = 28;
+pub(crate) const RELEASE: usize = 28;
 
-pub(crate) const OWN_BYTES: usize = 29;
+pub(crate) const STOP: usize = 29;
 
-pub(crate) const COUNT: usize = 30;
+pub(crate) const OWN_BYTES: usize = 30;
+
+pub(crate) const COUNT: usize = 31;
 
 pub(crate) fn named(name: &[u8]) -> usize {
     let names =
         b"frame contents standard extended number command inside step item status distance time lease line line-at chunks \
-        names standard-length extended-length live-frame live-standard live-length live-line live-chunks \
+        names standard-length extended-length live-frame live-standard live-length live-line live-line-at live-chunks \
         distance-frame time-frame hold release stop bytes";
     words::index_among(names, COUNT, name)
 }

@@ -422,7 +422,7 @@ fn listing_of_a_long_trace() {
 
 /// The last byte that is taken ends a frame, and the frame after it is not read.
 #[test]
-#[ignore = "it lists 4,294,967,295 bytes"]
+#[cfg_attr(debug_assertions, ignore = "it lists 4,294,967,295 bytes")]
 fn listing_of_the_longest_trace() {
     let stray = 4_294_967_292;
     let frames = bytes("F1 00 F2 F1 00 F2");

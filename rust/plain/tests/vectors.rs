@@ -183,7 +183,7 @@ fn groups(example: &str) -> Option<(usize, Vec<Vec<u8>>)> {
     let (operation, arguments) = example.split_once(' ')?;
     let (count, bytes) = match operation {
         "line" | "live-line" => ("0", arguments),
-        "line-at" => arguments.split_once(' ')?,
+        "line-at" | "live-line-at" => arguments.split_once(' ')?,
         _ => return None,
     };
     let byte = |word: &str| u8::from_str_radix(word, 16).unwrap();

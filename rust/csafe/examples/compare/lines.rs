@@ -89,7 +89,7 @@ impl Reader {
     fn is_as_held(&self) -> bool {
         self.lent.result(HELD_LEN) == self.held.bytes()
             && self.state == self.held.state()
-            && self.held.has_counts(self.counts)
+            && self.counts == self.held.counts()
             && self.lent.kept_past(HELD_LEN)
     }
 }

@@ -77,9 +77,11 @@ impl Held {
         };
     }
 
+    /// Ends the input, which sets both numbers back to 0.
     pub fn finish(&mut self) {
         self.len = 0;
         self.mode = OUTSIDE;
+        self.position = 0;
         self.count = 0;
     }
 
@@ -87,15 +89,9 @@ impl Held {
         self.count == LINE_LIMIT
     }
 
-    /// The counts, of which the position means something where a candidate is open.
+    /// The counts: the position of the last start flag, and how many bytes were taken.
     pub fn counts(&self) -> u64 {
         counts_of(self.count) | u64::from(self.position)
-    }
-
-    /// Whether a reader's counts are these: how many bytes it has taken and, where a candidate is open, its position.
-    pub fn has_counts(&self, counts: u64) -> bool {
-        let is_placed = self.mode == OUTSIDE || counts as u32 == self.position;
-        counts >> 32 == u64::from(self.count) && is_placed
     }
 
     pub fn bytes(&self) -> &[u8; HELD_LEN] {

@@ -8,6 +8,7 @@ mod lent;
 mod limit;
 mod pair;
 
+use csafe::line::HELD_LEN;
 use csafe::{Error, LineReader, Located, OwnedFrame};
 use plain::frame::Origin;
 use plain::line::Answer;
@@ -15,12 +16,40 @@ use plain::line::Answer;
 use crate::common::Xorshift;
 use crate::frame_damage::{EXTENDED_START, STANDARD_START, STOP};
 use crate::frames::of_alphabet;
-use crate::held::first_of;
-use crate::output::{hex, told};
+use crate::held::{first_of, Held};
+use crate::output::{hex, told, Output};
 use crate::traces::{Stretches, ALPHABET};
 use crate::ORIGINS;
 
 use pair::{Done, Pair, Told};
+
+/// A frame whose contents are 41.
+const FRAME: [u8; 6] = [EXTENDED_START, 0x05, 0x00, 0x41, 0x41, STOP];
+
+/// What a full reader answers to any byte.
+const FULL: Answer = refused_at(0, 16);
+
+const fn refused_at(position: u32, code: u8) -> Answer {
+    Answer::Refused { position, code }
+}
+
+/// The lent bytes of a reader and its two numbers are what it has to hold, and no byte around them changed.
+fn check_held(held: &Held, lent: &Output, numbers: (u64, u64), input: &dyn Fn() -> String) {
+    assert!(
+        lent.result(HELD_LEN) == held.bytes(),
+        "the reader's bytes are {}, not {}: {}",
+        hex(lent.result(HELD_LEN)),
+        hex(held.bytes()),
+        told(input)
+    );
+    let expected = (held.state(), held.counts());
+    assert_eq!(numbers, expected, "the numbers: {}", told(input));
+    assert!(
+        lent.kept_past(HELD_LEN),
+        "bytes around the reader changed: {}",
+        told(input)
+    );
+}
 
 /// Our reader for an origin.
 fn our_reader(origin: Origin) -> LineReader {

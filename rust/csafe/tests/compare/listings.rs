@@ -4,7 +4,7 @@ mod arguments;
 
 use std::ffi::OsStr;
 use std::fs::{self, File};
-use std::io::Cursor;
+use std::io::{self, Cursor, Read};
 use std::path::{Path, PathBuf};
 use std::process::{Command, Output, Stdio};
 use std::sync::OnceLock;
@@ -12,6 +12,7 @@ use std::sync::OnceLock;
 use plain::listing;
 
 use crate::common::{Xorshift, SEED};
+use crate::held::LINE_LIMIT;
 use crate::listed::listed;
 use crate::program;
 use crate::traces::Stretches;
@@ -145,4 +146,29 @@ fn a_write_that_fails_is_told() {
         .expect("the program runs");
     let told = "standard output: No space left on device\n";
     check_told("a full device", &printed, told);
+}
+
+/// The last byte that is read ends a frame, and the frame after it is not read.
+#[test]
+#[cfg_attr(debug_assertions, ignore = "it lists 4,294,967,295 bytes")]
+fn the_longest_trace_is_listed_alike() {
+    let frames = [0xF1, 0x00, 0xF2, 0xF1, 0x00, 0xF2];
+    let stray = u64::from(LINE_LIMIT) - 3;
+    let trace = || io::repeat(0x55).take(stray).chain(&frames[..]);
+    let mut expected = Vec::new();
+    listing::list(&mut trace(), &mut expected).expect("nothing fails in memory");
+
+    let mut child = Command::new(program())
+        .stdin(Stdio::piped())
+        .stdout(Stdio::piped())
+        .spawn()
+        .expect("the program runs");
+    let mut input = child.stdin.take().expect("the input is a pipe");
+    io::copy(&mut trace(), &mut input).expect("all is written");
+    drop(input);
+    let printed = child.wait_with_output().expect("the program ends");
+    assert_eq!(
+        String::from_utf8_lossy(&printed.stdout),
+        String::from_utf8_lossy(&expected)
+    );
 }

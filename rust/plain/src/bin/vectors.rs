@@ -57,7 +57,8 @@ fn run(line: &str) -> Option<String> {
         "lease" => lease_answer(arguments)?,
         "line" => line_answer(Origin::Trace, 0, arguments)?,
         "live-line" => line_answer(Origin::Live, 0, arguments)?,
-        "line-at" => line_at_answer(arguments)?,
+        "line-at" => line_at_answer(Origin::Trace, arguments)?,
+        "live-line-at" => line_at_answer(Origin::Live, arguments)?,
         "chunks" => chunks_answer(Origin::Trace, arguments)?,
         "live-chunks" => chunks_answer(Origin::Live, arguments)?,
         "command" => command_answer(&bytes(arguments)?)?,
@@ -437,9 +438,9 @@ fn lease_call(table: &mut [u8], call: &str) -> Option<String> {
 }
 
 /// As `line`, with readers that have taken as many bytes as the first word says.
-fn line_at_answer(arguments: &str) -> Option<String> {
+fn line_at_answer(origin: Origin, arguments: &str) -> Option<String> {
     let (count, groups) = arguments.split_once(' ')?;
-    line_answer(Origin::Trace, count.parse().ok()?, groups)
+    line_answer(origin, count.parse().ok()?, groups)
 }
 
 /// The answers of a reader that gets single bytes and of one that gets a group's

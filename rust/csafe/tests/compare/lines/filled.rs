@@ -6,13 +6,10 @@ use csafe::LineReader;
 use plain::frame::Origin;
 use plain::line::{Answer, Line};
 
-use super::our_reader;
 use super::pair::Done;
-use crate::frame_damage::{EXTENDED_START, STOP};
+use super::{our_reader, FRAME};
 use crate::held::{CHUNK_LIMIT, LINE_LIMIT};
 use crate::ORIGINS;
-
-const FRAME: [u8; 6] = [EXTENDED_START, 0x05, 0x00, 0x41, 0x41, STOP];
 
 /// Where frames begin among zeros: at the beginning, across the ends of chunks, about half of the way, and so that the
 /// last byte that is taken ends one.
@@ -90,7 +87,10 @@ fn fill_both(origin: Origin) {
 }
 
 #[test]
-#[ignore = "it feeds 4,294,967,295 bytes at each origin"]
+#[cfg_attr(
+    debug_assertions,
+    ignore = "it feeds 4,294,967,295 bytes at each origin"
+)]
 fn readers_take_all_that_they_may_and_then_refuse() {
     for origin in ORIGINS {
         let start = Instant::now();

@@ -5,7 +5,7 @@ use csafe::{Error, Located};
 use plain::frame::{self as plain_rust, Origin, Read};
 use plain::line::Answer;
 
-use super::{any_chunk, Done};
+use super::{any_chunk, check_held, refused_at, Done, FULL};
 use crate::by_origin;
 use crate::common::Xorshift;
 use crate::frame_damage::{ESCAPE, EXTENDED_START, STANDARD_START, STOP};
@@ -20,13 +20,6 @@ use crate::ORIGINS;
 /// Counts of a reader that is far from full, and the position in them.
 const COUNTS: u64 = 9 << 32 | POSITION as u64;
 const POSITION: u32 = 5;
-
-/// What a full reader answers to any byte.
-const FULL: Answer = refused_at(0, 16);
-
-const fn refused_at(position: u32, code: u8) -> Answer {
-    Answer::Refused { position, code }
-}
 
 /// Lengths that no call leaves in a reader's number: more than its bytes, up to the most that a number has.
 const TOO_MANY: [u64; 7] = [
@@ -72,7 +65,7 @@ impl Lent {
         let fed = by_origin::feed(origin, bytes, &mut self.state, &mut self.counts, chunk);
         let done = Done::by_ours(fed.taken, fed.told);
         assert_eq!(done, expected, "{}", told(&input));
-        self.check_held(&input);
+        check_held(&self.held, &self.output, (self.state, self.counts), &input);
         let kept = (self.state, self.counts) == numbers;
         assert!(
             done.taken > 0 || kept,
@@ -135,27 +128,7 @@ impl Lent {
         let finished = line::finish(&mut self.state, &mut self.counts);
         assert_eq!(finished, expected, "{}", told(&input));
         self.held.finish();
-        self.check_held(&input);
-    }
-
-    fn check_held(&self, input: &dyn Fn() -> String) {
-        assert!(
-            self.output.result(HELD_LEN) == self.held.bytes(),
-            "the reader's bytes: {}",
-            told(input)
-        );
-        assert_eq!(self.state, self.held.state(), "the state: {}", told(input));
-        let counts = self.counts;
-        assert!(
-            self.held.has_counts(counts),
-            "the counts {counts:#X}: {}",
-            told(input)
-        );
-        assert!(
-            self.output.kept_past(HELD_LEN),
-            "bytes around the reader changed: {}",
-            told(input)
-        );
+        check_held(&self.held, &self.output, (self.state, self.counts), &input);
     }
 }
 

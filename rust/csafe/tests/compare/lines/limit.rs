@@ -5,22 +5,13 @@ use plain::frame::Read;
 use plain::line::{self as plain_rust, Answer};
 
 use super::pair::Pair;
-use super::{any_chunk, Done};
+use super::{any_chunk, refused_at, Done, FRAME, FULL};
 use crate::common::Xorshift;
 use crate::frame_damage::{EXTENDED_START, STANDARD_START, STOP};
 use crate::held::{CHUNK_LIMIT, LINE_LIMIT as LIMIT};
 use crate::output::hex;
 use crate::traces::Stretches;
 use crate::ORIGINS;
-
-const FULL: Answer = refused_at(0, 16);
-
-const fn refused_at(position: u32, code: u8) -> Answer {
-    Answer::Refused { position, code }
-}
-
-/// A frame whose contents are 41.
-const FRAME: [u8; 6] = [EXTENDED_START, 0x05, 0x00, 0x41, 0x41, STOP];
 
 const fn frame_at(position: u32) -> Answer {
     let (to, from, len) = (0x05, 0x00, 1);
@@ -163,7 +154,7 @@ fn long_chunks_about_the_limit_are_read_alike() {
     }
 }
 
-/// The count does not stop or turn at what a half or a quarter of its bits can hold.
+/// Frames about each power of two have their positions.
 #[test]
 fn positions_go_on_past_every_power_of_two() {
     for bits in 8..32 {

@@ -7,6 +7,7 @@ use csafe::{Error, Frame, Located};
 use plain::frame::{Origin, Read};
 use plain::line::{Answer, Line};
 
+use super::check_held;
 use crate::by_origin;
 use crate::frames::as_read;
 use crate::held::{counts_of, first_of, Held};
@@ -116,7 +117,7 @@ impl Pair {
         let (taken, answer) = self.theirs_by_chunk.feed_chunk(chunk);
         let by_chunk = Done::by_theirs(taken, answer, &self.theirs_by_chunk);
         by_chunk.check_same(&done, "the independent reader, by the chunk,", input);
-        self.check_held(input);
+        check_held(&self.held, &self.lent, (self.state, self.counts), input);
         assert!(
             taken > 0 || self.counts == counts,
             "no byte was taken, and the counts changed: {}",
@@ -177,29 +178,7 @@ impl Pair {
         self.held.finish();
         assert_eq!(answer, self.theirs.finish(), "{}", told(input));
         assert_eq!(answer, self.theirs_by_chunk.finish(), "{}", told(input));
-        self.check_held(input);
+        check_held(&self.held, &self.lent, (self.state, self.counts), input);
         answer
-    }
-
-    fn check_held(&self, input: &dyn Fn() -> String) {
-        assert!(
-            self.lent.result(HELD_LEN) == self.held.bytes(),
-            "the reader's bytes are {}, not {}: {}",
-            hex(self.lent.result(HELD_LEN)),
-            hex(self.held.bytes()),
-            told(input)
-        );
-        assert_eq!(self.state, self.held.state(), "the state: {}", told(input));
-        let counts = self.counts;
-        assert!(
-            self.held.has_counts(counts),
-            "the counts {counts:#X}: {}",
-            told(input)
-        );
-        assert!(
-            self.lent.kept_past(HELD_LEN),
-            "bytes around the reader changed: {}",
-            told(input)
-        );
     }
 }
