@@ -6,7 +6,8 @@
  *
  * A slice is a pointer and a length. Every function takes any numbers and any slices, returns, and answers one
  * 64-bit number: a result or a refusal. A refusal changes no lent byte, but that a line reader that is not full goes
- * on. After a result the bytes of the output past it are as they were.
+ * on, and that every call of one sets the numbers that it answers with. After a result the bytes of the output past it
+ * are as they were.
  *
  * The slices and numbers that are lent to one call must not overlap, and nobody else may access them during the call:
  * no thread, and where they are in shared memory or a mapped file no other process. The functions take no lock. The
@@ -169,9 +170,9 @@ uint64_t csafe_read(const uint8_t *wire, size_t wire_len, uint8_t *out, size_t o
  *
  * A candidate for a frame begins at a start flag. At its stop flag it is answered as csafe_read answers a slice, its
  * contents being the first bytes of the reader, or refused. Where nothing is told, the kind is CSAFE_NOTHING and all
- * bytes were taken, or the first CSAFE_CHUNK_LIMIT of them, or those up to CSAFE_LINE_LIMIT. The next call has to start
- * right after the last byte taken. However a stream that the reader can take is cut into calls, its answers are those
- * of its bytes fed one by one.
+ * bytes were taken, or the first CSAFE_CHUNK_LIMIT of them, or, where the reader becomes full before that, as many as
+ * it could still take. The next call has to start right after the last byte taken. However a stream that the reader
+ * can take is cut into calls, its answers are those of its bytes fed one by one.
  *
  * The position of an answer, a refusal too, is that of the candidate's start flag: how many bytes the reader had taken
  * before it since it was new or finished last. It is 0 where nothing is told.

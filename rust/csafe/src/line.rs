@@ -75,8 +75,8 @@ pub const CHUNK_LIMIT: usize = 65_536;
 /// The most bytes that a reader takes since it was new or finished last. Each further one is refused as
 /// [`Error::Full`], and the reader stays as it is until it is finished.
 ///
-/// A slow line needs weeks for so many. A program that reads one for so long finishes the reader where it is full, and
-/// goes on with the bytes that were not taken.
+/// A line of 960 bytes a second needs seven weeks for so many. A program that reads one for so long finishes the reader
+/// where it is full, and goes on with the bytes that were not taken.
 pub const LIMIT: u32 = 4_294_967_295;
 
 /// What a call of [`LineReader::feed`], [`feed`] or [`trace::feed`] did with its bytes.
