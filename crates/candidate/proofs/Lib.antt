@@ -5,5 +5,4 @@ pub mod FeedLaws
 pub mod FeedBounds
 pub mod RunLaws
 pub mod WholeLaws
-pub mod OutsideLaws
 pub mod OutcomeLaws

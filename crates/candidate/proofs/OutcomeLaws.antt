@@ -107,6 +107,20 @@ fed-outcome P none each h (b ∷ s) =
     by-answer true t k f l = k
     by-answer false t k f l = l
 
+-- What every byte keeps of what holds the candidate, they keep.
+pub fed-next : (R : Holder → Type 0) → ((h : Holder) (b : ℕ) → R h → R (stepHeld h b .next))
+    → (h : Holder) (s : List ℕ) → R h → R (feedHeld h s .next)
+unfolding feedHeld
+fed-next R each h [] k = k
+fed-next R each h (b ∷ s) k =
+    by-answer (isAnswer (stepHeld h b .answer)) (stepHeld h b) (each h b k) (feedHeld (stepHeld h b .next) s)
+    (fed-next R each (stepHeld h b .next) s (each h b k))
+  where
+    by-answer : (q : Bool) (t : HolderTurn) → R (t .next) → (f : FedTurn) → R (f .next)
+        → R (pick q (fedTurn (t .answer) (t .next) 1) (laterBy 1 f) .next)
+    by-answer true t k f l = k
+    by-answer false t k f l = l
+
 -- No more bytes are taken than there are, with an answer at least one, and with none all.
 pub record Extent (s : List ℕ) (f : FedTurn) : Type 0 where
   pub within : f .taken ≤ length s

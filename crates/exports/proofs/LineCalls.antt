@@ -14,11 +14,12 @@ use Rattle.lists.proofs.Machines.{left-append, ran-by-run, through-known}
 use Rattle.framing.specs.Reference.{Call, byte, finish}
 use Rattle.framing.specs.Demand3.{feed}
 use Rattle.framing.specs.Located.{Located, answerIn, positionIn, locatedBy}
-use Rattle.framing.specs.LocatedDemand3.{bytesSinceFinish, Within, LocatedDemand3}
+use Rattle.framing.specs.LocatedDemand3.{bytesSinceFinish, Within, Capped, LocatedDemand3}
 use Rattle.framing.specs.LocatedTable.{LocatedLaws}
 use Rattle.framing.proofs.Located.{located-demand3-of}
 use Rattle.framing.proofs.LocatedTable.{located-laws}
 use Rattle.answer.specs.Answer.{refused}
+use Rattle.frame.specs.Flags.{stopFlag}
 use Rattle.frame.specs.Frame.{standard}
 use Rattle.frame.specs.Conditions.{Terminated, SoundFrame}
 use Rattle.frame.specs.declared.Origin.{Origin}
@@ -26,12 +27,11 @@ use Rattle.frame.specs.declared.Origin.the-variants.{Live, Trace}
 use Rattle.candidate.specs.Outcome.{Outcome, judged, Summary, summaryOf, capacity, Not1, NotStandard, Not17}
 use Rattle.line.specs.Rowing.{mostBytes, full, locatedRowing, outcomeFrom, UnnamedAt}
 use Rattle.line.specs.Answers.{locatedOutcome}
-use Rattle.line.specs.Reader.{outcomeAt, nextAfter, AsNew}
-use Rattle.line.specs.Feed.{ChunkTurn, cutChunk}
+use Rattle.line.specs.Reader.{outcomeAt, nextAfter, ClosedAt, AsNew}
+use Rattle.line.specs.Feed.{cutChunk}
 use Rattle.line.specs.Chunks.{standsFor, toldBytes, TakenToAnswer, TakesFirst, AsSingly}
 use Rattle.line.specs.declared.LineReader.{LineReader}
 use Rattle.line.proofs.ValueLaws.{call-whole}
-use Rattle.line.proofs.FeedLaws.{chunk-full}
 use Rattle.line.proofs.FeedBounds.{chunk-origin}
 use Rattle.exports.specs.Told.{toldLocated}
 use Rattle.exports.specs.LineState.{packedState, packedCounts, countOf, readerIn}
@@ -41,11 +41,11 @@ use Rattle.exports.proofs.LineStateLaws.{state-packs, counts-pack}
 use Rattle.exports.proofs.LineAnswerLaws.{fed-start-fits, fed-next, finished-next}
 use Rattle.exports.proofs.LineToldLaws.{fed-told, finish-told}
 use Rattle.line.proofs.Follows.{as-new-follows}
-use Rattle.line.proofs.ChunkLaws.{takes-to-answer, takes-first}
+use Rattle.line.proofs.ChunkLaws.{full-stays, takes-to-answer, takes-first}
 use Rattle.line.proofs.ChunkCalls.{chunk-whole}
 use Rattle.line.proofs.StreamCalls.{Counts, stands-counted, taken-counts}
-use Rattle.line.proofs.FullCalls.{singly-16-exactly, left-counting}
-use Rattle.line.proofs.Consequences.{run-never-1, left-new}
+use Rattle.line.proofs.FullCalls.{left-count, singly-16-exactly, left-counting}
+use Rattle.line.proofs.Consequences.{run-never-1, left-new, left-closed}
 use Rattle.line.proofs.Origins.{live-run, trace-run, each-unnamed, reference-from, judged-last}
 use Rattle.exports.proofs.csafe_feed.Reads as feed-reads
 use Rattle.exports.proofs.feed.Reads as feed-at-reads
@@ -116,18 +116,17 @@ module _ (o : Origin) (n : ℕ) (bytes bytes′ input : List ℕ) (state state�
       (fed-next o n bytes′ state′ counts′ taken position (fedTo o bytes state counts input) (chunk-origin r input)
       (fed-start-fits o bytes input state counts) k)
 
-  -- a full reader keeps its array and both numbers
-  fed-full-keeps : mostBytes ≤ countOf counts → 0 < length input → lentLine bytes′ state′ counts′
-      ≡ lentLine bytes state counts
-  fed-full-keeps h l =
-      let e = chunk-full (readerIn o bytes state counts) input l h in
-      let b : bytes′ ≡ bytes = k .bytes-left ∙ ap (λ (f : ChunkTurn). f .next .bytes) e in
+  -- a full reader takes no byte, and keeps its array and both numbers
+  fed-full-keeps : mostBytes ≤ countOf counts
+      → (taken ≡ 0) × (lentLine bytes′ state′ counts′ ≡ lentLine bytes state counts)
+  fed-full-keeps h =
+      let e = full-stays (readerIn o bytes state counts) input h in
+      let b : bytes′ ≡ bytes = k .bytes-left ∙ ap (λ (r : LineReader). r .bytes) (e .1) in
       let s : state′ ≡ state =
-      subst (λ (f : ChunkTurn). state′ ≡ packedState (f .next .state)) e (k .state-left) ∙ state-packs o state counts in
+      k .state-left ∙ ap (λ (r : LineReader). packedState (r .state)) (e .1) ∙ state-packs o state counts in
       let c : counts′ ≡ counts =
-      subst (λ (f : ChunkTurn). counts′ ≡ packedCounts (f .next .state)) e (k .counts-left)
-      ∙ counts-pack o state counts in
-      λ i. lentLine (b i) (s i) (c i)
+      k .counts-left ∙ ap (λ (r : LineReader). packedCounts (r .state)) (e .1) ∙ counts-pack o state counts in
+      (k .count ∙ e .0, λ i. lentLine (b i) (s i) (c i))
 
 -- With no answer a call takes its whole chunk, 65,536 bytes at the most and no more than can be counted; with one at
 -- least a byte, but for 16, which it gives exactly where the reader is full before the chunk's first byte.
@@ -140,9 +139,9 @@ fed-to-answer (fed-at {o} κs bytes bytes′ state state′ counts counts′ inp
     fed-takes-to-answer o n (bytes .now) (bytes′ .now) (input .now) (state .now) (state′ .now) (counts .now)
     (counts′ .now) (taken′ .now) (position′ .now) k
 
--- Where the count is full, a call that is given a byte leaves the array and both numbers as they were.
+-- Where the count is full, a call takes no byte and leaves the array and both numbers as they were.
 pub fed-full-kept : {o : Origin} {l l′ : LentLine} {given : List ℕ} {taken : ℕ} {a : Located Outcome}
-    → ExportedFed o l given taken a l′ → mostBytes ≤ countOf (l .counts) → 0 < length given → l′ ≡ l
+    → ExportedFed o l given taken a l′ → mostBytes ≤ countOf (l .counts) → (taken ≡ 0) × (l′ ≡ l)
 fed-full-kept (fed κs bytes bytes′ state state′ counts counts′ input taken taken′ position position′ n k) =
     fed-full-keeps Live n (bytes .now) (bytes′ .now) (input .now) (state .now) (state′ .now) (counts .now)
     (counts′ .now) (taken′ .now) (position′ .now) k
@@ -177,6 +176,14 @@ exported-takes o l l′ given m outcomes
 
 -- ---- calls in a row
 
+-- an array and two numbers are those of the reader that they are
+lent-is : (o : Origin) (l : LentLine)
+    → lentLine (readerOf o l .bytes) (packedState (readerOf o l .state)) (packedCounts (readerOf o l .state)) ≡ l
+lent-is o l =
+    let s = state-packs o (l .state) (l .counts) in
+    let c = counts-pack o (l .state) (l .counts) in
+    λ i. lentLine (l .bytes) (s i) (c i)
+
 module _ {o : Origin} where
   -- Any calls in a row at an origin, from any array and any two numbers of a state: each byte taken or refused and each
   -- finish has the outcome that it has singly, and the array and the numbers left are the reader of the single calls.
@@ -208,6 +215,21 @@ module _ {o : Origin} where
   exported-stream w t =
       exported-singly
       (through-known (ExportedTaken o) (ExportedLine o) (λ l calls. Counts (readerOf o l) calls) each-counted t w)
+
+  -- Two rows of calls through the same stream, each with cuts of its own, have the same outcomes and leave the same array
+  -- and numbers.
+  pub exported-stream-alike : {l last last′ : LentLine} {stream : List Call} {outcomes outcomes′ : List (Located Outcome)}
+      → Counts (readerOf o l) stream → Through (ExportedTaken o) l stream outcomes last
+      → Through (ExportedTaken o) l stream outcomes′ last′ → (outcomes ≡ outcomes′) × (last ≡ last′)
+  exported-stream-alike {last = last} {last′ = last′} w t u =
+      let k = exported-stream w t in
+      let m = exported-stream w u in (
+        k .outcomes-are ∙ sym (m .outcomes-are),
+        sym (lent-is o last)
+            ∙ ap (λ (r : LineReader). lentLine (r .bytes) (packedState (r .state)) (packedCounts (r .state)))
+            (k .reader-is ∙ sym (m .reader-is))
+            ∙ lent-is o last′,
+      )
 
 -- Demand 3 of the calls that feed at an origin and of `csafe_finish`, whole and with positions, from every array and
 -- numbers that are a reader outside of a candidate that has taken no byte.
@@ -287,6 +309,15 @@ module _ {o : Origin} where
   exported-stream-after {l} {m} {last} {calls} {stream} n k w t =
       exported-stream (left-counting (readerOf o l) (readerOf o m) calls stream (n .count-is) (exported-singly k .reader-is) w) t
 
+  -- The upper half of the second number that any calls leave is how many bytes were fed since the last finish, up to the
+  -- limit.
+  pub exported-count : {l last : LentLine} {calls : List Call} {outcomes : List (Located Outcome)}
+      → RanBy (ExportedLine o) l calls outcomes last → countOf (l .counts) ≤ mostBytes
+      → Capped mostBytes (bytesSinceFinish (countOf (l .counts)) calls) (countOf (last .counts))
+  exported-count {l} {last} {calls} k h =
+      subst (λ (r : LineReader). Capped mostBytes (bytesSinceFinish (countOf (l .counts)) calls) (r .state .count))
+      (sym (exported-singly k .reader-is)) (left-count (readerOf o l) h calls)
+
   -- The array and the numbers that any calls leave, the last a finish, are a new reader, and both numbers are 0, whatever
   -- they were before, full or not.
   pub exported-left-new : (l last : LentLine) (calls : List Call) (outcomes : List (Located Outcome))
@@ -300,6 +331,14 @@ module _ {o : Origin} where
         sym (state-packs o (last .state) (last .counts)) ∙ ap packedState e,
         sym (counts-pack o (last .state) (last .counts)) ∙ ap packedCounts e ∙ omega arith,
       )
+
+  -- Where the last is the stop flag, and the reader can take it, they are a reader that is as new but for the count.
+  pub exported-left-closed : (l last : LentLine) (calls : List Call) (outcomes : List (Located Outcome))
+      → RanBy (ExportedLine o) l (calls ++ byte stopFlag ∷ []) outcomes last → length (l .bytes) ≡ capacity
+      → countOf (l .counts) ≤ mostBytes → bytesSinceFinish (countOf (l .counts)) calls < mostBytes
+      → ClosedAt (bytesSinceFinish (countOf (l .counts)) calls + 1) o (readerOf o last)
+  exported-left-closed l last calls outcomes k h =
+      left-closed (readerOf o l) (readerOf o last) calls outcomes h (exported-singly k)
 
   -- No call of a row, from whichever array and numbers, is answered 1.
   pub exported-never-1 : {l last : LentLine} {calls : List Call} {outcomes : List (Located Outcome)}

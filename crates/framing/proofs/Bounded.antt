@@ -23,7 +23,7 @@ use Rattle.framing.specs.Bounded.{truncatedIn, terminatedIn, leftByStop,
 use Rattle.framing.proofs.Restart.{follows, demand3-of}
 
 -- bytes that are no flags, and one more
-more-free : (role : ℕ → Role) (body : List ℕ) (b : ℕ) → FlagFree role body → role b ≡ plain
+pub more-free : (role : ℕ → Role) (body : List ℕ) (b : ℕ) → FlagFree role body → role b ≡ plain
     → FlagFree role (body ++ b ∷ [])
 more-free role [] b f e = (e, tt)
 more-free role (x ∷ body) b f e = (f .0, more-free role body b (f .1) e)

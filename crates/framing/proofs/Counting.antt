@@ -18,6 +18,11 @@ use Rattle.framing.specs.LocatedDemand3.{LocatedFollows, locatedToldBy}
 use Rattle.framing.specs.Counting.{Counter, startAfter, startIn, locate, TellsApart, takenTurn, countedTurn}
 use Rattle.framing.proofs.Located.{follows-located, after-without}
 
+-- Neither the stop flag nor any other byte moves the position of the last start flag.
+pub start-kept : (t : Bool) (start count : ℕ) → start ≡ startAfter (pick t stops plain) start count
+start-kept true start count = refl
+start-kept false start count = refl
+
 module _ {S A : Type 0} (Q : LocatedProtocol A) (isAnswer : A → Bool) (apart : TellsApart (Q .protocol) isAnswer)
     (turnOf : S → Call → Turn S A) (R : S → Candidate → Type 0)
     (step : (s : S) (k : Candidate) (c : Call) → R s k

@@ -35,7 +35,7 @@ within-now limit n (finish ∷ calls) w = w .0
 
 module _ {A : Type 0} (Q : LocatedProtocol A) where
   -- the answers from any state on
-  abbrev from : Counted → List Call → List (Located A)
+  abbrev pub from : Counted → List Call → List (Located A)
   from s calls = run (locatedAnswer Q) (locatedAfter Q) s calls
 
   -- the state after bytes

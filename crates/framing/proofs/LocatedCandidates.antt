@@ -9,7 +9,7 @@ use lib.Dec.{leb, ltb}
 use lib.ListN.{length}
 use borrow.Author.Tests.{leb-true, leb-false, ltb-true, ltb-false}
 use Rattle.lists.specs.Choice.{pick}
-use Rattle.lists.specs.Machine.{run, leftAfter}
+use Rattle.lists.specs.Machine.{leftAfter}
 use Rattle.lists.proofs.Cases.{by-bool}
 use Rattle.lists.proofs.Machines.{run-append, left-append}
 use Rattle.framing.specs.Reference.{Call, byte, finish, Role, starts, stops, FlagFree}
@@ -19,7 +19,7 @@ use Rattle.framing.specs.Located.{newCounted, LocatedProtocol, byteAnswe
 use Rattle.framing.specs.Located.{locatedAfter, LocatedReference}
 use Rattle.framing.specs.LocatedDemand3.{bytesBeforeFinish, bytesSinceFinish, Capped, shiftToFinish}
 use Rattle.framing.proofs.Restart.{feed-append}
-use Rattle.framing.proofs.Located.{from-byte, taken-answer, taken-after, opens-at, keeps-at, from-ahead}
+use Rattle.framing.proofs.Located.{from, from-byte, taken-answer, taken-after, opens-at, keeps-at, from-ahead}
 
 -- ---- the count
 
@@ -57,10 +57,6 @@ capped-left limit next count one end s n k (finish ∷ calls) =
     ((λ h. end s), (λ h. end s ∙ omega (arith, h))) calls
 
 module _ {A : Type 0} (Q : LocatedProtocol A) where
-  -- the answers from any state on
-  abbrev from : Counted → List Call → List (Located A)
-  from s calls = run (locatedAnswer Q) (locatedAfter Q) s calls
-
   abbrev silence : Located A
   silence = unlocated (Q .protocol .nothing)
 
@@ -88,19 +84,19 @@ module _ {A : Type 0} (Q : LocatedProtocol A) where
   -- the bytes of an open candidate are answered with nothing
   silently : (p n : ℕ) (t body : List ℕ) (rest : List Call) → n + length body ≤ Q .limit
       → FlagFree (Q .protocol .role) body
-      → from (counted (candidateAt p t) n) (feed body ++ rest)
-      ≡ map (λ (x : ℕ). silence) body ++ from (counted (candidateAt p (t ++ body)) (n + length body)) rest
+      → from Q (counted (candidateAt p t) n) (feed body ++ rest)
+      ≡ map (λ (x : ℕ). silence) body ++ from Q (counted (candidateAt p (t ++ body)) (n + length body)) rest
   silently p n t [] rest h f =
       let z : n ≡ n + 0 = omega arith in
-      ap₂ (λ (l : List ℕ) (m : ℕ). from (counted (candidateAt p l) m) rest) (sym (append-nil t)) z
+      ap₂ (λ (l : List ℕ) (m : ℕ). from Q (counted (candidateAt p l) m) rest) (sym (append-nil t)) z
   silently p n t (b ∷ body) rest h f =
       let m : n + 1 + length body ≡ n + length (b ∷ body) = omega arith in
       from-byte Q (candidateAt p t) n b (feed body ++ rest) (omega arith)
       ∙ ap (λ (ρ : Role). byteAnswerAt Q ρ (candidateAt p t) b
-      ∷ from (counted (byteAfterAt Q ρ (candidateAt p t) n b) (n + 1)) (feed body ++ rest)) (f .0)
+      ∷ from Q (counted (byteAfterAt Q ρ (candidateAt p t) n b) (n + 1)) (feed body ++ rest)) (f .0)
       ∙ ap (λ (l : List (Located A)). silence ∷ l)
       (silently p (n + 1) (t ++ b ∷ []) body rest (omega arith) (f .1)
-      ∙ ap₂ (λ (l : List ℕ) (k : ℕ). map (λ (x : ℕ). silence) body ++ from (counted (candidateAt p l) k) rest)
+      ∙ ap₂ (λ (l : List ℕ) (k : ℕ). map (λ (x : ℕ). silence) body ++ from Q (counted (candidateAt p l) k) rest)
       (append-assoc t (b ∷ []) body) m)
 
   module _ (flag : ℕ) (body : List ℕ) (b : ℕ) (s : Q .protocol .role flag ≡ starts)
@@ -108,27 +104,27 @@ module _ {A : Type 0} (Q : LocatedProtocol A) where
     -- Whatever the decoder took before, and whatever was open, within the limit: the candidate is judged at its stop flag,
     -- at the position of its start flag, and nothing is answered between them. None is open after it.
     candidate-from : (u : Counted) (rest : List Call) → u .count + (length body + 2) ≤ Q .limit
-        → from u (feed (flag ∷ (body ++ b ∷ [])) ++ rest)
+        → from Q u (feed (flag ∷ (body ++ b ∷ [])) ++ rest)
         ≡ locatedAnswer Q u (byte flag) ∷ (map (λ (x : ℕ). silence) body
         ++ located (u .count) (Q .protocol .judge (flag ∷ (body ++ b ∷ [])))
-        ∷ from (counted noCandidate (u .count + (length body + 2))) rest)
+        ∷ from Q (counted noCandidate (u .count + (length body + 2))) rest)
     candidate-from u rest h =
         let n = u .count in
         let k : n + 1 + length body + 1 ≡ n + (length body + 2) = omega arith in
         let first = locatedAnswer Q u (byte flag) in
-        ap (λ (t : Counted). first ∷ from t (feed (body ++ b ∷ []) ++ rest))
+        ap (λ (t : Counted). first ∷ from Q t (feed (body ++ b ∷ []) ++ rest))
         (opens-at Q (u .candidate) n flag (omega arith) s)
         ∙ ap (λ (l : List (Located A)). first ∷ l)
-        (ap (λ (calls : List Call). from (counted (candidateAt n (flag ∷ [])) (n + 1)) (calls ++ rest))
+        (ap (λ (calls : List Call). from Q (counted (candidateAt n (flag ∷ [])) (n + 1)) (calls ++ rest))
         (feed-append body (b ∷ []))
-        ∙ ap (from (counted (candidateAt n (flag ∷ [])) (n + 1))) (append-assoc (feed body) (byte b ∷ []) rest)
+        ∙ ap (from Q (counted (candidateAt n (flag ∷ [])) (n + 1))) (append-assoc (feed body) (byte b ∷ []) rest)
         ∙ silently n (n + 1) (flag ∷ []) body (byte b ∷ rest) (omega arith) f
         ∙ ap (λ (l : List (Located A)). map (λ (x : ℕ). silence) body ++ l)
         (from-byte Q (candidateAt n (flag ∷ body)) (n + 1 + length body) b rest (omega arith)
         ∙ ap (λ (ρ : Role). byteAnswerAt Q ρ (candidateAt n (flag ∷ body)) b
-        ∷ from (counted (byteAfterAt Q ρ (candidateAt n (flag ∷ body)) (n + 1 + length body) b)
+        ∷ from Q (counted (byteAfterAt Q ρ (candidateAt n (flag ∷ body)) (n + 1 + length body) b)
         (n + 1 + length body + 1)) rest) e
-        ∙ ap (λ (m : ℕ). located n (Q .protocol .judge (flag ∷ (body ++ b ∷ []))) ∷ from (counted noCandidate m) rest)
+        ∙ ap (λ (m : ℕ). located n (Q .protocol .judge (flag ∷ (body ++ b ∷ []))) ∷ from Q (counted noCandidate m) rest)
         k))
 
     -- A whole candidate alone is answered at its stop flag, at position 0.
@@ -149,7 +145,7 @@ module _ {A : Type 0} (Q : LocatedProtocol A) where
         ≡ LocatedReference Q calls ++ (locatedAnswer Q (leftAfter (locatedAfter Q) newCounted calls) (byte flag)
         ∷ (map (λ (x : ℕ). silence) body ++ located (leftAfter (locatedAfter Q) newCounted calls .count)
         (Q .protocol .judge (flag ∷ (body ++ b ∷ [])))
-        ∷ from (counted noCandidate (leftAfter (locatedAfter Q) newCounted calls .count + (length body + 2))) rest))
+        ∷ from Q (counted noCandidate (leftAfter (locatedAfter Q) newCounted calls .count + (length body + 2))) rest))
     located-around calls rest h =
         let u = leftAfter (locatedAfter Q) newCounted calls in
         run-append (locatedAnswer Q) (locatedAfter Q) newCounted calls (feed (flag ∷ (body ++ b ∷ [])) ++ rest)
@@ -185,11 +181,11 @@ module _ {A : Type 0} (Q : LocatedProtocol A) where
       let n : u .count ≡ bytesSinceFinish 0 calls = counted-since calls (omega arith) in
       let m = bytesSinceFinish 0 calls + 1 in
       let z : m ≡ m + 0 = omega arith in
-      let later : from (locatedAfter Q u (byte b)) rest ≡ shiftToFinish m rest (LocatedReference Q rest) =
-      ap (λ (t : Counted). from t rest) (taken-after Q (u .candidate) (u .count) b (omega arith)
+      let later : from Q (locatedAfter Q u (byte b)) rest ≡ shiftToFinish m rest (LocatedReference Q rest) =
+      ap (λ (t : Counted). from Q t rest) (taken-after Q (u .candidate) (u .count) b (omega arith)
       ∙ ap (λ (ρ : Role). counted (byteAfterAt Q ρ (u .candidate) (u .count) b) (u .count + 1)) q)
-      ∙ ap (λ (k : ℕ). from (counted noCandidate (k + 1)) rest) n
-      ∙ ap (λ (k : ℕ). from (counted noCandidate k) rest) z
+      ∙ ap (λ (k : ℕ). from Q (counted noCandidate (k + 1)) rest) n
+      ∙ ap (λ (k : ℕ). from Q (counted noCandidate k) rest) z
       ∙ from-ahead Q m noCandidate 0 rest (omega arith) in
       run-append (locatedAnswer Q) (locatedAfter Q) newCounted calls (byte b ∷ rest)
       ∙ ap (λ (l : List (Located A)). LocatedReference Q calls ++ locatedAnswer Q u (byte b) ∷ l) later

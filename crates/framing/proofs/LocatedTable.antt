@@ -8,8 +8,8 @@ use lib.Dec.{ltb}
 use lib.ListN.{length, drop, length-append}
 use lib.Seq.{drop-at}
 use borrow.Author.Tests.{le-ltb, ltb-true, ltb-false}
-use Rattle.lists.specs.Choice.{pick, Every}
-use Rattle.lists.specs.Machine.{run, leftAfter}
+use Rattle.lists.specs.Choice.{pick}
+use Rattle.lists.specs.Machine.{leftAfter}
 use Rattle.lists.proofs.Cases.{by-bool}
 use Rattle.lists.proofs.Lists.{last-same}
 use Rattle.lists.proofs.Machines.{run-append, run-length, left-append}
@@ -21,7 +21,9 @@ use Rattle.framing.specs.Located.{byteAfterAt, endAnswerAt, locatedAnswe
 use Rattle.framing.specs.LocatedDemand3.{bytesSinceFinish, LocatedDemand3}
 use Rattle.framing.specs.LocatedTable.{OpenAt, ToldAt, terminates, truncates, finishes, overruns, LocatedLaws}
 use Rattle.framing.proofs.Restart.{feed-append}
-use Rattle.framing.proofs.Located.{taken-answer, full-after, as-new-at-finish}
+use Rattle.framing.proofs.Bounded.{more-free}
+use Rattle.framing.proofs.Located.{from, taken-answer, full-after, as-new-at-finish}
+use Rattle.framing.proofs.Located.{without-positions as erased}
 use Rattle.framing.proofs.LocatedCandidates.{counted-capped, left-opened-at, as-new-at-stop}
 
 -- ---- candidates and answers apart
@@ -43,10 +45,6 @@ openIn (candidateAt position s) = 1
 abbrev toldIn : {A : Type 0} → Located A → ℕ
 toldIn (unlocated a) = 0
 toldIn (located position a) = 1
-
-every-last : {A : Type 0} (P : A → Type 0) (s : List A) (x : A) → Every P s → P x → Every P (s ++ x ∷ [])
-every-last P [] x k p = (p, tt)
-every-last P (y ∷ s) x k p = (k .0, every-last P s x (k .1) p)
 
 module _ {A : Type 0} (Q : LocatedProtocol A) where
   -- the state after calls
@@ -154,7 +152,7 @@ module _ {A : Type 0} (Q : LocatedProtocol A) where
               ∙ ap (λ (l : List Call). o .before ++ l) whole
               ∙ sym (append-nil (o .before ++ feed (o .flag ∷ (o .body ++ b ∷ []))));
           starting = o .starting;
-          flag-free = every-last (λ (x : ℕ). Q .protocol .role x ≡ plain) (o .body) b (o .flag-free) q;
+          flag-free = more-free (Q .protocol .role) (o .body) b (o .flag-free) q;
           place = o .place;
           taken = omega (arith, h, n, ap length t, m);
           reached = λ z. absurd (omega (arith, z));
@@ -316,11 +314,10 @@ module _ {A : Type 0} (Q : LocatedProtocol A) where
       (LocatedReference Q (calls ++ rest)))
   full-keeps calls more rest h =
       let s = after calls in
-      let from = run (locatedAnswer Q) (locatedAfter Q) in
       let l = run-length (locatedAnswer Q) (locatedAfter Q) newCounted calls in
-      let d : drop (length calls) (LocatedReference Q (calls ++ rest)) ≡ from s rest =
+      let d : drop (length calls) (LocatedReference Q (calls ++ rest)) ≡ from Q s rest =
       ap (drop (length calls)) (run-append (locatedAnswer Q) (locatedAfter Q) newCounted calls rest)
-      ∙ drop-at (LocatedReference Q calls) (from s rest) (length calls) l in
+      ∙ drop-at (LocatedReference Q calls) (from Q s rest) (length calls) l in
       run-append (locatedAnswer Q) (locatedAfter Q) newCounted calls (feed more ++ rest)
       ∙ ap (λ (x : List (Located A)). LocatedReference Q calls ++ x) (full-after Q s more rest (full-count calls h))
       ∙ sym (ap (λ (x : List (Located A)). LocatedReference Q calls ++ (map (λ b. located 0 (Q .full)) more ++ x)) d)
@@ -351,4 +348,5 @@ module _ {A : Type 0} (Q : LocatedProtocol A) where
           (as-new-at-finish Q (LocatedReference Q) (λ c. refl) calls rest);
       stop-closes = λ calls b rest q h all first later k l m.
           rw (d .same _ all k, d .same _ first l, d .same _ later m) (as-new-at-stop Q calls b q rest h);
+      without-positions = λ calls answers k w. ap (map answerIn) (d .same calls answers k) ∙ erased Q calls w;
     }

@@ -1,7 +1,7 @@
 -- The reference decoder starts again at each start flag, and so does every machine that it simulates.
 use mathlib.Core.Path.{_≡_, refl, sym, ap, _∙_}
 use mathlib.Core.Logic.{_⊎_, inl, inr}
-use mathlib.Core.List.{List, [], _∷_, _++_, map, append-assoc, append-nil}
+use mathlib.Core.List.{List, [], _∷_, _++_, map}
 use native.Mathlib.Omega.{arith}
 use Prim.Native.Nat.{ℕ}
 use lib.ListN.{drop}
@@ -133,58 +133,6 @@ module _ {A : Type 0} (P : Protocol A) where
     truncated = λ o. let k : (t : List ℕ) × (fed none D ≡ opened t) = left-opened D o in rw (e, k .1);
     nothing = λ n. rw e (not-left-open D w (fed none D) refl n);
   }
-
-  -- ---- a whole candidate
-
-  -- the bytes of an open candidate are answered with nothing
-  held-silently : (s body : List ℕ) (rest : List Call) → FlagFree (P .role) body
-      → from (opened s) (feed body ++ rest)
-      ≡ map (λ (b : ℕ). P .nothing) body ++ from (opened (s ++ body)) rest
-  held-silently s [] rest f =
-      ap (λ (t : List ℕ). from (opened t) rest) (sym (append-nil s))
-  held-silently s (b ∷ body) rest f =
-      rw (f .0) (ap (λ (xs : List A). P .nothing ∷ xs)
-      (held-silently (s ++ b ∷ []) body rest (f .1)
-      ∙ ap (λ (t : List ℕ). map (λ (b : ℕ). P .nothing) body ++ from (opened t) rest)
-      (append-assoc s (b ∷ []) body)))
-
-  module _ (flag : ℕ) (body : List ℕ) (b : ℕ) (s : P .role flag ≡ starts) (f : FlagFree (P .role) body)
-      (e : P .role b ≡ stops) where
-    -- whatever was open, it is judged at its stop flag, nothing is answered between the flags, and none is open after it
-    candidate-from : (k : Candidate) (rest : List Call)
-        → from k (feed (flag ∷ (body ++ b ∷ [])) ++ rest)
-        ≡ answerTo P k (byte flag)
-        ∷ (map (λ (x : ℕ). P .nothing) body ++ P .judge (flag ∷ (body ++ b ∷ [])) ∷ from none rest)
-    candidate-from k rest =
-        ap (λ (c : Candidate). answerTo P k (byte flag) ∷ from c (feed (body ++ b ∷ []) ++ rest)) (opens k flag s)
-        ∙ ap (λ (xs : List A). answerTo P k (byte flag) ∷ xs)
-        (ap (λ (calls : List Call). from (opened (flag ∷ [])) (calls ++ rest)) (feed-append body (b ∷ []))
-        ∙ ap (from (opened (flag ∷ []))) (append-assoc (feed body) (byte b ∷ []) rest)
-        ∙ held-silently (flag ∷ []) body (byte b ∷ rest) f
-        ∙ ap (λ (xs : List A). map (λ (x : ℕ). P .nothing) body ++ xs) (rw e refl))
-
-    -- Any calls, a whole candidate and any calls: the first are answered as they are alone, the candidate's start flag as
-    -- it is after them, its other bytes with nothing and its stop flag with the judgement, and the last as they are alone.
-    pub reference-around : (calls rest : List Call)
-        → Reference P (calls ++ (feed (flag ∷ (body ++ b ∷ [])) ++ rest))
-        ≡ Reference P calls ++ (answerTo P (leftAfter (candidateAfter P) none calls) (byte flag)
-        ∷ (map (λ (x : ℕ). P .nothing) body ++ P .judge (flag ∷ (body ++ b ∷ [])) ∷ Reference P rest))
-    reference-around calls rest =
-        run-append (answerTo P) (candidateAfter P) none calls (feed (flag ∷ (body ++ b ∷ [])) ++ rest)
-        ∙ ap (λ (xs : List A). Reference P calls ++ xs) (candidate-from (leftAfter (candidateAfter P) none calls) rest)
-
-    -- After any calls, too, it is judged at its stop flag.
-    pub reference-judges : (calls : List Call)
-        → (earlier : List A)
-        × (Reference P (calls ++ feed (flag ∷ (body ++ b ∷ []))) ≡ earlier ++ P .judge (flag ∷ (body ++ b ∷ [])) ∷ [])
-    reference-judges calls =
-        let between = answerTo P (leftAfter (candidateAfter P) none calls) (byte flag) ∷ map (λ (x : ℕ). P .nothing) body in
-        let judged = P .judge (flag ∷ (body ++ b ∷ [])) ∷ [] in (
-          Reference P calls ++ between,
-          ap (λ (l : List Call). Reference P (calls ++ l)) (sym (append-nil (feed (flag ∷ (body ++ b ∷ [])))))
-              ∙ reference-around calls []
-              ∙ sym (append-assoc (Reference P calls) between judged),
-        )
 
   -- ---- after a candidate that was terminated, and after a finish
 

@@ -1,14 +1,14 @@
 -- Demand 3 with positions as a table, over a protocol's parameters: which call is answered with what and at which
--- position, said of the calls alone, and what a full count, a finish and a stop flag leave.
+-- position, said of the calls alone, what a full count, a finish and a stop flag leave, and what is told without positions.
 use mathlib.Core.Path.{_≡_}
 use mathlib.Core.List.{List, [], _∷_, _++_, map}
 use Prim.Native.Nat.{ℕ, _+_, _≤_, _<_}
 use lib.ListN.{length, drop}
 use Rattle.lists.specs.Choice.{Exactly}
-use Rattle.framing.specs.Reference.{Call, byte, finish, starts, stops, FlagFree}
+use Rattle.framing.specs.Reference.{Call, byte, finish, starts, stops, FlagFree, Reference}
 use Rattle.framing.specs.Demand3.{feed}
-use Rattle.framing.specs.Located.{Located, unlocated, located, LocatedProtocol}
-use Rattle.framing.specs.LocatedDemand3.{bytesBeforeFinish, bytesSinceFinish, shiftToFinish}
+use Rattle.framing.specs.Located.{Located, unlocated, located, answerIn, LocatedProtocol}
+use Rattle.framing.specs.LocatedDemand3.{bytesBeforeFinish, bytesSinceFinish, Within, shiftToFinish}
 
 module _ {A : Type 0} (Q : LocatedProtocol A) where
   -- After these calls a candidate is open that began at this position: as many bytes came since the last finish, then a
@@ -60,3 +60,7 @@ module _ {A : Type 0} (Q : LocatedProtocol A) where
         → (all first later : List (Located A)) → answered (calls ++ byte b ∷ rest) all
         → answered (calls ++ byte b ∷ []) first → answered rest later
         → all ≡ first ++ shiftToFinish (bytesSinceFinish 0 calls + 1) rest later
+    -- Where no more bytes than the limit come up to each finish, the answers without their positions are those of the
+    -- plain reference decoder.
+    pub without-positions : (calls : List Call) (answers : List (Located A)) → answered calls answers
+        → Within (Q .limit) 0 calls → map answerIn answers ≡ Reference (Q .protocol) calls

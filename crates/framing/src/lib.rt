@@ -1,3 +1,3 @@
 // Definitions and laws of a line protocol, whatever its flags and its frames: the reference decoder that document 01
-// calls the rule for the line, demand 3 over it, and the reader that holds a candidate's bytes up to a capacity. There
-// is no code here.
+// calls the rule for the line, plain and with positions (document 02, No. 7), demand 3 over each and as a table, the
+// reader that holds a candidate's bytes up to a capacity, and a count beside one that has none. There is no code here.

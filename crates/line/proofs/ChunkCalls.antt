@@ -42,7 +42,7 @@ use Rattle.line.specs.declared.ChunkFed.{ChunkFed}
 use Rattle.line.proofs.ValueLaws.{located-whole, full-whole, value-outcome}
 use Rattle.line.proofs.Follows.{as-new-follows}
 use Rattle.line.proofs.FeedLaws.{feed-held}
-use Rattle.line.proofs.ChunkLaws.{by-first, takes-to-answer, takes-first}
+use Rattle.line.proofs.ChunkLaws.{by-first, full-stays, takes-to-answer, takes-first}
 use Rattle.line.proofs.Calls.{Called, called-turns, CalledLent, lent-turns}
 use Rattle.line.proofs.LineReader.feed.Reads as feed-reads
 use Rattle.line.proofs.feed_in.Reads as feed-in-reads
@@ -126,14 +126,12 @@ pub chunk-to-answer : {r u : LineReader} {given : List ℕ} {taken : ℕ} {a : L
 chunk-to-answer {r} {u} {given} {taken} {a} k =
     let e = fed-is r u given taken a k in takes-to-answer r given taken a (e .0) (e .1)
 
--- A call that is given a chunk with a full reader leaves the reader as it was.
+-- A full reader that is given a chunk takes no byte of it and stays as it was.
 pub full-chunk-kept : {r u : LineReader} {given : List ℕ} {taken : ℕ} {a : Located Outcome} → FedOn r given taken a u
     → mostBytes ≤ r .state .count → (taken ≡ 0) × (u ≡ r)
 full-chunk-kept {r} {u} {given} {taken} {a} k h =
     let e = fed-is r u given taken a k in
-    let q =
-    by-first r given (λ (f : ChunkTurn). (f .taken ≡ 0) × (f .next ≡ r)) (λ z. (refl, refl)) (λ z m. (refl, refl))
-    (λ b. absurd (omega arith)) in
+    let q = full-stays r given h in
     (e .0 ∙ q .0, e .2 ∙ q .1)
 
 -- The bytes that it stands for are answered, and leave the reader, as they do singly: nothing but the last of them is

@@ -29,7 +29,7 @@ use Rattle.line.specs.Feed.{ChunkTurn, chunkTurn, noTurn, laterBy, feedO
 use Rattle.line.specs.Chunks.{standsFor, byByte, toldBytes, TakenToAnswer, TakesFirst, AsSingly}
 use Rattle.line.specs.Chunks.{FullExactly}
 use Rattle.line.specs.declared.LineReader.{LineReader}
-use Rattle.line.proofs.StepLaws.{answer-located, step-taken, step-full}
+use Rattle.line.proofs.StepLaws.{answer-located, step-taken, step-full, by-count}
 use Rattle.line.proofs.FeedLaws.{fed-none, fed-taken, fed-full, chunk-none, chunk-full, chunk-taken}
 use Rattle.line.proofs.FeedLaws.{feed-held}
 
@@ -64,17 +64,12 @@ fed-not-full r s e =
 -- Of one call: 16 exactly where the reader is full, and then it is left as it was.
 pub full-exactly : (r : LineReader) (c : Call) → FullExactly r c (turnOf r c .answer) (turnOf r c .next)
 full-exactly r (byte b) =
-    by-bool (ltb (r .state .count) mostBytes)
-    (λ y. let h : r .state .count < mostBytes = ltb-true (r .state .count) mostBytes y in
-    subst (λ (t : ReaderTurn). FullExactly r (byte b) (t .answer) (t .next)) (sym (step-taken r b h)) (record {
+    by-count r b (λ (t : ReaderTurn). FullExactly r (byte b) (t .answer) (t .next))
+    (λ h. record {
       exactly = ((λ e. absurd (taken-not-full r (byte b) (r .state .start) e)), (λ k. absurd (omega arith)));
       kept = λ k. absurd (omega arith);
-    }))
-    (λ n. let h : mostBytes ≤ r .state .count = ltb-false (r .state .count) mostBytes n in
-    subst (λ (t : ReaderTurn). FullExactly r (byte b) (t .answer) (t .next)) (sym (step-full r b h)) (record {
-      exactly = ((λ e. h), (λ k. refl));
-      kept = λ k. (refl, refl);
-    }))
+    })
+    (λ h. record { exactly = ((λ e. h), (λ k. refl)); kept = λ k. (refl, refl) })
 full-exactly r finish = record {
   exactly = ((λ e. absurd (taken-not-full r finish (r .state .start) e)), (λ k. absurd k));
   kept = λ k. absurd k;
@@ -162,6 +157,13 @@ module _ (r : LineReader) (given : List ℕ) (P : ChunkTurn → Type 0)
       (λ y. let k = ltb-true 0 (length given) y in subst P (sym (chunk-full r given k h)) (refuses k h))
       (λ m. let z : length given ≡ 0 = omega (arith, ltb-false 0 (length given) m) in
       subst P (sym (chunk-none r given z)) (none z)))
+
+-- Of a chunk that a full reader is given no byte is taken, and the reader stays as it is.
+pub full-stays : (r : LineReader) (given : List ℕ) → mostBytes ≤ r .state .count
+    → (chunkOf r given .taken ≡ 0) × (chunkOf r given .next ≡ r)
+full-stays r given h =
+    by-first r given (λ (f : ChunkTurn). (f .taken ≡ 0) × (f .next ≡ r)) (λ z. (refl, refl)) (λ z m. (refl, refl))
+    (λ b. absurd (omega arith))
 
 -- the bytes fed singly that a chunk stands for
 stands-taken : (n : ℕ) (a : Located Outcome) → (n ≡ 0 → a ≡ unlocated nothing) → standsFor n a ≡ n

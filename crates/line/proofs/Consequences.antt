@@ -8,21 +8,18 @@ use native.Mathlib.Omega.{arith}
 use Prim.Native.Nat.{ℕ, _+_, _≤_, _<_}
 use lib.Dec.{ltb}
 use lib.ListN.{length, length-set}
-use Rattle.lists.specs.Choice.{pick, Every}
-use Rattle.lists.specs.Machine.{turn, run, leftAfter, RanBy}
+use Rattle.lists.specs.Choice.{Every}
+use Rattle.lists.specs.Machine.{run, leftAfter, RanBy}
 use Rattle.lists.proofs.Cases.{by-bool}
 use Rattle.lists.proofs.Machines.{left-append}
 use Rattle.framing.specs.Reference.{Call, byte, finish, Role, starts, stops, plain}
-use Rattle.framing.specs.Located.{Located, located, answerIn}
+use Rattle.framing.specs.Located.{Located, answerIn}
 use Rattle.framing.specs.LocatedDemand3.{bytesSinceFinish}
-use Rattle.framing.specs.Counting.{takenTurn}
 use Rattle.frame.specs.Flags.{stopFlag, roleOf}
 use Rattle.frame.specs.declared.Origin.{Origin}
 use Rattle.frame.specs.declared.Kind.the-variants.{Standard, Extended}
 use Rattle.candidate.specs.Outcome.{Outcome, capacity, Not1}
 use Rattle.candidate.specs.Holder.{Holder, holder, holderOf, roleStep, nextHeld, turnHeld}
-use Rattle.candidate.specs.Feed.{isAnswer}
-use Rattle.candidate.specs.declared.Held.{Held}
 use Rattle.candidate.specs.declared.Mode.{Mode}
 use Rattle.candidate.specs.declared.Mode.the-variants.{Outside, InStandard, InExtended, Overlong}
 use Rattle.candidate.specs.Private.{isHeld}
@@ -30,11 +27,11 @@ use Rattle.candidate.proofs.HolderLaws.{held-byte, unheld-byte}
 use Rattle.candidate.proofs.HolderLaws.{origin-kept as held-origin}
 use Rattle.candidate.proofs.Follows.{rowing-suits}
 use Rattle.candidate.proofs.OutcomeLaws.{OwnNumber, OwnOutcome, own-outcome}
-use Rattle.line.specs.Rowing.{mostBytes, full, locatedRowing}
-use Rattle.line.specs.Reader.{originOf, counterOf, ReaderTurn, turnFrom, outcomeAt, nextAfter, ClosedAt, AsNew}
+use Rattle.line.specs.Rowing.{mostBytes, full}
+use Rattle.line.specs.Reader.{originOf, ReaderTurn, outcomeAt, nextAfter, ClosedAt, AsNew}
 use Rattle.line.specs.Chunks.{AsSingly}
 use Rattle.line.specs.declared.LineReader.{LineReader}
-use Rattle.line.proofs.StepLaws.{answer-located, step-taken}
+use Rattle.line.proofs.StepLaws.{answer-located, step-taken, by-count}
 use Rattle.line.proofs.ChunkCalls.{CalledOn, chunks-singly}
 use Rattle.line.proofs.FullCalls.{left-count}
 
@@ -42,13 +39,9 @@ use Rattle.line.proofs.FullCalls.{left-count}
 
 -- Every call keeps the reader's origin.
 pub origin-kept : (r : LineReader) (c : Call) → originOf (nextAfter r c) ≡ originOf r
-origin-kept r (byte b) = by-room (ltb (r .state .count) mostBytes)
-  where
-    by-room : (room : Bool)
-        → originOf (turnFrom (pick room (takenTurn (locatedRowing (originOf r)) isAnswer turnHeld (counterOf r) b)
-        (turn (located 0 full) (counterOf r))) .next) ≡ originOf r
-    by-room true = held-origin (holder (r .bytes) (r .state .held)) (byte b)
-    by-room false = refl
+origin-kept r (byte b) =
+    by-count r b (λ (t : ReaderTurn). originOf (t .next) ≡ originOf r)
+    (λ h. held-origin (holder (r .bytes) (r .state .held)) (byte b)) (λ h. refl)
 origin-kept r finish = held-origin (holder (r .bytes) (r .state .held)) finish
 
 pub left-origin : (r : LineReader) (calls : List Call) → originOf (leftAfter nextAfter r calls) ≡ originOf r
@@ -62,13 +55,9 @@ module _ (P : Outcome → Type 0) (sort : LineReader → Type 0) (refused : P fu
     (own : (r : LineReader) (c : Call) → sort r → P (turnHeld (holder (r .bytes) (r .state .held)) c .answer))
     (kept : (r : LineReader) (c : Call) → sort r → sort (nextAfter r c)) where
   each-outcome : (r : LineReader) (c : Call) → sort r → P (answerIn (outcomeAt r c))
-  each-outcome r (byte b) s = by-room (ltb (r .state .count) mostBytes)
-    where
-      by-room : (room : Bool)
-          → P (answerIn (turnFrom (pick room (takenTurn (locatedRowing (originOf r)) isAnswer turnHeld (counterOf r) b)
-          (turn (located 0 full) (counterOf r))) .answer))
-      by-room true = subst P (sym (answer-located _ (r .state .start))) (own r (byte b) s)
-      by-room false = refused
+  each-outcome r (byte b) s =
+      by-count r b (λ (t : ReaderTurn). P (answerIn (t .answer)))
+      (λ h. subst P (sym (answer-located _ (r .state .start))) (own r (byte b) s)) (λ h. refused)
   each-outcome r finish s = subst P (sym (answer-located _ (r .state .start))) (own r finish s)
 
   -- Holds of every outcome of such a reader, whatever its other fields are.
@@ -129,16 +118,10 @@ byte-kept o bytes len b h mode plain =
 
 call-kept : (r : LineReader) (c : Call) → length (r .bytes) ≡ capacity → length (nextAfter r c .bytes) ≡ capacity
 call-kept r finish h = h
-call-kept r (byte b) h = by-room (ltb (r .state .count) mostBytes)
-  where
-    s : Held
-    s = r .state .held
-
-    by-room : (room : Bool)
-        → length (turnFrom (pick room (takenTurn (locatedRowing (originOf r)) isAnswer turnHeld (counterOf r) b)
-        (turn (located 0 full) (counterOf r))) .next .bytes) ≡ capacity
-    by-room true = byte-kept (s .origin) (r .bytes) (s .len) b h (s .mode) (roleOf b)
-    by-room false = h
+call-kept r (byte b) h =
+    let s = r .state .held in
+    by-count r b (λ (t : ReaderTurn). length (t .next .bytes) ≡ capacity)
+    (λ l. byte-kept (s .origin) (r .bytes) (s .len) b h (s .mode) (roleOf b)) (λ l. h)
 
 left-kept : (r : LineReader) (calls : List Call) → length (r .bytes) ≡ capacity
     → length (leftAfter nextAfter r calls .bytes) ≡ capacity

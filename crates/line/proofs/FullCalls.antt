@@ -1,31 +1,28 @@
 -- 16 by the bytes that were fed: any calls in a row on a reader that is as new, then a byte, which is answered 16 exactly
 -- where as many bytes as the reader takes came since the last finish.
 use mathlib.Core.Path.{_≡_, refl, sym, ap, _∙_, subst}
-use mathlib.Core.Bool.{Bool, true, false}
 use mathlib.Core.List.{List, [], _∷_, _++_}
 use native.Mathlib.Omega.{arith}
 use Prim.Native.Nat.{ℕ, _+_, _≤_}
 use lib.Dec.{leb, ltb}
-use borrow.Author.Tests.{leb-true, leb-false}
+use borrow.Author.Tests.{lt-ltb, le-ltb, leb-true, leb-false}
 use Rattle.lists.specs.Choice.{pick, Exactly}
-use Rattle.lists.specs.Machine.{turn, run, leftAfter, RanBy, Through, AnsweredBy}
+use Rattle.lists.specs.Machine.{run, leftAfter, RanBy, Through, AnsweredBy}
 use Rattle.lists.proofs.Cases.{by-bool}
 use Rattle.lists.proofs.Lists.{last-same}
 use Rattle.lists.proofs.Machines.{run-append}
 use Rattle.framing.specs.Reference.{Call, byte}
-use Rattle.framing.specs.Located.{Located, located, answerIn}
+use Rattle.framing.specs.Located.{Located, answerIn}
 use Rattle.framing.specs.LocatedDemand3.{bytesSinceFinish, Within, Capped}
-use Rattle.framing.specs.Counting.{takenTurn}
 use Rattle.framing.proofs.Located.{within-now}
 use Rattle.framing.proofs.LocatedCandidates.{capped-left}
 use Rattle.frame.specs.declared.Origin.{Origin}
 use Rattle.candidate.specs.Outcome.{Outcome}
-use Rattle.candidate.specs.Holder.{turnHeld}
-use Rattle.candidate.specs.Feed.{isAnswer}
-use Rattle.line.specs.Rowing.{mostBytes, full, locatedRowing}
-use Rattle.line.specs.Reader.{originOf, counterOf, turnFrom, outcomeAt, nextAfter, AsNew}
+use Rattle.line.specs.Rowing.{mostBytes, full}
+use Rattle.line.specs.Reader.{ReaderTurn, outcomeAt, nextAfter, AsNew}
 use Rattle.line.specs.Chunks.{AsSingly}
 use Rattle.line.specs.declared.LineReader.{LineReader}
+use Rattle.line.proofs.StepLaws.{by-count}
 use Rattle.line.proofs.ChunkLaws.{full-exactly}
 use Rattle.line.proofs.ChunkCalls.{CalledOn, chunks-singly}
 use Rattle.line.proofs.StreamCalls.{Counts, TakenOn, stream-singly}
@@ -33,14 +30,10 @@ use Rattle.line.proofs.StreamCalls.{Counts, TakenOn, stream-singly}
 -- a byte that is taken adds one to the count
 count-after : (r : LineReader) (b : ℕ) → nextAfter r (byte b) .state .count
     ≡ pick (ltb (r .state .count) mostBytes) (r .state .count + 1) (r .state .count)
-count-after r b = by-room (ltb (r .state .count) mostBytes)
-  where
-    by-room : (room : Bool)
-        → turnFrom (pick room (takenTurn (locatedRowing (originOf r)) isAnswer turnHeld (counterOf r) b)
-        (turn (located 0 full) (counterOf r))) .next .state .count
-        ≡ pick room (r .state .count + 1) (r .state .count)
-    by-room true = refl
-    by-room false = refl
+count-after r b =
+    let n = r .state .count in
+    by-count r b (λ (t : ReaderTurn). t .next .state .count ≡ pick (ltb n mostBytes) (n + 1) n)
+    (λ h. rw (lt-ltb n mostBytes h)) (λ h. rw (le-ltb n mostBytes h))
 
 -- The count after single calls is that of the bytes since the last finish, up to the limit.
 pub left-count : (r : LineReader) → r .state .count ≤ mostBytes → (calls : List Call)

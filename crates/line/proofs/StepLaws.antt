@@ -1,11 +1,13 @@
 -- Laws of one call on the line reader: a byte that is taken and one that is not, and what the code makes of each.
-use mathlib.Core.Path.{_≡_, refl, sym, ap, ap₂, _∙_}
+use mathlib.Core.Path.{_≡_, refl, sym, ap, ap₂, _∙_, subst}
 use mathlib.Core.Bool.{Bool}
 use mathlib.Core.List.{List}
 use Prim.Native.Nat.{ℕ, _≤_, _<_}
-use borrow.Author.Tests.{lt-ltb, le-ltb}
+use lib.Dec.{ltb}
+use borrow.Author.Tests.{lt-ltb, le-ltb, ltb-true, ltb-false}
 use Rattle.lists.specs.Choice.{pick}
 use Rattle.lists.specs.Machine.{turn}
+use Rattle.lists.proofs.Cases.{by-bool}
 use Rattle.framing.specs.Located.{located, answerIn, positionIn}
 use Rattle.framing.specs.Counting.{locate, takenTurn}
 use Rattle.answer.specs.declared.Refusal.the-variants.{Full}
@@ -42,13 +44,23 @@ module _ (r : LineReader) (b : ℕ) where
       (turn (located 0 full) (counterOf r)))
 
   -- One that is taken.
-  pub step-taken : r .state .count < mostBytes
-      → stepOf r b ≡ turnFrom (takenTurn (locatedRowing (originOf r)) isAnswer turnHeld (counterOf r) b)
+  abbrev pub takenStep : ReaderTurn
+  takenStep = turnFrom (takenTurn (locatedRowing (originOf r)) isAnswer turnHeld (counterOf r) b)
+
+  pub step-taken : r .state .count < mostBytes → stepOf r b ≡ takenStep
   step-taken h = ap by-room (lt-ltb (r .state .count) mostBytes h)
 
   -- One at a full count is refused, and the reader stays as it is.
   pub step-full : mostBytes ≤ r .state .count → stepOf r b ≡ turn (located 0 full) r
   step-full h = ap by-room (le-ltb (r .state .count) mostBytes h)
+
+  -- What holds of both holds of any.
+  pub by-count : (P : ReaderTurn → Type 0) → (r .state .count < mostBytes → P takenStep)
+      → (mostBytes ≤ r .state .count → P (turn (located 0 full) r)) → P (stepOf r b)
+  by-count P taken refused =
+      by-bool (ltb (r .state .count) mostBytes)
+      (λ y. let h = ltb-true (r .state .count) mostBytes y in subst P (sym (step-taken h)) (taken h))
+      (λ n. let h = ltb-false (r .state .count) mostBytes n in subst P (sym (step-full h)) (refused h))
 
 -- ---- as the code makes them
 

@@ -1,6 +1,6 @@
 -- Document 02, No. 4, within the bound of No. 7: a stream given in chunks, each starting right after the last byte taken,
 -- is answered as its bytes and finishes are singly.
-use mathlib.Core.Path.{_≡_, refl, sym, subst}
+use mathlib.Core.Path.{_≡_, refl, sym, _∙_, subst}
 use mathlib.Core.List.{List, [], _∷_, _++_}
 use native.Mathlib.Omega.{arith}
 use Prim.Native.Nat.{ℕ, zero, suc, _+_, _≤_, _<_}
@@ -98,3 +98,13 @@ each-counted r u calls later taken outcomes (part {given = given} {a = a} k) w =
 pub stream-singly : {r last : LineReader} {stream : List Call} {outcomes : List (Located Outcome)} → Counts r stream
     → Through TakenOn r stream outcomes last → AsSingly r stream outcomes last
 stream-singly w t = chunks-singly (through-known TakenOn CalledOn Counts each-counted t w)
+
+-- Document 02, No. 4: two rows of calls through the same stream, each with cuts and forms of its own, one of them by
+-- single bytes if one likes, have the same outcomes and leave the same reader.
+pub stream-alike : {r last last′ : LineReader} {stream : List Call} {outcomes outcomes′ : List (Located Outcome)}
+    → Counts r stream → Through TakenOn r stream outcomes last → Through TakenOn r stream outcomes′ last′
+    → (outcomes ≡ outcomes′) × (last ≡ last′)
+stream-alike w t u =
+    let k = stream-singly w t in
+    let l = stream-singly w u in
+    (k .outcomes-are ∙ sym (l .outcomes-are), k .reader-is ∙ sym (l .reader-is))

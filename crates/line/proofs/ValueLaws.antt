@@ -1,33 +1,31 @@
 -- The whole answer to a call: the enum, the position and the array that is left tell the outcome, and the array beside an
 -- answer by value is the outcome's contents and then zeros.
 use mathlib.Core.Path.{_≡_, refl, sym, ap, _∙_}
-use mathlib.Core.Bool.{Bool, true, false}
 use mathlib.Core.List.{List, [], _∷_, _++_, append-assoc, append-nil}
 use native.Mathlib.Numerals.{add-one}
 use native.Mathlib.Omega.{arith}
 use Prim.Native.Nat.{ℕ, suc, _+_, _-_, _≤_, _<_}
-use lib.Dec.{leb, ltb}
+use lib.Dec.{leb}
 use lib.ListN.{length, take, set, replicate}
 use lib.Seq.{take-at, take-all, take-suc-set, length-take-le}
 use borrow.Author.Tests.{leb-true, leb-false}
-use Rattle.lists.specs.Choice.{pick}
-use Rattle.lists.specs.Machine.{turn}
 use Rattle.lists.proofs.Cases.{by-bool}
 use Rattle.answer.specs.Answer.{result, refused}
 use Rattle.framing.specs.Reference.{Call, byte, finish}
 use Rattle.framing.specs.Located.{Located, unlocated, located, answerIn, positionIn, locatedBy}
-use Rattle.framing.specs.Counting.{locate, takenTurn}
+use Rattle.framing.specs.Counting.{locate}
 use Rattle.frame.specs.Frame.{standard, extended, contentsOf}
 use Rattle.frame.specs.Answers.{judgeAnswer, frameRead}
 use Rattle.candidate.specs.Outcome.{Outcome, nothing, judged, summaryOf, outcomeOf, capacity}
 use Rattle.candidate.specs.Holder.{holder, turnHeld}
 use Rattle.candidate.specs.Feed.{isAnswer}
 use Rattle.candidate.proofs.ValueLaws.{call-whole as held-whole}
-use Rattle.line.specs.Rowing.{mostBytes, full, locatedRowing}
+use Rattle.line.specs.Rowing.{full}
 use Rattle.line.specs.Answers.{locatedAs, locatedOutcome, padded, contentsTold, valueAnswerOf, valueOutcome}
-use Rattle.line.specs.Reader.{originOf, counterOf, turnFrom, turnOf}
+use Rattle.line.specs.Reader.{turnOf}
 use Rattle.line.specs.Private.{Whole, besideTold}
 use Rattle.line.specs.declared.LineReader.{LineReader}
+use Rattle.line.proofs.StepLaws.{by-count}
 
 -- ---- the enum, the position and the array that is left
 
@@ -43,16 +41,12 @@ unfolding judgeAnswer frameRead
 full-whole bytes = refl
 
 pub call-whole : (r : LineReader) (c : Call) → Whole (turnOf r c)
-call-whole r (byte b) = by-room (ltb (r .state .count) mostBytes)
-  where
-    by-room : (room : Bool)
-        → Whole (turnFrom (pick room (takenTurn (locatedRowing (originOf r)) isAnswer turnHeld (counterOf r) b)
-        (turn (located 0 full) (counterOf r))))
-    by-room true =
-        let h = holder (r .bytes) (r .state .held) in
-        located-whole (turnHeld h (byte b) .answer) (r .state .start) (turnHeld h (byte b) .next .bytes)
-        (held-whole h (byte b))
-    by-room false = full-whole (r .bytes)
+call-whole r (byte b) =
+    let h = holder (r .bytes) (r .state .held) in
+    by-count r b Whole
+    (λ l. located-whole (turnHeld h (byte b) .answer) (r .state .start) (turnHeld h (byte b) .next .bytes)
+    (held-whole h (byte b)))
+    (λ l. full-whole (r .bytes))
 call-whole r finish =
     let h = holder (r .bytes) (r .state .held) in
     located-whole (turnHeld h finish .answer) (r .state .start) (turnHeld h finish .next .bytes) (held-whole h finish)

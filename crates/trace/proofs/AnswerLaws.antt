@@ -12,17 +12,16 @@ use Rattle.lists.specs.Choice.{Exactly}
 use Rattle.lists.proofs.Cases.{by-bool}
 use Rattle.lists.proofs.Splices.{part-splice}
 use Rattle.framing.specs.Reference.{finish}
-use Rattle.framing.specs.Located.{Located, answerIn, positionIn}
+use Rattle.framing.specs.Located.{Located, answerIn}
 use Rattle.frame.specs.Frame.{standard, extended}
 use Rattle.answer.specs.Answer.{Answer, result, refused}
 use Rattle.answer.specs.Draft.{draftAnswer, draftOut, Writes}
 use Rattle.frame.specs.Answers.{judgeAnswer}
-use Rattle.candidate.specs.Outcome.{Outcome, nothing, judged, Summary, toldMeans, summaryOf}
+use Rattle.candidate.specs.Outcome.{Outcome, nothing, judged, toldMeans, summaryOf}
 use Rattle.line.specs.Answers.{locatedOutcome}
 use Rattle.line.specs.Reader.{finishOf, LentStepIs}
 use Rattle.line.specs.declared.LentStep.{LentStep}
-use Rattle.line.specs.declared.LineReader.{LineReader}
-use Rattle.line.proofs.ValueLaws.{call-whole}
+use Rattle.line.proofs.Calls.{lent-outcome}
 use Rattle.text.specs.Lines.{callLine, totals}
 use Rattle.text.specs.Text.{frameOne, refusedOne}
 use Rattle.text.specs.Writing.{Wrote}
@@ -127,9 +126,7 @@ last-wrote s m n x y fc rc g en ex efc ey erc p q h =
     let l : callLine n (locatedOutcome (toldMeans (m .told)) (m .position) (s .reader .bytes))
     ≡ callLine (numberAfter (s .frames) (s .refusals)) t =
     ap₂ callLine en
-    (ap₂ (λ (h : Summary) (position : ℕ). locatedOutcome h position (s .reader .bytes)) (g .told-is) (g .position-is)
-    ∙ ap (λ (u : LineReader). locatedOutcome (summaryOf o) (positionIn t) (u .bytes)) (g .next-is)
-    ∙ call-whole (s .reader) finish) in
+    (lent-outcome (s .reader .bytes) m (s .reader) finish g) in
     let f : x ≡ add64 (s .frames) (frameOne o) =
     ex ∙ ap (add64 (s .frames)) (efc ∙ ap frameCount (g .told-is) ∙ frame-count o) in
     let r : y ≡ add64 (s .refusals) (refusedOne o) =
