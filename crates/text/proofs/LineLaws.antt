@@ -1,4 +1,4 @@
--- The laws of the lines and the counts of answers, one call after the other, and the longest line.
+-- The laws of the lines and the counts of answers, one call after the other, and the longest lines.
 use mathlib.Core.Path.{_≡_, refl, ap}
 use mathlib.Core.Bool.{Bool, true}
 use mathlib.Core.List.{List, _++_}
@@ -15,7 +15,7 @@ use Rattle.candidate.specs.Outcome.{Outcome, nothing, judged, capacity}
 use Rattle.text.specs.Lines.{ascii, newline, field, hexField, stopText, head, extendedBody, line, outcomeLine}
 use Rattle.text.specs.Lines.{totals}
 use Rattle.text.specs.Digits.{decimal, hex}
-use Rattle.text.specs.Writing.{lineRoom}
+use Rattle.text.specs.Writing.{lineRoom, totalsRoom}
 use Rattle.text.specs.Text.{withLocated, verdicts, frames, refusals, lines, frameOne, refusedOne}
 use Rattle.text.proofs.DigitLaws.{length-field, decimal-64, decimal-bound, least-digits}
 
@@ -38,7 +38,7 @@ refusals-more position nothing answers = zero-add (refusals (verdicts answers))
 refusals-more position (judged (result f)) answers = zero-add (refusals (verdicts answers))
 refusals-more position (judged (refused number)) answers = refl
 
--- ---- the longest line
+-- ---- the longest lines
 
 pub length-totals : (frames refusals strays : ℕ)
     → length (totals frames refusals strays)
@@ -62,18 +62,19 @@ length-totals frames refusals strays =
 abbrev pub most : ℕ
 most = 18446744073709551615
 
--- The room of a line is needed: the totals at the largest counts have exactly so many bytes.
-pub longest-line : length (totals most most most) ≡ lineRoom
-longest-line =
+-- The room of the totals is needed: at the largest counts they have exactly so many bytes.
+pub longest-totals : length (totals most most most) ≡ totalsRoom
+longest-totals =
     let l : length (decimal most) ≤ 20 = decimal-64 most (omega arith) in
     let g : 20 ≤ length (decimal most) = least-digits 19 most (omega arith) in
     omega (arith, length-totals most most most)
 
--- The line of an answer has room to spare: at the largest numbers that of an extended frame has 77 bytes.
-pub longest-extended : (to from : ℕ) (contents : List ℕ) → 100 ≤ length contents → length contents ≤ capacity
-    → stopsWorkout contents ≡ true → length (line most 4294967294 (result (extended to from contents))) ≡ 77
+-- The room of a line is needed: at the largest number and position, that of an extended frame which stops a workout and
+-- whose length has three digits has exactly so many bytes.
+pub longest-line : (to from : ℕ) (contents : List ℕ) → 100 ≤ length contents → length contents ≤ capacity
+    → stopsWorkout contents ≡ true → length (line most 4294967294 (result (extended to from contents))) ≡ lineRoom
 unfolding head hexField extendedBody
-longest-extended to from contents h k e =
+longest-line to from contents h k e =
     let n : List ℕ = field (ascii "n=") most in
     let p : List ℕ = field (ascii " at=") 4294967294 in
     let a : List ℕ = ascii " kind=ext to=" ++ hex to in

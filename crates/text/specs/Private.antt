@@ -3,7 +3,7 @@ use Prim.Native.Nat.{ℕ, _+_, _-_, _/_, _%_}
 use mathlib.Core.List.{List, [], _∷_, _++_}
 use Rattle.text.specs.Writing.{lineRoom}
 
--- The room in which a head fits, `n=` and 20 digits, ` at=` and 10 digits, and what it leaves for a body.
+-- The room in which a head fits, `n=` and 20 digits, ` at=` and 10 digits, and what it leaves of a line for a body.
 abbrev pub headRoom : ℕ
 headRoom = 36
 

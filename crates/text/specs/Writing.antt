@@ -10,6 +10,10 @@ pub record Wrote (out : List ℕ) (at : ℕ) (w out′ : List ℕ) (end : ℕ) :
   pub is : out′ ≡ splice out at w
   pub ends : end ≡ at + length w
 
--- The room in which every line fits, the totals as well. The totals need all of it where each count has 20 digits.
+-- The room in which the line of every answer fits. That of an extended frame can need all of it.
 abbrev pub lineRoom : ℕ
-lineRoom = 84
+lineRoom = 77
+
+-- The room in which the totals fit. They need all of it where each count has 20 digits.
+abbrev pub totalsRoom : ℕ
+totalsRoom = 84

@@ -17,11 +17,14 @@ ghost use Rattle.line.specs.Answers.{locatedOutcome};
 ghost use Rattle.text.specs.Digits.{hex};
 ghost use Rattle.text.specs.Lines.{field, hexField, stopText, head, callLine, totals, refusedBody, standardBody};
 ghost use Rattle.text.specs.Lines.{extendedBody};
-ghost use Rattle.text.specs.Writing.{Wrote, lineRoom};
+ghost use Rattle.text.specs.Writing.{Wrote, lineRoom, totalsRoom};
 ghost use Rattle.text.specs.Private.{headRoom, bodyRoom};
 
-// The room that any line fits in. The totals need all of it where each count has 20 digits.
-pub const LINE_ROOM: usize = 84;
+// The room that the line of any answer fits in. That of an extended frame can need all of it.
+pub const LINE_ROOM: usize = 77;
+
+// The room that the totals fit in. They need all of it where each count has 20 digits.
+pub const TOTALS_ROOM: usize = 84;
 
 // The two upper-case hexadecimal digits of a byte.
 pub fn hex_digits(b: u8) -> [u8; 2]
@@ -62,10 +65,10 @@ pub fn write_totals(frames: u64, refusals: u64, strays: u64, out: &mut [u8]) -> 
     ensures { λ r. ⌜ writtenMeans r
         ≡ draftAnswer (result (totals frames refusals strays)) (length (now (out .entry))) ⌝ }
     ensures { λ r. ⌜ now (out .exit) ≡ draftOut (result (totals frames refusals strays)) (now (out .entry)) ⌝ }
-    ensures { λ r. ⌜ length (totals frames refusals strays) ≤ lineRoom ⌝ }
+    ensures { λ r. ⌜ length (totals frames refusals strays) ≤ totalsRoom ⌝ }
 {
-    if out.len() < LINE_ROOM {
-        let mut line = [0u8; LINE_ROOM];
+    if out.len() < TOTALS_ROOM {
+        let mut line = [0u8; TOTALS_ROOM];
         let len = put_counts(frames, refusals, strays, &mut line, 0);
         return write_bytes(&line[..len], out);
     }
@@ -129,11 +132,12 @@ fn put_refused(why: Refusal, out: &mut [u8], at: usize) -> usize
 }
 
 fn put_standard(contents: &[u8], out: &mut [u8], at: usize) -> usize
+    requires { ⌜ length (now contents) ≤ capacity ⌝ }
     requires { ⌜ at + bodyRoom ≤ length (now out) ⌝ }
     ensures { λ r. ⌜ Wrote (now (out .entry)) at (standardBody (now (contents .entry))) (now (out .exit)) r ⌝ }
     ensures { λ r. ⌜ r ≤ at + bodyRoom ⌝ }
 {
-    let a = put_field(b" kind=std len=", contents.len() as u64, out, at);
+    let a = put_short_field(b" kind=std len=", contents.len() as u64, out, at);
     put_stop(contents, out, a)
 }
 
@@ -150,9 +154,9 @@ fn put_extended(to: u8, from: u8, contents: &[u8], out: &mut [u8], at: usize) ->
 }
 
 fn put_counts(frames: u64, refusals: u64, strays: u64, out: &mut [u8], at: usize) -> usize
-    requires { ⌜ at + lineRoom ≤ length (now out) ⌝ }
+    requires { ⌜ at + totalsRoom ≤ length (now out) ⌝ }
     ensures { λ r. ⌜ Wrote (now (out .entry)) at (totals frames refusals strays) (now (out .exit)) r ⌝ }
-    ensures { λ r. ⌜ r ≤ at + lineRoom ⌝ }
+    ensures { λ r. ⌜ r ≤ at + totalsRoom ⌝ }
 {
     let a = put_field(b"frames=", frames, out, at);
     let b = put_field(b" refused=", refusals, out, a);

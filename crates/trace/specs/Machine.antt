@@ -18,7 +18,7 @@ use Rattle.line.specs.declared.LineReader.{LineReader}
 use Rattle.text.specs.Lines.{callLine, totals}
 use Rattle.text.specs.Strays.{strayAt}
 use Rattle.text.specs.Text.{frameOne, refusedOne}
-use Rattle.text.specs.Writing.{lineRoom}
+use Rattle.text.specs.Writing.{lineRoom, totalsRoom}
 use Rattle.trace.specs.declared.Listing.{Listing}
 use Rattle.trace.specs.declared.Listed.{Listed}
 
@@ -87,7 +87,7 @@ pub record Lists (s : Listing) (chunk out out′ : List ℕ) (r : Listed) : Type
 
 -- The room in which the line of the finish and the totals fit.
 abbrev pub lastRoom : ℕ
-lastRoom = 2 * lineRoom
+lastRoom = lineRoom + totalsRoom
 
 -- The text after the last byte, which the finish writes.
 unfoldable pub lastText : Listing → List ℕ

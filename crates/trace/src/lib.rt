@@ -24,7 +24,7 @@ ghost use Rattle.trace.specs.Private.{lengthOf, atLeastOne, countable, p
 ghost use Rattle.trace.specs.Machine.{isOpen, newListing, numberAfter, Lists, lastText, lastRoom};
 
 // The room that the line of the finish and the totals fit in.
-const LAST_ROOM: usize = 2 * text::LINE_ROOM;
+const LAST_ROOM: usize = text::LINE_ROOM + text::TOTALS_ROOM;
 
 // The line reader, and how many frames, refusals and stray bytes there were. The counts wrap at 2^64.
 pub struct Listing {

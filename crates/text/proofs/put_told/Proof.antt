@@ -29,7 +29,10 @@ part-requires : tie.Need-part-requires
 part-requires c κs = search needs
 
 put-standard-requires : tie.Need-put-standard-requires
-put-standard-requires c κs = search needs
+put-standard-requires c κs =
+    let start = c .before .before .before .before .before .before .before .before .before .before .before in
+    let len = c .before .before .before .before .before .before .before .told2 .given .0 .0 in
+    (part-fits (start .args .contents .now) len (c .before .part .ensures .holds) (start .pre .0), omega arith)
 
 enum-known-told-3 : tie.Need-enum-known-told-3
 enum-known-told-3 c = search needs

@@ -4,7 +4,7 @@ use Rattle.answer.specs.Draft.{writtenMeans}
 use Rattle.candidate.specs.Outcome.{toldMeans}
 use Rattle.line.specs.Answers.{locatedOutcome}
 use Rattle.text.specs.Lines.{callLine}
-use Rattle.text.specs.Writing.{Wrote, lineRoom}
+use Rattle.text.specs.Writing.{Wrote, lineRoom, totalsRoom}
 use native.Mathlib.Omega.{arith}
 use Rattle.trace.proofs.AnswerLaws.{answered-wrote, most-written, part-wrote, last-wrote}
 use borrow.Author.Needs.{needs}
@@ -56,7 +56,7 @@ line k =
 
 within : (k : tie.After-length-of)
     → (k .length-of .result ≤ lineRoom)
-    × (k .length-of .result + lineRoom ≤ length (k .before .before .before .write-answer .last .1 .1 .1 .1 .0))
+    × (k .length-of .result + totalsRoom ≤ length (k .before .before .before .write-answer .last .1 .1 .1 .1 .0))
 within k =
     let w = k .before .before .before .write-answer in (
       omega (arith, line k .ends, w .ensures .1 .1),
@@ -84,7 +84,7 @@ write-totals-requires c κs = search needs
 length-of-requires-2 : tie.Need-length-of-requires-2
 length-of-requires-2 c κs = search needs
 
-totals-fit : (c : tie.After-length-of2) → c .length-of2 .result ≤ lineRoom
+totals-fit : (c : tie.After-length-of2) → c .length-of2 .result ≤ totalsRoom
 totals-fit c =
     let t = c .before .before .before .write-totals in
     omega (
