@@ -7,9 +7,22 @@ use frame::Origin;
 use line::ChunkFed;
 use line::LineReader;
 
+// A new reader.
+pub(crate) fn run_new(origin: Origin, calls: &[u8]) {
+    run_calls(LineReader::new(origin), calls);
+}
+
+// A reader that has taken as many bytes as the first argument says.
+pub(crate) fn run_counted(origin: Origin, arguments: &[u8]) {
+    run_calls(
+        lines::counted(origin, words::nth(arguments, b' ', 0)),
+        words::after(arguments, b' ', 1),
+    );
+}
+
 // The reader is finished after each group of chunks.
-pub(crate) fn run_calls(origin: Origin, calls: &[u8]) {
-    let mut reader = LineReader::new(origin);
+fn run_calls(new: LineReader, calls: &[u8]) {
+    let mut reader = new;
     let n = words::parts(calls, b'/');
     let mut k = 0;
     while k < n {
@@ -31,7 +44,7 @@ fn feed_group(reader: LineReader, group: &[u8]) -> LineReader {
     r
 }
 
-// An empty chunk is given once, of any other also what a call did not take.
+// An empty chunk is given once, of any other also what a call did not take, until one takes none.
 fn feed_all(reader: LineReader, chunk: &[u8]) -> LineReader {
     if chunk.len() == 0 {
         return print_fed(reader.feed(chunk));

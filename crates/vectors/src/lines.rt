@@ -15,23 +15,28 @@ pub(crate) fn run_new(origin: Origin, calls: &[u8]) {
     run_calls(LineReader::new(origin), calls);
 }
 
-// Readers that have taken so many bytes.
+// Readers that have taken as many bytes as the first argument says.
 pub(crate) fn run_counted(origin: Origin, arguments: &[u8]) {
-    let count = words::number(words::nth(arguments, b' ', 0));
+    run_calls(
+        counted(origin, words::nth(arguments, b' ', 0)),
+        words::after(arguments, b' ', 1),
+    );
+}
+
+// A reader that has taken so many bytes.
+pub(crate) fn counted(origin: Origin, digits: &[u8]) -> LineReader {
+    let count = words::number(digits);
     let new = LineReader::new(origin);
     let state = new.state;
     let held = state.held;
-    run_calls(
-        LineReader {
-            bytes: [0u8; 118],
-            state: State {
-                held,
-                start: 0,
-                count: (count % 0x1_0000_0000) as u32,
-            },
+    LineReader {
+        bytes: [0u8; 118],
+        state: State {
+            held,
+            start: 0,
+            count: (count % 0x1_0000_0000) as u32,
         },
-        words::after(arguments, b' ', 1),
-    );
+    }
 }
 
 // Both readers get each group of bytes, and a finish after it.

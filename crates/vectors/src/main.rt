@@ -56,8 +56,10 @@ fn run(operation: usize, arguments: &[u8]) {
         operations::LINE_AT => lines::run_counted(Origin::Trace, arguments),
         operations::LIVE_LINE => lines::run_new(Origin::Live, arguments),
         operations::LIVE_LINE_AT => lines::run_counted(Origin::Live, arguments),
-        operations::CHUNKS => chunks::run_calls(Origin::Trace, arguments),
-        operations::LIVE_CHUNKS => chunks::run_calls(Origin::Live, arguments),
+        operations::CHUNKS => chunks::run_new(Origin::Trace, arguments),
+        operations::CHUNKS_AT => chunks::run_counted(Origin::Trace, arguments),
+        operations::LIVE_CHUNKS => chunks::run_new(Origin::Live, arguments),
+        operations::LIVE_CHUNKS_AT => chunks::run_counted(Origin::Live, arguments),
         operations::NAMES => replies::print_names(),
         _ => run_on_bytes(operation, arguments),
     }

@@ -33,42 +33,46 @@ pub(crate) const LINE_AT: usize = 14;
 
 pub(crate) const CHUNKS: usize = 15;
 
-pub(crate) const NAMES: usize = 16;
+pub(crate) const CHUNKS_AT: usize = 16;
 
-pub(crate) const STANDARD_LENGTH: usize = 17;
+pub(crate) const NAMES: usize = 17;
 
-pub(crate) const EXTENDED_LENGTH: usize = 18;
+pub(crate) const STANDARD_LENGTH: usize = 18;
 
-pub(crate) const LIVE_FRAME: usize = 19;
+pub(crate) const EXTENDED_LENGTH: usize = 19;
 
-pub(crate) const LIVE_STANDARD: usize = 20;
+pub(crate) const LIVE_FRAME: usize = 20;
 
-pub(crate) const LIVE_LENGTH: usize = 21;
+pub(crate) const LIVE_STANDARD: usize = 21;
 
-pub(crate) const LIVE_LINE: usize = 22;
+pub(crate) const LIVE_LENGTH: usize = 22;
 
-pub(crate) const LIVE_LINE_AT: usize = 23;
+pub(crate) const LIVE_LINE: usize = 23;
 
-pub(crate) const LIVE_CHUNKS: usize = 24;
+pub(crate) const LIVE_LINE_AT: usize = 24;
 
-pub(crate) const DISTANCE_FRAME: usize = 25;
+pub(crate) const LIVE_CHUNKS: usize = 25;
 
-pub(crate) const TIME_FRAME: usize = 26;
+pub(crate) const LIVE_CHUNKS_AT: usize = 26;
 
-pub(crate) const HOLD: usize = 27;
+pub(crate) const DISTANCE_FRAME: usize = 27;
 
-pub(crate) const RELEASE: usize = 28;
+pub(crate) const TIME_FRAME: usize = 28;
 
-pub(crate) const STOP: usize = 29;
+pub(crate) const HOLD: usize = 29;
 
-pub(crate) const OWN_BYTES: usize = 30;
+pub(crate) const RELEASE: usize = 30;
 
-pub(crate) const COUNT: usize = 31;
+pub(crate) const STOP: usize = 31;
+
+pub(crate) const OWN_BYTES: usize = 32;
+
+pub(crate) const COUNT: usize = 33;
 
 pub(crate) fn named(name: &[u8]) -> usize {
     let names =
-        b"frame contents standard extended number command inside step item status distance time lease line line-at chunks \
-        names standard-length extended-length live-frame live-standard live-length live-line live-line-at live-chunks \
+        b"frame contents standard extended number command inside step item status distance time lease line line-at chunks chunks-at \
+        names standard-length extended-length live-frame live-standard live-length live-line live-line-at live-chunks live-chunks-at \
         distance-frame time-frame hold release stop bytes";
     words::index_among(names, COUNT, name)
 }

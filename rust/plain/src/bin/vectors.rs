@@ -59,8 +59,10 @@ fn run(line: &str) -> Option<String> {
         "live-line" => line_answer(Origin::Live, 0, arguments)?,
         "line-at" => line_at_answer(Origin::Trace, arguments)?,
         "live-line-at" => line_at_answer(Origin::Live, arguments)?,
-        "chunks" => chunks_answer(Origin::Trace, arguments)?,
-        "live-chunks" => chunks_answer(Origin::Live, arguments)?,
+        "chunks" => chunks_answer(Origin::Trace, 0, arguments)?,
+        "live-chunks" => chunks_answer(Origin::Live, 0, arguments)?,
+        "chunks-at" => chunks_at_answer(Origin::Trace, arguments)?,
+        "live-chunks-at" => chunks_at_answer(Origin::Live, arguments)?,
         "command" => command_answer(&bytes(arguments)?)?,
         "inside" => inside_answer(&bytes(arguments)?)?,
         "item" => item_answer(&bytes(arguments)?)?,
@@ -511,10 +513,16 @@ fn told(answer: Answer, contents: &[u8]) -> String {
     }
 }
 
-/// The answers of a reader that gets chunks, which is finished after each group of
-/// them.
-fn chunks_answer(origin: Origin, arguments: &str) -> Option<String> {
-    let mut line = Line::new(origin);
+/// The first argument is how many bytes the reader has taken.
+fn chunks_at_answer(origin: Origin, arguments: &str) -> Option<String> {
+    let (count, groups) = arguments.split_once(' ')?;
+    chunks_answer(origin, count.parse().ok()?, groups)
+}
+
+/// The answers of a reader that has taken so many bytes and gets chunks, and which is
+/// finished after each group of them.
+fn chunks_answer(origin: Origin, count: u32, arguments: &str) -> Option<String> {
+    let mut line = Line::with_count(origin, count);
     let group = |group: &str| {
         let chunk = |chunk| Some(chunk_answers(&mut line, &bytes(chunk)?));
         let calls: String = group.split(',').map(chunk).collect::<Option<_>>()?;
@@ -524,7 +532,8 @@ fn chunks_answer(origin: Origin, arguments: &str) -> Option<String> {
     arguments.split('/').map(group).collect()
 }
 
-/// The answers to a chunk, and to what a call did not take of it.
+/// The answers to a chunk, and to what a call did not take of it, until one takes
+/// none.
 fn chunk_answers(line: &mut Line, chunk: &[u8]) -> String {
     let mut answers = String::new();
     let mut rest = chunk;
@@ -532,7 +541,7 @@ fn chunk_answers(line: &mut Line, chunk: &[u8]) -> String {
         let (taken, answer) = line.feed_chunk(rest);
         answers += &format!(" taken={taken}{}", told(answer, line.contents()));
         rest = &rest[taken..];
-        if rest.is_empty() {
+        if taken == 0 || rest.is_empty() {
             return answers;
         }
     }

@@ -2,7 +2,6 @@ use Prim.Native.Nat.{_≤_, _-_}
 use borrow.Author.Needs.{needs}
 use Rattle.vectors.proofs.chunks.run_calls.Statement.{statement}
 use Rattle.vectors.proofs.chunks.run_calls.Tie as tie
-use Rattle.line.proofs.LineReader.new.Reads as new-reads
 use Rattle.vectors.proofs.chunks.feed_group.Reads as feed-group-reads
 use Rattle.vectors.proofs.chunks.finish.Reads as finish-reads
 use Rattle.vectors.proofs.words.nth.Reads as nth-reads
@@ -13,9 +12,6 @@ Inv-loop calls reader₀ n k₀ reader k = k ≤ n
 
 abbrev μ-loop : tie.MeasureT-loop
 μ-loop calls reader₀ n k₀ reader k = n - k
-
-new-requires : tie.Need-new-requires Inv-loop μ-loop
-new-requires c κs = search needs
 
 parts-requires : tie.Need-parts-requires Inv-loop μ-loop
 parts-requires c κs = search needs
@@ -50,7 +46,6 @@ run-calls-spec =
     (tie.spec
     Inv-loop
     μ-loop
-    new-requires
     parts-requires
     loop-holds
     nth-requires
