@@ -85,9 +85,9 @@ pub const LIMIT: u32 = 4_294_967_295;
 pub struct Fed<'a> {
     /// How many bytes were taken. The next call has to start with the byte after the last of them.
     ///
-    /// Where something was told, the last byte taken gave it. Where nothing was told, all bytes were taken, or
-    /// [`CHUNK_LIMIT`] of a longer chunk, or those up to which the reader has taken [`LIMIT`]. Where [`Error::Full`]
-    /// was told, none were taken.
+    /// Where something but [`Error::Full`] was told, the last byte taken gave it. Where nothing was told, all bytes
+    /// were taken, or [`CHUNK_LIMIT`] of a longer chunk, or those up to which the reader has taken [`LIMIT`]. Where
+    /// [`Error::Full`] was told, none were taken.
     pub taken: usize,
     /// What the last byte taken gave: nothing, a frame whose contents stand in the reader, or why a candidate for a
     /// frame was refused. [`Error::Full`] is what the first byte gave, which was not taken.
@@ -431,46 +431,48 @@ mod tests {
         answer: Error::Full,
     };
 
-    /// A reader that takes so many bytes more.
-    fn reader_with(left: u32) -> LineReader {
-        LineReader {
+    /// Readers of both origins that take so many bytes more.
+    fn readers_with(left: u32) -> [LineReader; 2] {
+        [LineReader::new(), LineReader::for_trace()].map(|reader| LineReader {
             counts: u64::from(LIMIT - left) << 32,
-            ..LineReader::new()
-        }
+            ..reader
+        })
     }
 
     #[test]
     fn the_iterator_tells_once_that_the_reader_is_full() {
-        let mut reader = reader_with(6);
-        let chunk = [FRAME, FRAME].concat();
-        let mut answers = reader.answers(&chunk);
-        let told = answers.next().and_then(Result::ok);
-        assert_eq!(told.map(|told| told.position), Some(LIMIT - 6));
-        assert_eq!(answers.size_hint(), (0, Some(6)));
-        assert_eq!(answers.next(), Some(Err(FULL)));
-        for _ in 0..2 {
-            assert_eq!(answers.next(), None);
-            assert_eq!(
-                (answers.rest(), answers.size_hint()),
-                (&FRAME[..], (0, Some(0)))
-            );
+        for mut reader in readers_with(6) {
+            let chunk = [FRAME, FRAME].concat();
+            let mut answers = reader.answers(&chunk);
+            let told = answers.next().and_then(Result::ok);
+            assert_eq!(told.map(|told| told.position), Some(LIMIT - 6));
+            assert_eq!(answers.size_hint(), (0, Some(6)));
+            assert_eq!(answers.next(), Some(Err(FULL)));
+            for _ in 0..2 {
+                assert_eq!(answers.next(), None);
+                assert_eq!(
+                    (answers.rest(), answers.size_hint()),
+                    (&FRAME[..], (0, Some(0)))
+                );
+            }
+            assert_eq!(reader.answers(&FRAME).next(), Some(Err(FULL)));
+            assert_eq!(reader.answers(&[]).next(), None);
         }
-        assert_eq!(reader.answers(&FRAME).next(), Some(Err(FULL)));
-        assert_eq!(reader.answers(&[]).next(), None);
     }
 
     #[test]
     fn a_full_reader_is_finished_and_takes_the_rest() {
-        let mut reader = reader_with(4);
-        let mut answers = reader.answers(&FRAME);
-        assert_eq!(answers.next(), Some(Err(FULL)));
-        let rest = answers.rest();
-        assert_eq!(rest, &FRAME[4..]);
-        let position = LIMIT - 4;
-        let answer = Error::Truncated;
-        assert_eq!(reader.finish(), Err(Located { position, answer }));
-        assert_eq!(reader.answers(rest).next(), None);
-        let told = reader.answers(&FRAME).next().and_then(Result::ok);
-        assert_eq!(told.map(|told| told.position), Some(2));
+        for mut reader in readers_with(4) {
+            let mut answers = reader.answers(&FRAME);
+            assert_eq!(answers.next(), Some(Err(FULL)));
+            let rest = answers.rest();
+            assert_eq!(rest, &FRAME[4..]);
+            let position = LIMIT - 4;
+            let answer = Error::Truncated;
+            assert_eq!(reader.finish(), Err(Located { position, answer }));
+            assert_eq!(reader.answers(rest).next(), None);
+            let told = reader.answers(&FRAME).next().and_then(Result::ok);
+            assert_eq!(told.map(|told| told.position), Some(2));
+        }
     }
 }

@@ -69,6 +69,8 @@ feed: 0 ok nothing to=00 from=00 len=0
 at 0, taken 1, state 2, count 4294967295, open at 4294967294
 feed: 16 full to=00 from=00 len=0
 at 0, taken 0, state 2, count 4294967295, open at 4294967294
+feed: 0 ok nothing to=00 from=00 len=0
+at 0, taken 0, state 2, count 4294967295, open at 4294967294
 finish: 6 truncated to=00 from=00 len=0
 at 4294967294, taken 0, state 0, count 0
 feed: 0 ok extended to=00 from=05 len=1 41
@@ -124,6 +126,8 @@ at 4294967288, taken 6, state 0, count 4294967294
 trace_feed: 0 ok nothing to=00 from=00 len=0
 at 0, taken 1, state 2, count 4294967295, open at 4294967294
 trace_feed: 16 full to=00 from=00 len=0
+at 0, taken 0, state 2, count 4294967295, open at 4294967294
+trace_feed: 0 ok nothing to=00 from=00 len=0
 at 0, taken 0, state 2, count 4294967295, open at 4294967294
 finish: 6 truncated to=00 from=00 len=0
 at 4294967294, taken 0, state 0, count 0

@@ -9,6 +9,9 @@
 /* Where bytes come from. */
 enum origin { LIVE, TRACE };
 
+/* What the lent numbers hold before a call. No call of this program answers it, so one that is left alone is seen. */
+#define UNWRITTEN 777
+
 static const char *name_of(uint8_t number)
 {
     switch (number) {
@@ -148,14 +151,17 @@ static void print_numbers(const struct reader *reader, uint64_t taken, uint32_t 
     printf("\n");
 }
 
+/* Feeds the input by as many calls as it needs, one at least, until all of it is taken or a call takes none. */
 static void feed_and_print(enum origin origin, struct reader *reader, const uint8_t *input, size_t input_len)
 {
-    uint64_t taken = 1;
-    uint32_t position = 0;
-    for (size_t at = 0; at < input_len && taken > 0; at += (size_t)taken) {
+    size_t at = 0;
+    uint64_t taken;
+    do {
         const uint8_t *rest = input + at;
         const size_t rest_len = input_len - at;
         uint8_t *bytes = reader->bytes;
+        uint32_t position = UNWRITTEN;
+        taken = UNWRITTEN;
         if (origin == TRACE) {
             print_answer("trace_feed", csafe_trace_feed(bytes, &reader->state, &reader->counts, rest, rest_len, &taken,
                                                         &position), bytes);
@@ -164,12 +170,13 @@ static void feed_and_print(enum origin origin, struct reader *reader, const uint
                          bytes);
         }
         print_numbers(reader, taken, position);
-    }
+        at += (size_t)taken;
+    } while (taken > 0 && at < input_len);
 }
 
 static void finish_and_print(struct reader *reader)
 {
-    uint32_t position = 0;
+    uint32_t position = UNWRITTEN;
     print_answer("finish", csafe_finish(&reader->state, &reader->counts, &position), reader->bytes);
     print_numbers(reader, 0, position);
 }
@@ -206,7 +213,7 @@ static void read_line(enum origin origin)
     feed_and_print(origin, &reader, standard, sizeof standard);
 }
 
-/* The first frame ends with the last byte that the reader takes but one. */
+/* The first frame ends with the last byte that the reader takes but one. An empty input is not refused, full or not. */
 static void fill_reader(enum origin origin)
 {
     static const uint8_t frames[] = {0xF0, 0x00, 0x05, 0x41, 0x41, 0xF2, 0xF0, 0x00, 0x05, 0x41, 0x41, 0xF2};
@@ -214,6 +221,7 @@ static void fill_reader(enum origin origin)
     struct reader reader = new_reader();
     reader.counts = (uint64_t)(CSAFE_LINE_LIMIT - len - 1) << 32;
     feed_and_print(origin, &reader, frames, sizeof frames);
+    feed_and_print(origin, &reader, frames, 0);
     finish_and_print(&reader);
     feed_and_print(origin, &reader, frames, len);
 }

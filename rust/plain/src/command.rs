@@ -71,7 +71,7 @@ pub fn nth_inside(contents: &[u8], w: usize, n: usize) -> Result<Found, u8> {
     })
 }
 
-/// A walker over one list of commands: a frame's contents, or a wrapper's data.
+/// A cursor on one list of commands: a frame's contents, or a wrapper's data.
 #[derive(Clone, Copy, Debug)]
 pub struct Cursor<'a> {
     list: &'a [u8],

@@ -57,11 +57,11 @@ impl Rule {
         self.count += 1;
         match byte {
             0xF0 | 0xF1 => {
-                let answer = self.cut();
+                let answer = self.truncate();
                 self.open = Some((position, vec![byte]));
                 answer
             }
-            0xF2 => self.close(),
+            0xF2 => self.terminate(),
             _ => {
                 if let Some((_, candidate)) = &mut self.open {
                     candidate.push(byte);
@@ -73,15 +73,15 @@ impl Rule {
 
     fn finish(&mut self) -> Answer {
         self.count = 0;
-        self.cut()
+        self.truncate()
     }
 
-    fn cut(&mut self) -> Answer {
+    fn truncate(&mut self) -> Answer {
         let open = self.open.take();
         open.map_or(NOTHING, |(position, _)| refused_at(position, 6))
     }
 
-    fn close(&mut self) -> Answer {
+    fn terminate(&mut self) -> Answer {
         let Some((position, mut candidate)) = self.open.take() else {
             return NOTHING;
         };

@@ -11,7 +11,7 @@ use crate::frame_damage::EXTENDED_START;
 use crate::held::{counts_of, first_of, Held, CHUNK_LIMIT, LINE_LIMIT};
 use crate::lent_output::Output;
 use crate::tally::Tally;
-use crate::traces::Stretches;
+use crate::traces::Traffic;
 use crate::{ours, theirs, Comparison};
 
 /// How many readers are kept to go on from later.
@@ -105,7 +105,7 @@ pub struct Lines {
     /// Our reader's bytes, state and counts before the last call.
     before: ([u8; HELD_LEN], u64, u64),
     kept: [Reader; KEPT],
-    stretches: Stretches,
+    traffic: Traffic,
     line: Vec<u8>,
 }
 
@@ -150,7 +150,7 @@ impl Lines {
             reader: Reader::with_count(origin, 0),
             before: ([0; HELD_LEN], 0, 0),
             kept: std::array::from_fn(|_| Reader::with_count(origin, 0)),
-            stretches: Stretches::default(),
+            traffic: Traffic::default(),
             line: Vec::new(),
         }
     }
@@ -161,7 +161,7 @@ impl Lines {
             self.put_long_beginning(random);
         }
         for _ in 0..=random.below(4) {
-            self.line.extend(self.stretches.any(random));
+            self.line.extend(self.traffic.any(random));
         }
         if random.below(4) == 0 {
             self.line.truncate(random.below(self.line.len() + 1));

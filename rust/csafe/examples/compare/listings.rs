@@ -10,7 +10,7 @@ use crate::both::literal;
 use crate::common::Xorshift;
 use crate::listed::listed;
 use crate::tally::Tally;
-use crate::traces::Stretches;
+use crate::traces::Traffic;
 use crate::{program, Comparison};
 
 /// The longest trace.
@@ -21,7 +21,7 @@ const PIECES: usize = 256;
 
 pub struct Listings {
     program: PathBuf,
-    stretches: Stretches,
+    traffic: Traffic,
     trace: Vec<u8>,
 }
 
@@ -29,7 +29,7 @@ impl Listings {
     pub fn new() -> Listings {
         Listings {
             program: program::listing(),
-            stretches: Stretches::default(),
+            traffic: Traffic::default(),
             trace: Vec::new(),
         }
     }
@@ -42,7 +42,7 @@ impl Comparison for Listings {
 
     fn step(&mut self, random: &mut Xorshift, tally: &mut Tally) -> Result<(), String> {
         let len = random.below(LONGEST);
-        self.stretches.put_trace(random, len, &mut self.trace);
+        self.traffic.put_trace(random, len, &mut self.trace);
         self.trace.truncate(len);
         let most = 1 + len / (1 + random.below(PIECES));
         let ours = ours(&self.program, &self.trace, |left| {

@@ -8,14 +8,14 @@ pub const ALPHABET: [u8; 7] = [0xF0, 0xF1, 0xF2, 0xF3, 0x00, 0x01, 0x41];
 
 const TERMINATE: [u8; 6] = [0x76, 0x04, 0x13, 0x02, 0x01, 0x02];
 
-/// Makes stretches of a line in memory that is used again.
+/// Makes the traffic of a line in memory that is used again.
 #[derive(Default)]
-pub struct Stretches {
+pub struct Traffic {
     plain: Plain,
     wire: Vec<u8>,
 }
 
-impl Stretches {
+impl Traffic {
     /// A sound frame, a damaged one, stray bytes, or bytes that are mostly flags.
     pub fn any(&mut self, random: &mut Xorshift) -> &[u8] {
         match random.below(8) {

@@ -1,5 +1,5 @@
 //! Lines fed to both readers, of a live line and of a trace: to ours in chunks of any length, to the independent one
-//! byte by byte.
+//! byte by byte and by the chunk.
 
 mod chunks;
 mod damage;
@@ -18,7 +18,7 @@ use crate::frame_damage::{EXTENDED_START, STANDARD_START, STOP};
 use crate::frames::of_alphabet;
 use crate::held::{first_of, Held};
 use crate::output::{hex, told, Output};
-use crate::traces::{Stretches, ALPHABET};
+use crate::traces::{Traffic, ALPHABET};
 use crate::ORIGINS;
 
 use pair::{Done, Pair, Told};
@@ -180,11 +180,11 @@ fn every_short_line_is_read_alike() {
 fn random_and_damaged_lines_are_read_alike() {
     for mut readers in readers() {
         let mut random = Xorshift::new();
-        let mut stretches = Stretches::default();
+        let mut traffic = Traffic::default();
         for number in 0..300_000 {
             let mut line = Vec::new();
             for _ in 0..=random.below(4) {
-                line.extend(stretches.any(&mut random));
+                line.extend(traffic.any(&mut random));
             }
             if random.below(4) == 0 {
                 line.truncate(random.below(line.len() + 1));
@@ -217,10 +217,10 @@ fn candidates_about_the_limit_are_read_alike() {
 #[test]
 fn long_chunks_are_read_alike() {
     let mut random = Xorshift::new();
-    let mut stretches = Stretches::default();
+    let mut traffic = Traffic::default();
     let mut line = Vec::new();
     while line.len() < 1_000_000 {
-        line.extend(stretches.any(&mut random));
+        line.extend(traffic.any(&mut random));
     }
     for limit in [65_535, 65_536, 65_537, line.len()] {
         feed_and_finish(&line, |left| limit.min(left));

@@ -15,7 +15,7 @@ use crate::common::{Xorshift, SEED};
 use crate::held::LINE_LIMIT;
 use crate::listed::listed;
 use crate::program;
-use crate::traces::Stretches;
+use crate::traces::Traffic;
 
 fn program() -> &'static Path {
     static PROGRAM: OnceLock<PathBuf> = OnceLock::new();
@@ -75,11 +75,11 @@ fn check_told(what: &str, printed: &Output, told: &str) {
 #[test]
 fn many_short_traces_are_listed_alike() {
     let mut random = Xorshift::new();
-    let mut stretches = Stretches::default();
+    let mut traffic = Traffic::default();
     let mut bytes = Vec::new();
     for number in 0..400 {
         let len = random.below(400);
-        stretches.put_trace(&mut random, len, &mut bytes);
+        traffic.put_trace(&mut random, len, &mut bytes);
         bytes.truncate(len);
         let what = format!("trace {number} of seed {SEED:#X}");
         check(&what, &bytes, |left| 1 + random.below(left));
@@ -90,7 +90,7 @@ fn many_short_traces_are_listed_alike() {
 fn long_traces_are_listed_alike_in_any_pieces() {
     let mut random = Xorshift::new();
     let mut bytes = Vec::new();
-    Stretches::default().put_trace(&mut random, 4_000_000, &mut bytes);
+    Traffic::default().put_trace(&mut random, 4_000_000, &mut bytes);
     let stops = theirs(&bytes)
         .windows(8)
         .filter(|text| text == b"stop=yes")

@@ -9,7 +9,7 @@ use crate::common::Xorshift;
 use crate::frame_damage::{ESCAPE, EXTENDED_START, STANDARD_START, STOP};
 use crate::held::CHUNK_LIMIT as LIMIT;
 use crate::output::hex;
-use crate::traces::{Stretches, ALPHABET};
+use crate::traces::{Traffic, ALPHABET};
 use crate::ORIGINS;
 
 /// Lengths of chunks.
@@ -318,12 +318,12 @@ fn check_pieces(origin: Origin, pieces: &[(&[u8], bool)]) {
 #[test]
 fn the_iterator_goes_through_chunks_of_any_length() {
     let mut random = Xorshift::new();
-    let mut stretches = Stretches::default();
+    let mut traffic = Traffic::default();
     let mut line = Vec::new();
     for stray in [1, LIMIT, 2 * LIMIT, 3 * LIMIT + 7] {
         let start = line.len();
         while line.len() - start < 30_000 {
-            line.extend(stretches.any(&mut random));
+            line.extend(traffic.any(&mut random));
         }
         line.resize(line.len() + stray, STRAY);
     }

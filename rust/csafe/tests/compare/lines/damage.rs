@@ -9,7 +9,7 @@ use crate::common::Xorshift;
 use crate::damage::{changed, PartTally, Sound, STOP_TO_05};
 use crate::frame_damage::any_allowed_change;
 use crate::output::hex;
-use crate::traces::Stretches;
+use crate::traces::Traffic;
 use crate::ORIGINS;
 
 /// How many frames are changed at each origin.
@@ -103,10 +103,10 @@ fn any_lines(random: &mut Xorshift) -> Vec<Vec<u8>> {
 
 /// Frames, damaged ones and stray bytes, often none, and often with an end that leaves a candidate open.
 fn any_bytes(random: &mut Xorshift) -> Vec<u8> {
-    let mut stretches = Stretches::default();
+    let mut traffic = Traffic::default();
     let mut bytes = Vec::new();
     for _ in 0..random.below(3) {
-        bytes.extend(stretches.any(random));
+        bytes.extend(traffic.any(random));
     }
     if random.below(2) == 0 {
         bytes.truncate(random.below(bytes.len() + 1));

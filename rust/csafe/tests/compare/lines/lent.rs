@@ -14,7 +14,7 @@ use crate::held::{
 };
 use crate::output::{hex, told, Output};
 use crate::tally::Tally;
-use crate::traces::Stretches;
+use crate::traces::Traffic;
 use crate::ORIGINS;
 
 /// Counts of a reader that is far from full, and the position in them.
@@ -194,11 +194,11 @@ fn a_lent_reader_has_the_origin_of_each_call() {
 #[test]
 fn a_lent_reader_is_fed_random_lines_at_both_origins() {
     let mut random = Xorshift::new();
-    let mut stretches = Stretches::default();
+    let mut traffic = Traffic::default();
     let mut tally = Tally::default();
     let mut lent = Lent::new([0; HELD_LEN], 0, 0);
     for _ in 0..50_000 {
-        lent.feed_mixed(stretches.any(&mut random), &mut random, &mut tally);
+        lent.feed_mixed(traffic.any(&mut random), &mut random, &mut tally);
     }
     tally.has_each(&[0, 2, 3, 4, 5, 6, 17], 100);
 }
@@ -332,7 +332,7 @@ fn any_counts(random: &mut Xorshift) -> u64 {
 #[test]
 fn any_numbers_and_any_bytes_are_a_reader() {
     let mut random = Xorshift::new();
-    let mut stretches = Stretches::default();
+    let mut traffic = Traffic::default();
     let mut tally = Tally::default();
     for _ in 0..100_000 {
         let (bytes, state) = (any_bytes(&mut random), any_state(&mut random));
@@ -340,7 +340,7 @@ fn any_numbers_and_any_bytes_are_a_reader() {
         let line = match random.below(4) {
             0 => &[STOP],
             1 => &[ESCAPE, STOP][..],
-            _ => stretches.any(&mut random),
+            _ => traffic.any(&mut random),
         };
         lent.feed_mixed(line, &mut random, &mut tally);
         if random.below(2) == 0 {

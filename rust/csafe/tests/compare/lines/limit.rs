@@ -10,7 +10,7 @@ use crate::common::Xorshift;
 use crate::frame_damage::{EXTENDED_START, STANDARD_START, STOP};
 use crate::held::{CHUNK_LIMIT, LINE_LIMIT as LIMIT};
 use crate::output::hex;
-use crate::traces::Stretches;
+use crate::traces::Traffic;
 use crate::ORIGINS;
 
 const fn frame_at(position: u32) -> Answer {
@@ -87,20 +87,26 @@ fn lines_across_the_limit_are_read_alike() {
 fn random_and_damaged_lines_near_the_limit_are_read_alike() {
     for origin in ORIGINS {
         let mut random = Xorshift::new();
-        let mut stretches = Stretches::default();
-        let mut full = 0;
+        let mut traffic = Traffic::default();
+        let (mut full, mut truncated) = (0, 0);
         for _ in 0..20_000 {
             let mut pair = Pair::with_count(origin, LIMIT - random.below(400) as u32);
             for _ in 0..=random.below(6) {
-                let line = stretches.any(&mut random).to_vec();
+                let line = traffic.any(&mut random).to_vec();
                 let rest = feed_until_full(&mut pair, &line, |left| any_chunk(&mut random, left));
-                full += usize::from(!rest.is_empty());
+                let is_full = !rest.is_empty();
+                full += usize::from(is_full);
                 if random.below(4) == 0 {
-                    finish(&mut pair);
+                    let is_open = finish(&mut pair) != Answer::Nothing;
+                    truncated += usize::from(is_full && is_open);
                 }
             }
         }
         assert!(full > 5_000, "{full} lines were too long");
+        assert!(
+            truncated > 500,
+            "{truncated} full readers were finished in a candidate"
+        );
     }
 }
 
@@ -125,7 +131,7 @@ fn a_full_reader_refuses_every_byte_until_it_is_finished() {
 
 /// The largest position is that of a start flag that is the last byte taken.
 #[test]
-fn a_start_flag_does_not_cut_what_a_full_reader_holds() {
+fn a_start_flag_does_not_truncate_what_a_full_reader_holds() {
     for origin in ORIGINS {
         for flag in [EXTENDED_START, STANDARD_START] {
             let mut pair = Pair::with_count(origin, LIMIT - 1);

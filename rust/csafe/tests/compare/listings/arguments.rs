@@ -14,7 +14,7 @@ use std::time::Duration;
 
 use super::{check_printed, check_told, program, sample, theirs, with_arguments};
 use crate::common::{Xorshift, SEED};
-use crate::traces::Stretches;
+use crate::traces::Traffic;
 
 const USAGE: &str = "usage: listing [FILE]  (without FILE, or with -, standard input is read)\n";
 
@@ -37,7 +37,7 @@ fn file(name: &str, trace: &[u8]) -> PathBuf {
 #[test]
 fn a_long_file_is_listed_alike() {
     let mut bytes = Vec::new();
-    Stretches::default().put_trace(&mut Xorshift::new(), 8_000_000, &mut bytes);
+    Traffic::default().put_trace(&mut Xorshift::new(), 8_000_000, &mut bytes);
     let path = file("long.bin", &bytes);
     let printed = with_arguments(&[path], Stdio::null());
     check_printed(&format!("a file, seed {SEED:#X}"), &bytes, &printed);
