@@ -3,7 +3,6 @@ use Prim.Native.Nat.{ℕ, _+_, _-_, _≤_, _<_}
 use mathlib.Core.Path.{_≡_, refl, sym, ap, ap₂, _∙_}
 use mathlib.Core.Bool.{Bool, true, false, false≢true}
 use mathlib.Core.List.{List, [], _∷_, _++_, append-assoc}
-use native.Mathlib.Nat.{zero-add}
 use native.Mathlib.Numerals.{add-one}
 use native.Mathlib.Omega.{arith}
 use lib.Bits.{bitXor}
@@ -71,10 +70,6 @@ sum-append xs ys = from 0 xs ∙ sum-onto (checksum xs) ys
     from acc [] = refl
     from acc (b ∷ s) = from (bitXor acc b) s
 
-pub plain-none : (s : List ℕ) → PlainTo s 0 0
-unfolding sumFrom
-plain-none s = record { inside = omega arith; none-before = sym (zero-add (countBefore isStuffed s)); summed = refl }
-
 -- a block more, as the code looks at it
 pub plain-block : (s : List ℕ) (i n sum more : ℕ) (clear : Bool) → PlainTo s i sum → i + n ≤ length s
     → clear ≡ noneOf isStuffed (take (i + n - i) (drop i s)) → more ≡ checksum (take (i + n - i) (drop i s))
@@ -115,6 +110,12 @@ flag-after s at e =
 -- ---- its verdict
 
 -- what stands before the first flag, where that is the first F0 to F3 too
+-- The stop flag at the first F0 to F3 is the first flag.
+pub stop-here : (s : List ℕ) (at : ℕ) → at ≡ countBefore isStuffed s → isStopAt s at ≡ true → at ≡ countBefore isFlag s
+stop-here s at e t =
+    let m = stop-means s at t in
+    before-here isFlag s at (m .1) (ap isFlag (m .0)) (flag-after s at e .1)
+
 pub open-plain : (rest : List ℕ) (at end sum : ℕ) → at ≡ countBefore isStuffed rest → sum ≡ checksum (take at rest)
     → isStopAt rest end ≡ true → end ≡ at → end ≤ 118 → Unescaped (take end rest) sum
 open-plain rest at end sum e q t same short =

@@ -2,8 +2,8 @@
 use crate::bytes;
 use crate::flags;
 ghost use mathlib.Core.Path.{_≡_};
-ghost use Prim.Native.Nat.{_<_};
-ghost use lib.ListN.{getD, take};
+ghost use Prim.Native.Nat.{_+_, _≤_};
+ghost use lib.ListN.{length, getD, take, drop};
 ghost use Rattle.lists.specs.Choice.{countBefore};
 ghost use Rattle.frame.specs.Flags.{isStart, isFlag};
 ghost use Rattle.frame.specs.Stuffing.{isStuffed};
@@ -11,7 +11,7 @@ ghost use Rattle.frame.specs.Checksum.{checksum};
 ghost use Rattle.frame.specs.Leading.{isStopAt};
 ghost use Rattle.frame.specs.Private.{PlainTo};
 
-// The size of a block of bytes that are looked at together, and of the smaller ones after them.
+// The size of a block of bytes that are looked at together, and of a smaller one.
 const BLOCK: usize = 32;
 
 const SMALL_BLOCK: usize = 8;
@@ -42,11 +42,15 @@ pub(crate) fn is_stop_at(s: &[u8], at: usize) -> bool
     s[at] == flags::STOP
 }
 
-// The index of the first flag, where the first F0 to F3 stands at an index.
+// The index of the first flag, where the first F0 to F3 stands at an index. Of a frame without escapes that is its stop
+// flag, and nothing is searched.
 pub(crate) fn first_flag(s: &[u8], at: usize) -> usize
     requires { ⌜ at ≡ countBefore isStuffed (now s) ⌝ }
     ensures { λ r. ⌜ r ≡ countBefore isFlag (now (s .entry)) ⌝ }
 {
+    if is_stop_at(s, at) {
+        return at;
+    }
     at + lists::count_before(&s[at..], flags::EXTENDED_START, flags::STOP)
 }
 
@@ -55,9 +59,8 @@ pub(crate) fn plain_run(s: &[u8]) -> PlainRun
     ensures { λ r. ⌜ r .at ≡ countBefore isStuffed (now (s .entry)) ⌝ }
     ensures { λ r. ⌜ r .sum ≡ checksum (take (r .at) (now (s .entry))) ⌝ }
 {
-    let none = PlainRun { at: 0, sum: 0 };
-    let blocks = plain_blocks(s, none, BLOCK);
-    let small = plain_blocks(s, blocks, SMALL_BLOCK);
+    let blocks = plain_blocks(s);
+    let small = small_blocks(s, blocks);
     let mut i = small.at;
     let mut sum = small.sum;
     while i < s.len() {
@@ -70,21 +73,49 @@ pub(crate) fn plain_run(s: &[u8]) -> PlainRun
     PlainRun { at: i, sum }
 }
 
-// Passes over blocks of a size without F0 to F3, from a run on. A block is looked at without a branch for each byte.
-fn plain_blocks(s: &[u8], from: PlainRun, size: usize) -> PlainRun
-    requires { ⌜ 0 < size ⌝ }
+// Whole blocks are counted first and summed then: two loops without a branch for each byte are faster than one that has
+// a block's sum ready at its end.
+fn plain_blocks(s: &[u8]) -> PlainRun
+    ensures { λ r. ⌜ PlainTo (now (s .entry)) (r .at) (r .sum) ⌝ }
+{
+    let at = clear_blocks(s);
+    let looked = bytes::look(&s[..at], flags::EXTENDED_START, flags::ESCAPE);
+    PlainRun {
+        at,
+        sum: looked.sum,
+    }
+}
+
+// How many bytes there are in the blocks that the slice begins with and that have no F0 to F3.
+fn clear_blocks(s: &[u8]) -> usize
+    ensures { λ r. ⌜ r ≤ length (now (s .entry)) ⌝ }
+    ensures { λ r. ⌜ countBefore isStuffed (now (s .entry))
+        ≡ r + countBefore isStuffed (drop r (now (s .entry))) ⌝ }
+{
+    let mut i: usize = 0;
+    while BLOCK <= s.len() - i {
+        if !lists::none_within(&s[i..i + BLOCK], flags::EXTENDED_START, flags::ESCAPE) {
+            return i;
+        }
+        i += BLOCK;
+    }
+    i
+}
+
+// Passes over small blocks without F0 to F3, from a run on. A block is looked at without a branch for each byte.
+fn small_blocks(s: &[u8], from: PlainRun) -> PlainRun
     requires { ⌜ PlainTo (now s) (from .at) (from .sum) ⌝ }
     ensures { λ r. ⌜ PlainTo (now (s .entry)) (r .at) (r .sum) ⌝ }
 {
     let mut i = from.at;
     let mut sum = from.sum;
-    while size <= s.len() - i {
-        let looked = bytes::look(&s[i..i + size], flags::EXTENDED_START, flags::ESCAPE);
+    while SMALL_BLOCK <= s.len() - i {
+        let looked = bytes::look(&s[i..i + SMALL_BLOCK], flags::EXTENDED_START, flags::ESCAPE);
         if !looked.clear {
             return PlainRun { at: i, sum };
         }
         sum = sum ^ looked.sum;
-        i += size;
+        i += SMALL_BLOCK;
     }
     PlainRun { at: i, sum }
 }

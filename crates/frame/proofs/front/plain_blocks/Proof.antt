@@ -1,74 +1,23 @@
-use native.Mathlib.Omega.{arith}
-use lib.ListN.{length}
-use Prim.Native.Nat.{_-_}
-use borrow.Author.Tests.{not-false}
-use Rattle.frame.specs.Private.{PlainTo}
-use Rattle.frame.proofs.LeadingLaws.{plain-block}
+use mathlib.Core.Path.{sym}
+use lib.Seq.{length-take-le}
 use borrow.Author.Needs.{needs}
 use Rattle.frame.proofs.front.plain_blocks.Statement.{statement}
 use Rattle.frame.proofs.front.plain_blocks.Tie as tie
 
-abbrev Inv-loop : tie.InvT-loop
-Inv-loop s size i₀ sum₀ i sum = PlainTo s i sum
+clear-blocks-requires : tie.Need-clear-blocks-requires
+clear-blocks-requires c κs = search needs
 
-abbrev μ-loop : tie.MeasureT-loop
-μ-loop s size i₀ sum₀ i sum = length s - i
+slice-aggregate-look : tie.Need-slice-aggregate-look
+slice-aggregate-look c =
+    sym (length-take-le _ (c .before .before .before .args .s .now) (c .before .clear-blocks .ensures .0))
 
-loop-holds : tie.Need-loop-holds Inv-loop μ-loop
-loop-holds c = c .before .pre .1
-
-sub-loop : tie.Need-sub-loop Inv-loop μ-loop
-sub-loop c = c .loop .inv .inside
-
-add-look : tie.Need-add-look Inv-loop μ-loop
-add-look c = search needs
-
-sub-look : tie.Need-sub-look Inv-loop μ-loop
-sub-look c = search needs
-
-part-look-start : tie.Need-part-look-start Inv-loop μ-loop
-part-look-start c = search needs
-
-part-look-end : tie.Need-part-look-end Inv-loop μ-loop
-part-look-end c = omega (arith, c .before .loop .inv .inside)
-
-look-requires : tie.Need-look-requires Inv-loop μ-loop
+look-requires : tie.Need-look-requires
 look-requires c κs = search needs
 
-returns : tie.Need-returns Inv-loop μ-loop
-returns c = c .before .before .before .before .before .loop .inv
-
-add-i : tie.Need-add-i Inv-loop μ-loop
-add-i c = search needs
-
-loop-less : tie.Need-loop-less Inv-loop μ-loop
-loop-less c = omega arith
-
-loop-again : tie.Need-loop-again Inv-loop μ-loop
-loop-again c =
-    let k = c .before .before .before in
-    let l = k .before .before .before in
-    plain-block _ (l .loop .i) (l .before .before .args .size) _ _ _ (l .loop .inv) (omega (arith, l .loop .inv .inside)) (k .look .ensures .0)
-    (k .look .ensures .1) (not-false _ (c .before .if1 .left))
-
-returns-2 : tie.Need-returns-2 Inv-loop μ-loop
-returns-2 c = c .before .loop .inv
+returns : tie.Need-returns
+returns c =
+    let k = c .before .before .clear-blocks .ensures in
+    record { inside = k .0; none-before = k .1; summed = c .look .ensures .1 }
 
 pub plain-blocks-spec : {M : Type 1} → statement M
-plain-blocks-spec =
-    tie.close
-    (tie.spec
-    Inv-loop
-    μ-loop
-    loop-holds
-    sub-loop
-    add-look
-    sub-look
-    part-look-start
-    part-look-end
-    look-requires
-    returns
-    add-i
-    loop-less
-    loop-again
-    returns-2)
+plain-blocks-spec = tie.close (tie.spec clear-blocks-requires slice-aggregate-look look-requires returns)

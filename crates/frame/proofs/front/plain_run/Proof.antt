@@ -5,7 +5,7 @@ use Prim.Native.Nat.{_-_}
 use Rattle.lists.proofs.Before.{before-here, before-end}
 use Rattle.frame.specs.Stuffing.{isStuffed}
 use Rattle.frame.specs.Private.{PlainTo}
-use Rattle.frame.proofs.LeadingLaws.{plain-none, plain-byte}
+use Rattle.frame.proofs.LeadingLaws.{plain-byte}
 use borrow.Author.Needs.{needs}
 use Rattle.frame.proofs.front.plain_run.Statement.{statement}
 use Rattle.frame.proofs.front.plain_run.Tie as tie
@@ -17,13 +17,13 @@ abbrev μ-loop : tie.MeasureT-loop
 μ-loop s i₀ sum₀ i sum = length s - i
 
 plain-blocks-requires : tie.Need-plain-blocks-requires Inv-loop μ-loop
-plain-blocks-requires c κs = (omega arith, plain-none _)
+plain-blocks-requires c κs = search needs
 
-plain-blocks-requires-2 : tie.Need-plain-blocks-requires-2 Inv-loop μ-loop
-plain-blocks-requires-2 c κs = (omega arith, c .plain-blocks .ensures)
+small-blocks-requires : tie.Need-small-blocks-requires Inv-loop μ-loop
+small-blocks-requires c κs = c .plain-blocks .ensures
 
 loop-holds : tie.Need-loop-holds Inv-loop μ-loop
-loop-holds c = c .plain-blocks2 .ensures
+loop-holds c = c .small-blocks .ensures
 
 shared-slice-read-is-stuffed : tie.Need-shared-slice-read-is-stuffed Inv-loop μ-loop
 shared-slice-read-is-stuffed c = search needs
@@ -68,7 +68,7 @@ plain-run-spec =
     Inv-loop
     μ-loop
     plain-blocks-requires
-    plain-blocks-requires-2
+    small-blocks-requires
     loop-holds
     shared-slice-read-is-stuffed
     is-stuffed-requires
