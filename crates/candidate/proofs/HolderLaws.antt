@@ -1,4 +1,4 @@
--- Laws of the line reader seen as a bounded reader.
+-- Laws of what holds the open candidate, seen as a bounded reader.
 use mathlib.Core.Path.{_≡_, refl, sym, ap, _∙_, subst}
 use mathlib.Core.Bool.{Bool, true, false, true≢false, false≢true}
 use mathlib.Core.List.{List}
@@ -35,12 +35,12 @@ mode-again overlong = refl
 pub seen-again : (o : Origin) (r : BoundedReader Kind) → seen (holderSeen o r) ≡ r
 seen-again o r = ap (bounded (r .bytes) (r .len)) (mode-again (r .mode))
 
--- Every call keeps the reader's origin.
+-- Every call keeps the origin.
 pub origin-kept : (r : Holder) (c : Call) → originHeld (turnHeld r c .next) ≡ originHeld r
 origin-kept r (byte b) = refl
 origin-kept r finish = refl
 
--- Each call on a line reader of an origin, whatever its other fields are, is the call on the bounded reader.
+-- Each call at an origin, whatever is held, is the call on the bounded reader.
 pub call-seen : (o : Origin) (r : Holder) (c : Call) → originHeld r ≡ o
     → (turnHeld r c .answer ≡ boundedTurn (rowing o) (rowingBounds o) (seen r) c .answer)
     × (seen (turnHeld r c .next) ≡ boundedTurn (rowing o) (rowingBounds o) (seen r) c .next)

@@ -73,7 +73,7 @@ module _ {S A : Type 0} (Q : LocatedProtocol A) (isAnswer : A → Bool) (apart :
 
   -- ---- a call
 
-  -- a call that is answered as the located decoder answers, and goes where it goes
+  -- a call that is answered as the located decoder answers, and leaves a state that tracks the decoder's
   abbrev Agrees : Turn (Counter S) (Located A) → Located A → Counted → Type 0
   Agrees t a next = (t .answer ≡ a) × Tracks (t .next) next
 

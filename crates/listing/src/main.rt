@@ -14,8 +14,8 @@ ghost use Rattle.listing.specs.Arguments.{sourceOfWord, sourceOf};
 ghost use Rattle.listing.specs.Runs.{Pumps, Finishes, Runs};
 ghost use Rattle.listing.specs.Private.{Fetches, Closes};
 
-// The most bytes that are read.
-const LIMIT: u64 = 4294967295;
+// The most bytes that are read: as many as a line reader takes.
+const LIMIT: u64 = line::LIMIT as u64;
 
 // What the arguments ask for: to list standard input or the file that the only argument names, or to say that this name
 // is too long, or how the program is used.

@@ -16,8 +16,8 @@ use Rattle.text.specs.Lines.{line}
 use Rattle.text.specs.Text.{locatedIn, answersTo, lines, text}
 
 -- A call after others, of those that are the bytes of a trace and its end: the answers to the trace are those to the calls
--- before it, its own if it has one, and later ones. Its own is exactly what the table tells of the calls before it, at that position,
--- and it is a line of the text, the next one after those of the earlier answers.
+-- before it, its own if it has one, and later ones. Its own is exactly what the table tells of the calls before it, at
+-- that position, and it is a line of the text, the next one after those of the earlier answers.
 pub record ListedAt (trace : List ℕ) (calls : List Call) (c : Call) : Type 0 where
   pub earlier : List (Located Verdict)
   pub own : List (Located Verdict)
