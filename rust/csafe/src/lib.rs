@@ -53,6 +53,7 @@
 //!     &[0x81, 0xF2, 0xF0, 0x00, 0x05, 0x01, 0xF3],
 //!     &[0x02, 0xF3, 0x03, 0xF2],
 //! ];
+//! // After `line::LIMIT` bytes a reader has to be finished; `LineReader` has an example that does so.
 //! let mut reader = LineReader::new();
 //! let mut count = 0;
 //! for chunk in chunks {
