@@ -38,7 +38,7 @@ module _ (o : Origin) where
       fits (result (standard c)) e = omega (arith, admitted-short o w (standard c) e)
       fits (result (extended to from c)) e = omega (arith, admitted-short o w (extended to from c) e)
 
--- No outcome tells of more.
+-- No outcome tells of contents of more than 118 bytes.
 outcome-within : (r : Holder) (c : Call) → ContentsFit 118 (summaryOf (turnHeld r c .answer))
 unfolding judgeAnswer
 outcome-within r c =

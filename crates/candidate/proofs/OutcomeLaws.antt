@@ -107,7 +107,7 @@ fed-outcome P none each h (b ∷ s) =
     by-answer true t k f l = k
     by-answer false t k f l = l
 
--- What every byte keeps of what holds the candidate, they keep.
+-- What every byte keeps of what holds the candidate, several bytes keep.
 pub fed-next : (R : Holder → Type 0) → ((h : Holder) (b : ℕ) → R h → R (stepHeld h b .next))
     → (h : Holder) (s : List ℕ) → R h → R (feedHeld h s .next)
 unfolding feedHeld

@@ -70,7 +70,7 @@ pub struct HeldChunk {
     pub opened: usize,
 }
 
-// Takes a byte. Of a chunk only the flags are taken so.
+// Takes a byte. Of a chunk nothing but flags is taken so.
 pub fn step_in(bytes: &mut [u8; 118], held: Held, b: u8) -> HeldStep
     ensures { λ r. ⌜ HeldStepIs (now (bytes .exit)) r (stepHeld (holder (now (bytes .entry)) held) b) ⌝ }
 {

@@ -216,8 +216,8 @@ module _ {o : Origin} where
       exported-singly
       (through-known (ExportedTaken o) (ExportedLine o) (λ l calls. Counts (readerOf o l) calls) each-counted t w)
 
-  -- Two rows of calls through the same stream, each with cuts of its own, have the same outcomes and leave the same array
-  -- and numbers.
+  -- Two rows of calls through the same stream, each with cuts of its own, from a reader that can count its bytes up to
+  -- each finish, have the same outcomes and leave the same array and numbers.
   pub exported-stream-alike : {l last last′ : LentLine} {stream : List Call} {outcomes outcomes′ : List (Located Outcome)}
       → Counts (readerOf o l) stream → Through (ExportedTaken o) l stream outcomes last
       → Through (ExportedTaken o) l stream outcomes′ last′ → (outcomes ≡ outcomes′) × (last ≡ last′)
@@ -332,7 +332,8 @@ module _ {o : Origin} where
         sym (counts-pack o (last .state) (last .counts)) ∙ ap packedCounts e ∙ omega arith,
       )
 
-  -- Where the last is the stop flag, and the reader can take it, they are a reader that is as new but for the count.
+  -- The array and the numbers that any calls leave, the last the stop flag and one that the reader can take, are a reader
+  -- that is as new but for the count.
   pub exported-left-closed : (l last : LentLine) (calls : List Call) (outcomes : List (Located Outcome))
       → RanBy (ExportedLine o) l (calls ++ byte stopFlag ∷ []) outcomes last → length (l .bytes) ≡ capacity
       → countOf (l .counts) ≤ mostBytes → bytesSinceFinish (countOf (l .counts)) calls < mostBytes

@@ -107,15 +107,15 @@ flag-after s at e =
     ap (λ (n : ℕ). noneOf isStuffed (take n s)) e ∙ before-clear isStuffed s in
     (h, clear-front isFlag at s h (none-narrower 0xF0 0xF3 0xF0 0xF2 (take at s) (omega arith) (omega arith) none))
 
--- ---- its verdict
-
--- what stands before the first flag, where that is the first F0 to F3 too
 -- The stop flag at the first F0 to F3 is the first flag.
 pub stop-here : (s : List ℕ) (at : ℕ) → at ≡ countBefore isStuffed s → isStopAt s at ≡ true → at ≡ countBefore isFlag s
 stop-here s at e t =
     let m = stop-means s at t in
     before-here isFlag s at (m .1) (ap isFlag (m .0)) (flag-after s at e .1)
 
+-- ---- its verdict
+
+-- what stands before the first flag, where that is the first F0 to F3 too
 pub open-plain : (rest : List ℕ) (at end sum : ℕ) → at ≡ countBefore isStuffed rest → sum ≡ checksum (take at rest)
     → isStopAt rest end ≡ true → end ≡ at → end ≤ 118 → Unescaped (take end rest) sum
 open-plain rest at end sum e q t same short =

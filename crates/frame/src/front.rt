@@ -73,8 +73,8 @@ pub(crate) fn plain_run(s: &[u8]) -> PlainRun
     PlainRun { at: i, sum }
 }
 
-// Whole blocks are counted first and summed then: two loops without a branch for each byte are faster than one that has
-// a block's sum ready at its end.
+// Passes over whole blocks without F0 to F3. They are counted first and summed then: two loops are faster than one that
+// sums each block as it is looked at.
 fn plain_blocks(s: &[u8]) -> PlainRun
     ensures { λ r. ⌜ PlainTo (now (s .entry)) (r .at) (r .sum) ⌝ }
 {

@@ -54,7 +54,7 @@ module _ (r : LineReader) (b : ℕ) where
   pub step-full : mostBytes ≤ r .state .count → stepOf r b ≡ turn (located 0 full) r
   step-full h = ap by-room (le-ltb (r .state .count) mostBytes h)
 
-  -- What holds of both holds of any.
+  -- What holds of a byte that is taken and of one at a full count holds of every byte that is fed.
   pub by-count : (P : ReaderTurn → Type 0) → (r .state .count < mostBytes → P takenStep)
       → (mostBytes ≤ r .state .count → P (turn (located 0 full) r)) → P (stepOf r b)
   by-count P taken refused =

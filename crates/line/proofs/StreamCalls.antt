@@ -99,8 +99,8 @@ pub stream-singly : {r last : LineReader} {stream : List Call} {outcomes : List 
     → Through TakenOn r stream outcomes last → AsSingly r stream outcomes last
 stream-singly w t = chunks-singly (through-known TakenOn CalledOn Counts each-counted t w)
 
--- Document 02, No. 4: two rows of calls through the same stream, each with cuts and forms of its own, one of them by
--- single bytes if one likes, have the same outcomes and leave the same reader.
+-- Document 02, No. 4: two rows of calls through the same stream, each with cuts and forms of its own, from a reader that
+-- can count its bytes up to each finish, have the same outcomes and leave the same reader.
 pub stream-alike : {r last last′ : LineReader} {stream : List Call} {outcomes outcomes′ : List (Located Outcome)}
     → Counts r stream → Through TakenOn r stream outcomes last → Through TakenOn r stream outcomes′ last′
     → (outcomes ≡ outcomes′) × (last ≡ last′)

@@ -201,7 +201,8 @@ fn fetch(fd: i32, input: &mut [u8], left: u64) -> Fetched
     Fetched::Bytes(lists::lesser(io::count(got, input), limit))
 }
 
-// Lists all of a chunk and writes what it gives. With room for a line each call takes a byte, so the loop ends.
+// Lists all of a chunk and writes what it gives. With room for the line of any answer each call takes a byte, so the loop
+// ends.
 fn pump(s: Listing, chunk: &[u8], out: &mut [u8]) -> Pumped
     requires { ⌜ lineRoom ≤ length (now out) ⌝ }
     ensures { λ r. ⌜ Pumps s (now (chunk .entry)) r ⌝ }

@@ -1,16 +1,17 @@
 -- The laws of the lines and the counts of answers, one call after the other, and the longest lines.
 use mathlib.Core.Path.{_≡_, refl, ap}
 use mathlib.Core.Bool.{Bool, true}
-use mathlib.Core.List.{List, _++_}
+use mathlib.Core.List.{List, _∷_, _++_}
 use Prim.Native.Nat.{ℕ, _+_, _≤_}
 use native.Mathlib.Nat.{zero-add, add-zero}
 use native.Mathlib.Omega.{arith}
-use lib.ListN.{length, length-append}
+use lib.ListN.{length, replicate, length-append}
 use Rattle.answer.specs.Answer.{result, refused}
 use Rattle.framing.specs.Located.{Located}
 use Rattle.frame.specs.Verdict.{Verdict}
 use Rattle.frame.specs.Frame.{extended}
-use Rattle.command.specs.Stop.{stopsWorkout}
+use Rattle.command.specs.Entries.{parse, withEntry}
+use Rattle.command.specs.Stop.{anyOf, anyIn, isOneTwo, terminates, stopsWithin, stopsWorkout}
 use Rattle.candidate.specs.Outcome.{Outcome, nothing, judged, capacity}
 use Rattle.text.specs.Lines.{ascii, newline, field, hexField, stopText, head, extendedBody, line, outcomeLine}
 use Rattle.text.specs.Lines.{totals}
@@ -99,3 +100,11 @@ longest-line to from contents h k e =
       decimal-bound 2 (length contents) (omega arith),
       least-digits 2 (length contents) (omega arith),
     )
+
+-- Contents that it speaks of: the command that ends a workout in its wrapper, and 94 short commands after it.
+abbrev pub longStop : List ℕ
+longStop = 0x76 ∷ 0x04 ∷ 0x13 ∷ 0x02 ∷ 0x01 ∷ 0x02 ∷ replicate 94 0x80
+
+pub longest-reached : (to from : ℕ) → length (line most 4294967294 (result (extended to from longStop))) ≡ lineRoom
+unfolding parse withEntry anyOf anyIn isOneTwo terminates stopsWithin stopsWorkout
+longest-reached to from = longest-line to from longStop (omega arith) (omega arith) refl

@@ -61,7 +61,7 @@ calls-write-text trace h s n s′ before t κs out out′ r e wrote a =
 
 module _ (s : Listing) (κs : Lfts 1) (out out′ : RefT (List ℕ)) (r : Written)
     (e : finish-reads.Learnt κs (s, (out, tt)) r (s, (out′, tt))) where
-  -- A `finish` with room for two lines answers a length.
+  -- A `finish` with room for the line of an answer and for the totals answers a length.
   pub finish-answers : lastRoom ≤ length (out .now) → (wrote : ℕ) × (writtenMeans r ≡ result wrote)
   finish-answers room = (
     length (lastText s),
@@ -76,7 +76,7 @@ module _ (s : Listing) (κs : Lfts 1) (out out′ : RefT (List ℕ)) (r : Writte
     λ h. e .1 .0 ∙ sym (writes-no-room (result (lastText s)) (lastText s) (out .now) refl h .1),
   )
 
--- A call of `list` with a byte to take and room for any line takes a byte.
+-- A call of `list` with a byte to take and room for the line of any answer takes a byte.
 pub call-takes-some : (s : Listing) (κs : Lfts 2) (chunk chunk′ out out′ : RefT (List ℕ)) (r : Listed)
     → 0 < length (chunk .now) → lineRoom ≤ length (out .now)
     → list-reads.Learnt κs (s, (chunk, (out, tt))) r (s, (chunk′, (out′, tt))) → 0 < r .taken

@@ -2,7 +2,7 @@
 use mathlib.Core.Path.{_≡_}
 use mathlib.Core.Bool.{Bool, true, false}
 use mathlib.Core.List.{List, [], _∷_, _++_}
-use Prim.Native.Nat.{ℕ, _+_, _-_, _*_, _%_, _^_, _≤_}
+use Prim.Native.Nat.{ℕ, _+_, _-_, _%_, _^_, _≤_}
 use lib.ListN.{length, take, drop}
 use lib.Dec.{ltb}
 use Rattle.lists.specs.Choice.{pick}
@@ -68,7 +68,7 @@ abbrev pub texts : Listing → List ℕ → List ℕ
 texts s [] = []
 texts s (b ∷ bytes) = textOf s b ++ texts (nextOf s b) bytes
 
--- How many bytes of a chunk are taken: a byte is taken where there is room for any line.
+-- How many bytes of a chunk are taken: a byte is taken where there is room for the line of any answer.
 abbrev pub takenOf : Listing → List ℕ → (room : ℕ) → ℕ
 takenOf s [] room = 0
 takenOf s (b ∷ bytes) room = pick (ltb room lineRoom) 0 (1 + takenOf (nextOf s b) bytes (room - length (textOf s b)))

@@ -73,8 +73,8 @@ pub fn new() -> Listing
     }
 }
 
-// Takes bytes of a chunk as long as there is room for any line. The array is copied once for a chunk, and lent for each
-// answer.
+// Takes bytes of a chunk as long as there is room for the line of any answer. The array is copied once for a chunk, and
+// lent for each answer.
 pub fn list(s: Listing, chunk: &[u8], out: &mut [u8]) -> Listed
     ensures { λ r. ⌜ Lists s (now (chunk .entry)) (now (out .entry)) (now (out .exit)) r ⌝ }
 {

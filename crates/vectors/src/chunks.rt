@@ -7,12 +7,12 @@ use frame::Origin;
 use line::ChunkFed;
 use line::LineReader;
 
-// A new reader.
+// Calls on a new reader.
 pub(crate) fn run_new(origin: Origin, calls: &[u8]) {
     run_calls(LineReader::new(origin), calls);
 }
 
-// A reader that has taken as many bytes as the first argument says.
+// Calls on a reader that has taken as many bytes as the first argument says.
 pub(crate) fn run_counted(origin: Origin, arguments: &[u8]) {
     run_calls(
         lines::counted(origin, words::nth(arguments, b' ', 0)),
@@ -21,8 +21,8 @@ pub(crate) fn run_counted(origin: Origin, arguments: &[u8]) {
 }
 
 // The reader is finished after each group of chunks.
-fn run_calls(new: LineReader, calls: &[u8]) {
-    let mut reader = new;
+fn run_calls(first: LineReader, calls: &[u8]) {
+    let mut reader = first;
     let n = words::parts(calls, b'/');
     let mut k = 0;
     while k < n {

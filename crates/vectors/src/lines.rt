@@ -10,12 +10,12 @@ use line::State;
 use line::Stepped;
 ghost use Prim.Native.Nat.{_<_, _≤_};
 
-// New readers.
+// Calls on new readers.
 pub(crate) fn run_new(origin: Origin, calls: &[u8]) {
     run_calls(LineReader::new(origin), calls);
 }
 
-// Readers that have taken as many bytes as the first argument says.
+// Calls on readers that have taken as many bytes as the first argument says.
 pub(crate) fn run_counted(origin: Origin, arguments: &[u8]) {
     run_calls(
         counted(origin, words::nth(arguments, b' ', 0)),
@@ -40,10 +40,10 @@ pub(crate) fn counted(origin: Origin, digits: &[u8]) -> LineReader {
 }
 
 // Both readers get each group of bytes, and a finish after it.
-fn run_calls(new: LineReader, calls: &[u8]) {
-    let mut reader = new;
+fn run_calls(first: LineReader, calls: &[u8]) {
+    let mut reader = first;
     let mut held = [0u8; 118];
-    let mut state = new.state;
+    let mut state = first.state;
     let n = words::parts(calls, b'/');
     let mut k = 0;
     while k < n {

@@ -9,7 +9,8 @@
 /* Where bytes come from. */
 enum origin { LIVE, TRACE };
 
-/* What the lent numbers hold before a call. No call of this program answers it, so one that is left alone is seen. */
+/* What the numbers for the bytes taken and for the position hold before a call. No call of this program answers it, so
+ * one that is left alone is seen. */
 #define UNWRITTEN 777
 
 static const char *name_of(uint8_t number)
@@ -143,8 +144,8 @@ static struct reader new_reader(void)
 /* Prints what a call left in the numbers. The lower half of the counts means something in a candidate alone. */
 static void print_numbers(const struct reader *reader, uint64_t taken, uint32_t position)
 {
-    printf("at %lu, taken %u, state %u, count %lu", (unsigned long)position, (unsigned)taken, (unsigned)reader->state,
-           (unsigned long)(reader->counts >> 32));
+    printf("at %lu, taken %lu, state %lu, count %lu", (unsigned long)position, (unsigned long)taken,
+           (unsigned long)reader->state, (unsigned long)(reader->counts >> 32));
     if (reader->state != 0) {
         printf(", open at %lu", (unsigned long)(reader->counts & CSAFE_LINE_LIMIT));
     }
@@ -213,7 +214,7 @@ static void read_line(enum origin origin)
     feed_and_print(origin, &reader, standard, sizeof standard);
 }
 
-/* The first frame ends with the last byte that the reader takes but one. An empty input is not refused, full or not. */
+/* The first frame ends with the last byte that the reader takes but one. A full reader does not refuse an empty input. */
 static void fill_reader(enum origin origin)
 {
     static const uint8_t frames[] = {0xF0, 0x00, 0x05, 0x41, 0x41, 0xF2, 0xF0, 0x00, 0x05, 0x41, 0x41, 0xF2};
