@@ -2,8 +2,7 @@
 use crate::bytes;
 use crate::flags;
 ghost use mathlib.Core.Path.{_≡_};
-ghost use Prim.Native.Nat.{_+_, _≤_};
-ghost use lib.ListN.{length, getD, take, drop};
+ghost use lib.ListN.{getD, take};
 ghost use Rattle.lists.specs.Choice.{countBefore};
 ghost use Rattle.frame.specs.Flags.{isStart, isFlag};
 ghost use Rattle.frame.specs.Stuffing.{isStuffed};
@@ -11,9 +10,7 @@ ghost use Rattle.frame.specs.Checksum.{checksum};
 ghost use Rattle.frame.specs.Leading.{isStopAt};
 ghost use Rattle.frame.specs.Private.{PlainTo};
 
-// The size of a block of bytes that are looked at together, and of a smaller one.
-const BLOCK: usize = 32;
-
+// The size of a small block of bytes that are looked at together.
 const SMALL_BLOCK: usize = 8;
 
 // How many bytes stand before the first F0 to F3, and their exclusive or.
@@ -78,28 +75,12 @@ pub(crate) fn plain_run(s: &[u8]) -> PlainRun
 fn plain_blocks(s: &[u8]) -> PlainRun
     ensures { λ r. ⌜ PlainTo (now (s .entry)) (r .at) (r .sum) ⌝ }
 {
-    let at = clear_blocks(s);
+    let at = lists::blocks_before(s, flags::EXTENDED_START, flags::ESCAPE);
     let looked = bytes::look(&s[..at], flags::EXTENDED_START, flags::ESCAPE);
     PlainRun {
         at,
         sum: looked.sum,
     }
-}
-
-// How many bytes there are in the blocks that the slice begins with and that have no F0 to F3.
-fn clear_blocks(s: &[u8]) -> usize
-    ensures { λ r. ⌜ r ≤ length (now (s .entry)) ⌝ }
-    ensures { λ r. ⌜ countBefore isStuffed (now (s .entry))
-        ≡ r + countBefore isStuffed (drop r (now (s .entry))) ⌝ }
-{
-    let mut i: usize = 0;
-    while BLOCK <= s.len() - i {
-        if !lists::none_within(&s[i..i + BLOCK], flags::EXTENDED_START, flags::ESCAPE) {
-            return i;
-        }
-        i += BLOCK;
-    }
-    i
 }
 
 // Passes over small blocks without F0 to F3, from a run on. A block is looked at without a branch for each byte.

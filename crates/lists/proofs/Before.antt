@@ -1,14 +1,14 @@
 -- Laws on how many elements of a list stand before the first that passes a test.
-use Prim.Native.Nat.{ℕ, zero, suc, _+_, _-_, _≤_, _<_}
+use Prim.Native.Nat.{ℕ, zero, suc, _+_, _-_, _%_, _≤_, _<_}
 use mathlib.Core.Path.{_≡_, refl, sym, ap, _∙_}
 use mathlib.Core.Bool.{Bool, true, false, true≢false}
 use mathlib.Core.List.{List, [], _∷_}
-use native.Mathlib.Nat.{zero-add}
+use native.Mathlib.Nat.{zero-add, div-add-mod, mod-lt}
 use native.Mathlib.Numerals.{add-one}
 use native.Mathlib.Omega.{arith}
 use lib.ListN.{length, take, drop, getD, length-drop, drop-of-length-le}
 use lib.Seq.{drop-cons, drop-drop}
-use Rattle.lists.specs.Choice.{pick, noneOf, countBefore}
+use Rattle.lists.specs.Choice.{pick, noneOf, countBefore, inBlocks}
 use Rattle.lists.proofs.Cases.{by-bool}
 
 -- what a mark tells
@@ -72,12 +72,40 @@ module _ (p : ℕ → Bool) where
       ∙ ap (λ (l : List ℕ). n + countBefore p l) (drop-drop n i s) in
       omega (arith, so-far, q)
 
-  -- the elements counted are elements of the list, and none of them passes
+  -- A part in which an element passes.
+  pub before-inside : (n : ℕ) (s : List ℕ) → noneOf p (take n s) ≡ false → countBefore p s < n
+  unfolding countBefore noneOf
+  before-inside zero s e = absurd (true≢false e)
+  before-inside (suc n) [] e = absurd (true≢false e)
+  before-inside (suc n) (x ∷ s) e =
+      by-bool (p x) (λ y. simp y (omega arith))
+      (λ k. let q : countBefore p s < n = before-inside n s (simp k at e) in simp k (omega (arith, q)))
+
+  -- the same of a block, as the code tests it
+  pub block-inside : (s : List ℕ) (i n : ℕ) (clear : Bool) → clear ≡ noneOf p (take (i + n - i) (drop i s))
+      → clear ≡ false → countBefore p (drop i s) < n
+  block-inside s i n clear e f =
+      let m : i + n - i ≡ n = omega arith in
+      before-inside n (drop i s) (ap (λ (k : ℕ). noneOf p (take k (drop i s))) (sym m) ∙ sym e ∙ f)
+
+  -- the elements counted are elements of the list
   pub before-fits : (s : List ℕ) → countBefore p s ≤ length s
   unfolding countBefore
   before-fits [] = omega arith
   before-fits (x ∷ s) = let h = before-fits s in by-bool (p x) (λ y. simp y (omega arith)) (λ n. simp n (omega arith))
 
+  -- where less than a block is left
+  pub rest-inside : (s : List ℕ) (i n : ℕ) → i ≤ length s → length s - i < n → countBefore p (drop i s) < n
+  rest-inside s i n h l = omega (arith, before-fits (drop i s), length-drop i s)
+
+  -- what whole blocks leave over fills none
+  pub whole-blocks : (s : List ℕ) (r : ℕ) → countBefore p s ≡ r + countBefore p (drop r s)
+      → countBefore p (drop r s) < 32 → r % 32 ≡ 0 % 32 → r ≡ inBlocks (countBefore p s)
+  whole-blocks s r e l m =
+      let c = countBefore p s in
+      omega (arith, div-add-mod c 32, div-add-mod r 32, mod-lt c {m = 32} (omega arith), e, l, m)
+
+  -- no element that is counted passes
   pub before-clear : (s : List ℕ) → noneOf p (take (countBefore p s) s) ≡ true
   unfolding countBefore noneOf
   before-clear [] = refl

@@ -1,5 +1,5 @@
 -- A choice by a test, tests and properties of numbers and lists, and what holds exactly when.
-use Prim.Native.Nat.{ℕ, _+_}
+use Prim.Native.Nat.{ℕ, _+_, _-_, _%_}
 use mathlib.Core.Bool.{Bool, true, false}
 use mathlib.Core.List.{List, [], _∷_}
 use lib.Dec.{leb}
@@ -27,6 +27,10 @@ countOf p (x ∷ s) = pick (p x) 1 0 + countOf p s
 unfoldable pub countBefore : (ℕ → Bool) → List ℕ → ℕ
 countBefore p [] = 0
 countBefore p (x ∷ s) = pick (p x) 0 (1 + countBefore p s)
+
+-- So many elements, without those that fill no whole block of 32.
+abbrev pub inBlocks : ℕ → ℕ
+inBlocks n = n - n % 32
 
 -- Every element of a list has a property.
 abbrev pub Every : {A : Type 0} → (A → Type 0) → List A → Type 0

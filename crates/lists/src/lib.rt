@@ -1,10 +1,10 @@
 // Definitions and laws on lists that the layers above share: a choice by a test, a test on every element, a list put
 // into another from an index on, the first element that passes a test, and a machine run on a list of calls.
 ghost use mathlib.Core.Path.{_≡_};
-ghost use Prim.Native.Nat.{_+_, _≤_, _<_};
+ghost use Prim.Native.Nat.{_+_, _%_, _≤_, _<_};
 ghost use lib.Dec.{leb};
 ghost use lib.ListN.{length, drop};
-ghost use Rattle.lists.specs.Choice.{pick, within, noneOf, countBefore};
+ghost use Rattle.lists.specs.Choice.{pick, within, noneOf, countBefore, inBlocks};
 ghost use Rattle.lists.specs.Splice.{splice, copied};
 
 // How many bytes are tested together, and how many of those that are left.
@@ -60,8 +60,8 @@ pub fn count_before(s: &[u8], low: u8, high: u8) -> usize
     if mark(s[0], low, high) == 1 {
         return 0;
     }
-    let passed = blocks_before(s, low, high, 0, BLOCK);
-    let mut i = blocks_before(s, low, high, passed, SMALL_BLOCK);
+    let passed = pass_blocks(s, low, high, 0, BLOCK);
+    let mut i = pass_blocks(s, low, high, passed, SMALL_BLOCK);
     while i < s.len() {
         if mark(s[i], low, high) == 1 {
             return i;
@@ -69,6 +69,16 @@ pub fn count_before(s: &[u8], low: u8, high: u8) -> usize
         i += 1;
     }
     i
+}
+
+// How many bytes there are in the whole blocks of 32 before the first byte that lies between two values, both included.
+pub fn blocks_before(s: &[u8], low: u8, high: u8) -> usize
+    ensures { λ r. ⌜ r ≡ inBlocks (countBefore (within low high) (now (s .entry))) ⌝ }
+    ensures { λ r. ⌜ r ≤ length (now (s .entry)) ⌝ }
+    ensures { λ r. ⌜ countBefore (within low high) (now (s .entry))
+        ≡ r + countBefore (within low high) (drop r (now (s .entry))) ⌝ }
+{
+    pass_blocks(s, low, high, 0, BLOCK)
 }
 
 // Copies a slice into another from an index on, where it fits.
@@ -115,14 +125,17 @@ fn copy_each(s: &[u8], out: &mut [u8], at: usize)
     }
 }
 
-// Passes over whole blocks of a size from an index on, up to which there is none.
-fn blocks_before(s: &[u8], low: u8, high: u8, from: usize, size: usize) -> usize
+// Passes over whole blocks of a size from an index on, up to which there is none. A block is tested without a branch for
+// each byte.
+fn pass_blocks(s: &[u8], low: u8, high: u8, from: usize, size: usize) -> usize
     requires { ⌜ 0 < size ⌝ }
     requires { ⌜ from ≤ length (now s) ⌝ }
     requires { ⌜ countBefore (within low high) (now s) ≡ from + countBefore (within low high) (drop from (now s)) ⌝ }
     ensures { λ r. ⌜ r ≤ length (now (s .entry)) ⌝ }
     ensures { λ r. ⌜ countBefore (within low high) (now (s .entry))
         ≡ r + countBefore (within low high) (drop r (now (s .entry))) ⌝ }
+    ensures { λ r. ⌜ countBefore (within low high) (drop r (now (s .entry))) < size ⌝ }
+    ensures { λ r. ⌜ r % size ≡ from % size ⌝ }
 {
     let mut i = from;
     while size <= s.len() - i {

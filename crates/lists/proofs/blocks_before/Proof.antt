@@ -1,78 +1,17 @@
-use mathlib.Core.Path.{_≡_}
+use mathlib.Core.Path.{sym}
+use native.Mathlib.Nat.{zero-add}
 use native.Mathlib.Omega.{arith}
-use lib.ListN.{length, drop}
-use Prim.Native.Nat.{_+_, _-_, _≤_}
-use borrow.Author.Tests.{not-false}
-use Rattle.lists.specs.Choice.{within, countBefore}
-use Rattle.lists.proofs.Before.{before-block}
-use borrow.Author.Needs.{needs}
+use Rattle.lists.proofs.Before.{whole-blocks}
 use Rattle.lists.proofs.blocks_before.Statement.{statement}
 use Rattle.lists.proofs.blocks_before.Tie as tie
 
-abbrev Inv-loop : tie.InvT-loop
-Inv-loop s low high from size i₀ i =
-    (i ≤ length s) × (countBefore (within low high) s ≡ i + countBefore (within low high) (drop i s))
+pass-blocks-requires : tie.Need-pass-blocks-requires
+pass-blocks-requires c κs = (omega arith, (omega arith, sym (zero-add _)))
 
-abbrev μ-loop : tie.MeasureT-loop
-μ-loop s low high from size i₀ i = length s - i
-
-loop-holds : tie.Need-loop-holds Inv-loop μ-loop
-loop-holds c = (c .before .pre .1 .0, c .before .pre .1 .1)
-
-sub-loop : tie.Need-sub-loop Inv-loop μ-loop
-sub-loop c = search needs
-
-add-none-within : tie.Need-add-none-within Inv-loop μ-loop
-add-none-within c = search needs
-
-sub-none-within : tie.Need-sub-none-within Inv-loop μ-loop
-sub-none-within c = search needs
-
-part-none-within-start : tie.Need-part-none-within-start Inv-loop μ-loop
-part-none-within-start c = search needs
-
-part-none-within-end : tie.Need-part-none-within-end Inv-loop μ-loop
-part-none-within-end c = search needs
-
-none-within-requires : tie.Need-none-within-requires Inv-loop μ-loop
-none-within-requires c κs = search needs
-
-returns : tie.Need-returns Inv-loop μ-loop
-returns c = let l = c .before .before .before .before in (l .loop .inv .0, l .loop .inv .1)
-
-add-i : tie.Need-add-i Inv-loop μ-loop
-add-i c = search needs
-
-loop-less : tie.Need-loop-less Inv-loop μ-loop
-loop-less c = omega arith
-
-loop-again : tie.Need-loop-again Inv-loop μ-loop
-loop-again c =
-    let l = c .before .before .before .before in
-    let t = c .before .before .before .loop-test .taken in (
-      omega arith,
-      before-block _ _ (l .loop .i) _ _ (omega arith) (c .before .none-within .ensures)
-          (not-false _ (c .if1 .left)) (l .loop .inv .1),
-    )
-
-returns-2 : tie.Need-returns-2 Inv-loop μ-loop
-returns-2 c = let l = c .before in (l .loop .inv .0, l .loop .inv .1)
+returns : tie.Need-returns
+returns c =
+    let k = c .pass-blocks .ensures in
+    (whole-blocks _ _ (c .pass-blocks .result) (k .1 .0) (k .1 .1 .0) (k .1 .1 .1), (k .0, k .1 .0))
 
 pub blocks-before-spec : {M : Type 1} → statement M
-blocks-before-spec =
-    tie.close
-    (tie.spec
-    Inv-loop
-    μ-loop
-    loop-holds
-    sub-loop
-    add-none-within
-    sub-none-within
-    part-none-within-start
-    part-none-within-end
-    none-within-requires
-    returns
-    add-i
-    loop-less
-    loop-again
-    returns-2)
+blocks-before-spec = tie.close (tie.spec pass-blocks-requires returns)

@@ -30,14 +30,14 @@ returns-2 c =
     before-here _ _ 0 (omega (arith, c .before .before .before .if1 .left))
     (marked _ _ (c .before .mark .ensures) (c .if2 .taken)) (sym (zero-add _))
 
-blocks-before-requires : tie.Need-blocks-before-requires Inv-loop μ-loop
-blocks-before-requires c κs = (omega arith, (omega arith, sym (zero-add _)))
+pass-blocks-requires : tie.Need-pass-blocks-requires Inv-loop μ-loop
+pass-blocks-requires c κs = (omega arith, (omega arith, sym (zero-add _)))
 
-blocks-before-requires-2 : tie.Need-blocks-before-requires-2 Inv-loop μ-loop
-blocks-before-requires-2 c κs = (omega arith, (c .blocks-before .ensures .0, c .blocks-before .ensures .1))
+pass-blocks-requires-2 : tie.Need-pass-blocks-requires-2 Inv-loop μ-loop
+pass-blocks-requires-2 c κs = (omega arith, (c .pass-blocks .ensures .0, c .pass-blocks .ensures .1 .0))
 
 loop-holds : tie.Need-loop-holds Inv-loop μ-loop
-loop-holds c = (c .blocks-before2 .ensures .0, c .blocks-before2 .ensures .1)
+loop-holds c = (c .pass-blocks2 .ensures .0, c .pass-blocks2 .ensures .1 .0)
 
 shared-slice-read-mark-2 : tie.Need-shared-slice-read-mark-2 Inv-loop μ-loop
 shared-slice-read-mark-2 c = search needs
@@ -78,8 +78,8 @@ count-before-spec =
     shared-slice-read-mark
     mark-requires
     returns-2
-    blocks-before-requires
-    blocks-before-requires-2
+    pass-blocks-requires
+    pass-blocks-requires-2
     loop-holds
     shared-slice-read-mark-2
     mark-requires-2
