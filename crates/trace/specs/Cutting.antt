@@ -37,7 +37,7 @@ pub record Session (trace written : List ℕ) : Type 0 where
 abbrev pub WritesText : Type 0
 WritesText = (trace written : List ℕ) → length trace ≤ mostBytes → Session trace written → written ≡ text trace
 
--- A listing always ends: a call with a byte to take and room for the line of any answer takes a byte.
+-- A call with a byte to take and room for the line of any answer takes a byte.
 abbrev pub TakesSome : Type 0
 TakesSome =
     (s : Listing) (chunk out out′ : List ℕ) (r : Listed) → 0 < length chunk → lineRoom ≤ length out

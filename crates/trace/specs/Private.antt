@@ -42,8 +42,8 @@ pub record Going (s₀ : Listing) (chunk out₀ : List ℕ) (s : Listing) (out :
   pub wrote : Wrote out₀ 0 (texts s₀ (take i chunk)) out at
   pub taken : takenOf s₀ chunk (length out₀) ≡ i + takenOf s (drop i chunk) (length out₀ - at)
 
--- The first n bytes take the state s to s′ and give the text w. A call with room for the line
--- of any answer takes all of them.
+-- The first n bytes take the state s to s′ and give the text w. A call with room for the line of
+-- any answer takes all of them.
 pub record Leads (s : Listing) (bytes : List ℕ) (n : ℕ) (s′ : Listing) (w : List ℕ) : Type 0 where
   pub fits : n ≤ length bytes
   pub state : s′ ≡ listingAfter s (take n bytes)
