@@ -240,7 +240,8 @@ fn counted_on(before: State, passed: usize) -> State
     }
 }
 
-// How many bytes are taken where the line reader took so many: at least one, since a full reader refuses the first and takes none.
+// How many bytes are taken where the line reader took so many: at least one, since a full reader refuses the first and
+// takes none.
 fn at_least_one(taken: usize) -> usize
     ensures { λ r. ⌜ r ≡ atLeastOne taken ⌝ }
 {
