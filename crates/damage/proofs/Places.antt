@@ -18,7 +18,7 @@ use Rattle.frame.specs.declared.Origin.{Origin}
 use Rattle.frame.specs.declared.Kind.{Kind}
 use Rattle.frame.proofs.FlagLaws.{kind-start}
 use Rattle.frame.proofs.UnstuffsLaws.{unstuffs-count, unstuffs-place, unstuffs-itself, stands-once}
-use Rattle.frame.proofs.WireLaws.{payload-length}
+use Rattle.frame.proofs.VerdictLaws.{payload-length}
 use Rattle.frame.proofs.VerdictLaws.{whole-length, whole-body}
 use Rattle.damage.specs.Damage.{Part, inDestination, inSource, inContents, inChecksum, Between, numberAt, partAfter}
 use Rattle.damage.specs.Damage.{partOf, partAt, LiesIn, PlaceIs, PlainAt}

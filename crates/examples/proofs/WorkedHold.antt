@@ -5,7 +5,7 @@ use Rattle.frame.specs.Stuffing.{stuffByte, stuff, prepend, unstuff}
 use Rattle.frame.specs.Checksum.{sumFrom}
 use Rattle.frame.specs.Frame.{contentsOf, addressesOf, payload, wireOf}
 use Rattle.frame.specs.Verdict.{frameIn, judgeBytes, judge, isTerminated, verdict}
-use Rattle.frame.specs.Answers.{frameDraft}
+use Rattle.writer.specs.Answers.{frameDraft}
 use Rattle.command.specs.Entries.{withEntry, parse}
 use Rattle.reply.specs.Status.{isState, statusOf, statusIn}
 use Rattle.reply.specs.Replies.{headIn, afterStatus, replyIn}

@@ -9,7 +9,7 @@ use Rattle.answer.specs.Answer.{result, refused, Answer}
 use Rattle.frame.specs.Frame.{Frame, standard, extended}
 use Rattle.frame.specs.Verdict.{Verdict, verdict}
 use Rattle.frame.specs.Origin.{admit}
-use Rattle.frame.specs.Answers.{sentDraft}
+use Rattle.writer.specs.Answers.{sentDraft}
 use Rattle.frame.specs.declared.Origin.the-variants.{Trace}
 use Rattle.command.specs.Entries.{entry}
 use Rattle.reply.specs.Status.{ok, ready, previousNumber, stateNumber}

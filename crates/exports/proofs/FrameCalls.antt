@@ -13,17 +13,21 @@ use Rattle.answer.specs.Answer.{Answer, result, refused, through}
 use Rattle.answer.specs.Draft.{Draft, Writes, Foretells}
 use Rattle.answer.proofs.Drafts.{foretold}
 use Rattle.frame.specs.Frame.{Frame, standard, extended, contentsOf, frameKind, wireOf}
-use Rattle.frame.specs.Answers.{FrameOutline, standardOutline, outlineOf, sentDraft, frameRead, Reads}
-use Rattle.frame.specs.Conditions.{SenderNamed, Sound, SoundFrame, NoStandard, ReadJudged, WriteJudged, notSent}
-use Rattle.frame.specs.Conditions.{LengthJudged}
+use Rattle.frame.specs.Answers.{FrameOutline, standardOutline, outlineOf, frameRead, Reads}
+use Rattle.writer.specs.Answers.{sentDraft}
+use Rattle.frame.specs.Conditions.{SenderNamed, Sound, SoundFrame, NoStandard, ReadJudged}
+use Rattle.writer.specs.Conditions.{WriteJudged, notSent, LengthJudged}
 use Rattle.frame.specs.declared.Origin.{Origin}
 use Rattle.frame.specs.declared.Origin.the-variants.{Live, Trace}
 use Rattle.frame.specs.declared.Kind.the-variants.{Standard}
 use Rattle.frame.proofs.OriginLaws.{sender-missing}
-use Rattle.frame.proofs.Table.{reads-exactly, writes-exactly, lengths-exactly, draft-never-1}
-use Rattle.frame.proofs.RoundTrip.{told-when, told-exactly, told-as-written, written-reads-back, read-writes-back}
-use Rattle.frame.proofs.Unnamed.{unnamed-read, unnamed-write, unnamed-length, live-extended, origins-agree}
-use Rattle.frame.proofs.Calls.{one-draft}
+use Rattle.frame.proofs.Table.{reads-exactly}
+use Rattle.writer.proofs.Table.{writes-exactly, lengths-exactly, draft-never-1}
+use Rattle.frame.proofs.RoundTrip.{told-when, told-exactly, told-as-written}
+use Rattle.writer.proofs.RoundTrip.{written-reads-back, read-writes-back}
+use Rattle.frame.proofs.Unnamed.{unnamed-read, live-extended, origins-agree}
+use Rattle.writer.proofs.Unnamed.{unnamed-write, unnamed-length}
+use Rattle.writer.proofs.Calls.{one-draft}
 use Rattle.exports.specs.Told.{toldWritten, toldRead}
 use Rattle.exports.proofs.ToldLaws.{frame-told, length-told, slice-told}
 use Rattle.exports.proofs.csafe_write_standard.Reads as write-standard-reads

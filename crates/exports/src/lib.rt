@@ -19,7 +19,8 @@ ghost use Rattle.answer.specs.Draft.{draftAnswer, draftOut};
 ghost use Rattle.frame.specs.Frame.{standard, extended};
 ghost use Rattle.frame.specs.Verdict.{verdict};
 ghost use Rattle.frame.specs.Origin.{admit};
-ghost use Rattle.frame.specs.Answers.{frameDraft, sentDraft, readAnswer, readOut};
+ghost use Rattle.writer.specs.Answers.{frameDraft, sentDraft};
+ghost use Rattle.frame.specs.Answers.{readAnswer, readOut};
 ghost use Rattle.frame.specs.declared.Origin.the-variants.{Live};
 ghost use Rattle.workout.specs.Limits.{pm3Limits};
 ghost use Rattle.workout.specs.Workout.{Programmed, programmed};
@@ -51,7 +52,7 @@ pub extern "C" fn csafe_write_extended(to: u8, from: u8, contents: &[u8], out: &
     ensures { λ r. ⌜ now (out .exit) ≡ draftOut (frameDraft (extended to from (now (contents .entry))))
         (now (out .entry)) ⌝ }
 {
-    let written = frame::write_extended(to, from, contents, out);
+    let written = writer::write_extended(to, from, contents, out);
     packed::of_written(written)
 }
 
@@ -68,7 +69,7 @@ pub extern "C" fn csafe_standard_length(contents: &[u8]) -> u64
 pub extern "C" fn csafe_extended_length(to: u8, from: u8, contents: &[u8]) -> u64
     ensures { λ r. ⌜ Tells r (writeFields (through length (frameDraft (extended to from (now (contents .entry)))))) ⌝ }
 {
-    let length = frame::extended_length(to, from, contents);
+    let length = writer::extended_length(to, from, contents);
     packed::of_length(length)
 }
 
@@ -254,7 +255,7 @@ pub fn write_standard(origin: Origin, contents: &[u8], out: &mut [u8]) -> u64
     ensures { λ r. ⌜ now (out .exit) ≡ draftOut (sentDraft origin (standard (now (contents .entry))))
         (now (out .entry)) ⌝ }
 {
-    let written = frame::write_standard(origin, contents, out);
+    let written = writer::write_standard(origin, contents, out);
     packed::of_written(written)
 }
 
@@ -262,7 +263,7 @@ pub fn write_standard(origin: Origin, contents: &[u8], out: &mut [u8]) -> u64
 pub fn standard_length(origin: Origin, contents: &[u8]) -> u64
     ensures { λ r. ⌜ Tells r (writeFields (through length (sentDraft origin (standard (now (contents .entry)))))) ⌝ }
 {
-    let length = frame::standard_length(origin, contents);
+    let length = writer::standard_length(origin, contents);
     packed::of_length(length)
 }
 

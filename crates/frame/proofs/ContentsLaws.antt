@@ -19,9 +19,9 @@ use lib.Seq.{take-at, length-take-le}
 use Rattle.lists.specs.Splice.{splice}
 use Rattle.lists.proofs.Lists.{back-in}
 use Rattle.frame.specs.Checksum.{checksum}
-use Rattle.frame.specs.Frame.{Frame, contentsOf, standard, extended}
+use Rattle.frame.specs.Frame.{Frame, contentsOf, standard, extended, frameOf}
 use Rattle.frame.specs.Answers.{leftIn, judgeAnswer, frameRead, readAnswer, readOut}
-use Rattle.frame.specs.Private.{frameOf, readAs, unstuffedBytes, isSound, isEscape, lastAt, SoundAt, judgeWhole}
+use Rattle.frame.specs.Private.{readAs, unstuffedBytes, isSound, isEscape, lastAt, SoundAt, judgeWhole}
 use Rattle.frame.specs.Origin.{admit}
 use Rattle.frame.specs.declared.Origin.{Origin}
 use Rattle.frame.specs.declared.Kind.{Kind}

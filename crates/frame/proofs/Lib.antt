@@ -4,9 +4,6 @@ pub mod UnstuffsLaws
 pub mod ChecksumLaws
 pub mod EscapeLaws
 pub mod UndoLaws
-pub mod WireLaws
-pub mod MeasureLaws
-pub mod NumberLaws
 pub mod ScanLaws
 pub mod OriginLaws
 pub mod VerdictLaws

@@ -1,4 +1,4 @@
--- Laws of the origin: a verdict, a draft, and what was found of a body, at the live line and in a trace.
+-- Laws of the origin: a verdict, and what was found of a body, at the live line and in a trace.
 use Prim.Native.Nat.{ℕ}
 use mathlib.Core.Path.{_≡_, refl, sym, ap, _∙_}
 use mathlib.Core.Logic.{_⊎_, inl, inr}
@@ -7,12 +7,11 @@ use mathlib.Core.List.{List}
 use native.Mathlib.Omega.{arith}
 use Rattle.lists.specs.Choice.{Exactly}
 use Rattle.answer.specs.Answer.{result, refused}
-use Rattle.frame.specs.Frame.{Frame, standard, extended, frameKind}
+use Rattle.frame.specs.Frame.{Frame, standard, extended, frameKind, frameOf}
 use Rattle.frame.specs.Verdict.{Verdict}
 use Rattle.frame.specs.Origin.{admit}
-use Rattle.frame.specs.Answers.{frameDraft, sentDraft}
 use Rattle.frame.specs.Conditions.{SenderNamed}
-use Rattle.frame.specs.Private.{frameOf, headerKind, admits, SoundAt}
+use Rattle.frame.specs.Private.{headerKind, admits, SoundAt}
 use Rattle.frame.specs.declared.Origin.{Origin}
 use Rattle.frame.specs.declared.Origin.the-variants.{Live, Trace}
 use Rattle.frame.specs.declared.Kind.{Kind}
@@ -36,7 +35,7 @@ trace-named kind e = absurd (trace-live e)
 pub extended-named : (o : Origin) → SenderNamed o Extended
 extended-named o e = refl
 
-live-standard : SenderNamed Live Standard → ⊥
+pub live-standard : SenderNamed Live Standard → ⊥
 live-standard h = standard-extended (h refl)
 
 -- a kind names its sender, or the line is live and the kind is the standard one
@@ -86,18 +85,6 @@ admit-means Live (result (standard c)) f e = let z : _≡_ {A = ℕ} 0 1 = cc in
 admit-means Live (result (extended to from c)) f e =
     let q : extended to from c ≡ f = cc in (e, λ l. ap frameKind (sym q))
 admit-means Trace v f e = (e, trace-named (frameKind f))
-
--- ---- drafts
-
-pub sent-frame : (o : Origin) (f : Frame) → SenderNamed o (frameKind f) → sentDraft o f ≡ frameDraft f
-sent-frame Live (standard c) h = absurd (live-standard h)
-sent-frame Live (extended to from c) h = refl
-sent-frame Trace f h = refl
-
-pub sent-unnamed : (o : Origin) (f : Frame) → (SenderNamed o (frameKind f) → ⊥) → sentDraft o f ≡ refused 17
-sent-unnamed Live (standard c) n = refl
-sent-unnamed Live (extended to from c) n = absurd (n (extended-named Live))
-sent-unnamed Trace f n = absurd (n (trace-named (frameKind f)))
 
 -- ---- a sound body
 

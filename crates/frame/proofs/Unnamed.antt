@@ -7,25 +7,20 @@ use lib.Dec.{leb}
 use lib.ListN.{length, getD}
 use Rattle.lists.specs.Choice.{Exactly}
 use Rattle.lists.proofs.Cases.{by-bool}
-use Rattle.answer.specs.Answer.{Answer, result, refused, through}
-use Rattle.answer.specs.Draft.{Writes}
+use Rattle.answer.specs.Answer.{Answer, result, refused}
 use Rattle.frame.specs.Flags.{startFlag}
-use Rattle.frame.specs.Frame.{Frame, standard, extended, contentsOf, frameKind}
+use Rattle.frame.specs.Frame.{Frame, standard, extended, contentsOf}
 use Rattle.frame.specs.Verdict.{Verdict, verdict}
 use Rattle.frame.specs.Origin.{admit}
-use Rattle.frame.specs.Answers.{FrameOutline, standardOutline, outlineOf, sentDraft, readAnswer, readOut, Reads}
+use Rattle.frame.specs.Answers.{FrameOutline, standardOutline, outlineOf, readAnswer, readOut, Reads}
 use Rattle.frame.specs.Conditions.{Judged, truncated, long, badEscape, short, badSum, unnamed, sound, SoundFrame}
-use Rattle.frame.specs.Conditions.{NoStandard}
-use Rattle.frame.specs.Conditions.{ReadJudged, refusedBy, noRoom, fits}
-use Rattle.frame.specs.Conditions.{WriteJudged, notSent, overLimit, noRoomToWrite, written}
-use Rattle.frame.specs.Conditions.{LengthJudged, notMeasured, tooLong, takes}
+use Rattle.frame.specs.Conditions.{NoStandard, ReadJudged, refusedBy, noRoom, fits}
 use Rattle.frame.specs.declared.Origin.{Origin}
 use Rattle.frame.specs.declared.Origin.the-variants.{Live, Trace}
 use Rattle.frame.specs.declared.Kind.the-variants.{Standard, Extended}
-use Rattle.frame.proofs.OriginLaws.{trace-live, trace-named, sender-missing}
+use Rattle.frame.proofs.OriginLaws.{trace-live, trace-named}
 use Rattle.frame.proofs.VerdictLaws.{answer-refused}
-use Rattle.frame.proofs.Table.{verdict-by-table, accepted-exactly, read-by-table, written-by-table, writes-exactly}
-use Rattle.frame.proofs.Table.{lengths-exactly}
+use Rattle.frame.proofs.Table.{verdict-by-table, accepted-exactly, read-by-table}
 
 -- ---- reading
 
@@ -115,33 +110,3 @@ origins-agree o p w out a b last left k l n =
       k .0 ∙ ap (λ (v : Verdict). readAnswer v (length out)) same ∙ sym (l .0),
       k .1 ∙ ap (λ (v : Verdict). readOut v out) same ∙ sym (l .1),
     )
-
--- ---- writing and measuring
-
--- A call that writes is refused with 17 exactly on the live line, for a standard frame.
-pub unnamed-write : (o : Origin) (f : Frame) (out : List ℕ) (a : Answer ℕ) (last : List ℕ)
-    → Writes (sentDraft o f) out a last → Exactly (a ≡ refused 17) ((o ≡ Live) × (frameKind f ≡ Standard))
-unnamed-write o f out a last p = (
-  of-line a last (written-by-table o f out a last .0 p),
-  (λ m. writes-exactly o f out a (refused 17) last out p .1 (notSent (sender-missing o (frameKind f) .1 m)) .0),
-)
-  where
-    of-line : (a : Answer ℕ) (last : List ℕ) → WriteJudged o f out a last → a ≡ refused 17
-        → (o ≡ Live) × (frameKind f ≡ Standard)
-    of-line a last (notSent n) e = sender-missing o (frameKind f) .0 n
-    of-line a last (overLimit m n) e = let z : _≡_ {A = ℕ} 2 17 = cc in absurd (omega arith)
-    of-line a last (noRoomToWrite m l h) e = let z : _≡_ {A = ℕ} 1 17 = cc in absurd (omega arith)
-    of-line a last (written m l h) e = let z : _≡_ {A = ℕ} 0 1 = cc in absurd (omega arith)
-
--- So is a call that measures.
-pub unnamed-length : (o : Origin) (f : Frame) (a : Answer ℕ) → a ≡ through length (sentDraft o f)
-    → Exactly (a ≡ refused 17) ((o ≡ Live) × (frameKind f ≡ Standard))
-unnamed-length o f a p = (
-  (λ e. of-line (refused 17) (lengths-exactly o f a (refused 17) p .0 e) refl),
-  (λ m. lengths-exactly o f a (refused 17) p .1 (notMeasured (sender-missing o (frameKind f) .1 m))),
-)
-  where
-    of-line : (a : Answer ℕ) → LengthJudged o f a → a ≡ refused 17 → (o ≡ Live) × (frameKind f ≡ Standard)
-    of-line a (notMeasured n) e = sender-missing o (frameKind f) .0 n
-    of-line a (tooLong m n) e = let z : _≡_ {A = ℕ} 2 17 = cc in absurd (omega arith)
-    of-line a (takes m l) e = let z : _≡_ {A = ℕ} 0 1 = cc in absurd (omega arith)

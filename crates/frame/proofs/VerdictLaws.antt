@@ -16,13 +16,13 @@ use Rattle.lists.proofs.Tests.{within-yes, within-true, none-drop}
 use Rattle.frame.specs.Flags.{flagless, kindOf, startFlag, candidateOf}
 use Rattle.frame.specs.Stuffing.{Unstuffed, badEscape, bytes, prepend, unstuff, isStuffed}
 use Rattle.frame.specs.Checksum.{sumFrom, checksum}
-use Rattle.frame.specs.Frame.{Frame, standard, extended, contentsOf, frameKind, addressesOf, payload}
+use Rattle.frame.specs.Frame.{Frame, standard, extended, contentsOf, frameKind, addressesOf, payload, frameOf}
 use Rattle.frame.specs.Verdict.{Verdict, addressCount, contentsIn, lastOf, frameIn, judgeBytes, judge, bodyOf}
 use Rattle.frame.specs.Verdict.{isTerminated, verdict}
 use Rattle.answer.specs.Answer.{result, refused}
 use Rattle.answer.specs.Draft.{draftOut}
 use Rattle.frame.specs.Answers.{outlineOf, judgeAnswer, readAnswer, readOut}
-use Rattle.frame.specs.Private.{isBounded, frameOf, headerKind, headed, readAs, scanFrom, unstuffedBytes, SoundAt}
+use Rattle.frame.specs.Private.{isBounded, headerKind, headed, readAs, scanFrom, unstuffedBytes, SoundAt}
 use Rattle.frame.specs.Private.{Unescaped, UnescapedAfter, Examines, judgeWhole, ExaminesWhole, scanOf}
 use Rattle.frame.specs.Private.{WithoutHeader, EndsPlain}
 use Rattle.frame.specs.declared.Kind.{Kind}
@@ -170,7 +170,13 @@ module _ (kind : Kind) (body : List ℕ) (limit : length body ≤ 118) where
               (checksum (contentsIn (addressCount kind) u)) q,
         )
 
--- ---- the verdict on a frame's own bytes
+-- ---- a frame's own bytes
+
+pub payload-length : (f : Frame) → length (payload f) ≡ length (addressesOf f) + length (contentsOf f) + 1
+unfolding payload
+payload-length f =
+    let c = contentsOf f in
+    omega (arith, length-append (addressesOf f) (c ++ (checksum c ∷ [])), length-append c (checksum c ∷ []))
 
 pub judge-payload : (f : Frame) → judgeBytes (frameKind f) (bytes (payload f)) ≡ result f
 unfolding judgeBytes payload addressesOf contentsOf frameIn

@@ -6,36 +6,15 @@ use mathlib.Core.List.{List, _++_}
 use lib.Dec.{leb}
 use lib.ListN.{length, take, drop}
 use Rattle.lists.specs.Choice.{pick}
-use Rattle.answer.specs.Answer.{Answer, result, refused, through, andThen}
-use Rattle.answer.specs.Draft.{Draft, draftOut}
+use Rattle.answer.specs.Answer.{Answer, result, refused, through}
+use Rattle.answer.specs.Draft.{draftOut}
 use Rattle.answer.specs.Refusals.{numberOf}
-use Rattle.frame.specs.Frame.{Frame, standard, extended, contentsOf, wireOf}
+use Rattle.frame.specs.Frame.{Frame, standard, extended, contentsOf}
 use Rattle.frame.specs.Verdict.{Verdict, verdict}
-use Rattle.frame.specs.Origin.{named, admit}
+use Rattle.frame.specs.Origin.{admit}
 use Rattle.frame.specs.declared.Origin.{Origin}
-use Rattle.frame.specs.declared.Origin.the-variants.{Live, Trace}
-use Rattle.frame.specs.declared.WireLength.{WireLength}
-use Rattle.frame.specs.declared.WireLength.the-variants.{Bytes, Refused as NotSent}
 use Rattle.frame.specs.declared.Read.{Read}
 use Rattle.frame.specs.declared.Read.the-variants.{Standard, Extended, Refused}
-
--- ---- writing
-
--- The bytes of a frame, or refusal 2 where they are over 120.
-unfoldable pub frameDraft : Frame → Draft
-frameDraft f = pick (leb (length (wireOf f)) 120) (result (wireOf f)) (refused 2)
-
--- The bytes of a frame that is to go to an origin. Live, 17 comes first, for a frame that names no sender.
-abbrev pub sentDraft : Origin → Frame → Draft
-sentDraft Live f = andThen frameDraft (named f)
-sentDraft Trace f = frameDraft f
-
--- ---- measuring
-
--- How many bytes a frame takes on the wire, or a refusal.
-abbrev pub lengthMeans : WireLength → Answer ℕ
-lengthMeans (Bytes n) = result n
-lengthMeans (NotSent why) = refused (numberOf why)
 
 -- ---- reading
 

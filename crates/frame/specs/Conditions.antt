@@ -1,12 +1,12 @@
--- The conditions on a sound frame at an origin, each by itself, and the papers' tables of reading, writing and measuring
--- over them. None uses the functions `verdict` and `admit` or the steps by which the verdict is computed; the checksum
--- and the flags are those of frames.
+-- The conditions on a sound frame at an origin, each by itself, and the papers' table of reading over them. None uses
+-- the functions `verdict` and `admit` or the steps by which the verdict is computed; the checksum and the flags are those
+-- of frames.
 use Prim.Native.Nat.{ℕ, _+_, _≤_, _<_}
 use mathlib.Core.Path.{_≡_}
 use mathlib.Core.List.{List, [], _∷_, _++_}
 use lib.ListN.{length, getD, drop}
 use Rattle.frame.specs.Checksum.{checksum}
-use Rattle.frame.specs.Frame.{Frame, standard, contentsOf, frameKind, payload, wireOf}
+use Rattle.frame.specs.Frame.{Frame, standard, contentsOf, frameKind, payload}
 use Rattle.frame.specs.Verdict.{Verdict}
 use Rattle.answer.specs.Answer.{result, refused, Answer}
 use Rattle.frame.specs.Answers.{outlineOf, FrameOutline}
@@ -105,20 +105,3 @@ pub data ReadJudged (o : Origin) (w out : List ℕ) : Answer FrameOutline → Li
 -- A frame that may be written to an origin.
 abbrev pub Sendable : Origin → Frame → Type 0
 Sendable o f = SenderNamed o (frameKind f)
-
--- What writing a frame is answered, and the output afterwards: live 17 where it names no sender, then 2 where it is over
--- the limit, then 1, then its length.
-pub data WriteJudged (o : Origin) (f : Frame) (out : List ℕ) : Answer ℕ → List ℕ → Type 0 where
-  notSent : (Sendable o f → ⊥) → WriteJudged o f out (refused 17) out
-  overLimit : Sendable o f → (WithinLimit (wireOf f) → ⊥) → WriteJudged o f out (refused 2) out
-  noRoomToWrite : Sendable o f → WithinLimit (wireOf f) → length out < length (wireOf f)
-      → WriteJudged o f out (refused 1) out
-  written : Sendable o f → WithinLimit (wireOf f) → length (wireOf f) ≤ length out
-      → WriteJudged o f out (result (length (wireOf f))) (wireOf f ++ drop (length (wireOf f)) out)
-
--- What asking for a frame's length on the wire is answered: live 17 where it names no sender, then 2 where it is over
--- the limit, else its length.
-pub data LengthJudged (o : Origin) (f : Frame) : Answer ℕ → Type 0 where
-  notMeasured : (Sendable o f → ⊥) → LengthJudged o f (refused 17)
-  tooLong : Sendable o f → (WithinLimit (wireOf f) → ⊥) → LengthJudged o f (refused 2)
-  takes : Sendable o f → WithinLimit (wireOf f) → LengthJudged o f (result (length (wireOf f)))

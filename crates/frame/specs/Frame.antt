@@ -6,10 +6,17 @@ use Rattle.frame.specs.Checksum.{checksum}
 use Rattle.frame.specs.Flags.{startFlag, stopFlag}
 use Rattle.frame.specs.declared.Kind.{Kind}
 use Rattle.frame.specs.declared.Kind.the-variants.{Standard, Extended}
+use Rattle.frame.specs.declared.Header.{Header}
+use Rattle.frame.specs.declared.Header.the-variants.{Plain, Addressed}
 
 pub data Frame : Type 0 where
   standard : (contents : List ℕ) → Frame
   extended : (to from : ℕ) (contents : List ℕ) → Frame
+
+-- The frame of a header and contents.
+abbrev pub frameOf : Header → List ℕ → Frame
+frameOf Plain c = standard c
+frameOf (Addressed to from) c = extended to from c
 
 unfoldable pub contentsOf : Frame → List ℕ
 contentsOf (standard c) = c

@@ -7,13 +7,12 @@ use lib.Dec.{leb, ltb, eqb}
 use lib.Bits.{bitXor}
 use lib.ListN.{length, getD, take, drop}
 use Rattle.lists.specs.Choice.{pick, within, noneOf, countOf, countBefore}
-use Rattle.lists.specs.Splice.{splice}
 use Rattle.answer.specs.Refusals.{numberOf}
-use Rattle.frame.specs.Stuffing.{isStuffed, stuffByte, unstuff, Unstuffed, badEscape, bytes, prepend}
-use Rattle.frame.specs.Flags.{flagless, startFlag, stopFlag, isStart, isFlag}
+use Rattle.frame.specs.Stuffing.{isStuffed, unstuff, Unstuffed, badEscape, bytes, prepend}
+use Rattle.frame.specs.Flags.{flagless, stopFlag, isStart, isFlag}
 use Rattle.frame.specs.Leading.{isStopAt}
 use Rattle.frame.specs.Checksum.{sumFrom, checksum}
-use Rattle.frame.specs.Frame.{Frame, standard, extended, wireOf}
+use Rattle.frame.specs.Frame.{frameOf}
 use Rattle.frame.specs.Verdict.{Verdict, judge, addressCount, lastOf}
 use Rattle.answer.specs.Answer.{result, refused, Answer}
 use Rattle.frame.specs.Answers.{standardOutline, extendedOutline, FrameOutline}
@@ -23,8 +22,6 @@ use Rattle.frame.specs.declared.Kind.{Kind}
 use Rattle.frame.specs.declared.Kind.the-variants.{Standard, Extended}
 use Rattle.frame.specs.declared.Header.{Header}
 use Rattle.frame.specs.declared.Header.the-variants.{Plain, Addressed}
-use Rattle.frame.specs.declared.measure.Measured.{Measured}
-use Rattle.frame.specs.declared.measure.Measured.the-variants.{TooLong, Fits}
 use Rattle.frame.specs.declared.candidate.Next.{Next}
 use Rattle.frame.specs.declared.candidate.Next.the-variants.{End, Bad, Byte}
 use Rattle.frame.specs.declared.candidate.Scan.{Scan}
@@ -36,13 +33,6 @@ use Rattle.frame.specs.declared.candidate.Addresses.the-variants.{Broken
 use Rattle.frame.specs.declared.candidate.Examined.{Examined}
 use Rattle.frame.specs.declared.candidate.Examined.the-variants.{Unsound, Sound}
 
--- ---- writing
-
--- The frame of a header and contents.
-abbrev pub frameOf : Header → List ℕ → Frame
-frameOf Plain c = standard c
-frameOf (Addressed to from) c = extended to from c
-
 abbrev pub headerKind : Header → Kind
 headerKind Plain = Standard
 headerKind (Addressed to from) = Extended
@@ -51,23 +41,6 @@ headerKind (Addressed to from) = Extended
 abbrev pub headed : Header → Unstuffed → Unstuffed
 headed Plain r = r
 headed (Addressed to from) r = prepend to (prepend from r)
-
--- The start flag and the stuffed addresses.
-abbrev pub headerWire : Header → List ℕ
-headerWire Plain = startFlag Standard ∷ []
-headerWire (Addressed to from) = startFlag Extended ∷ (stuffByte to ++ stuffByte from)
-
--- What was measured of the frame of a header and contents.
-abbrev pub Measures : Header → List ℕ → Measured → Type 0
-Measures h c TooLong = 120 < length (wireOf (frameOf h c))
-Measures h c (Fits sum escapes len) =
-    (sum ≡ checksum c) × (escapes ≡ countOf isStuffed c) × (len ≡ length (wireOf (frameOf h c))) × (len ≤ 120)
-
--- Bytes put in at an index, and at most one more, which whoever writes there next writes over.
-abbrev pub PutPair : List ℕ → ℕ → List ℕ → List ℕ → Type 0
-PutPair out at w last = (more : List ℕ) × (length (w ++ more) ≡ 2) × (last ≡ splice out at (w ++ more))
-
--- ---- reading
 
 -- What is answered of a header and a number of contents bytes.
 abbrev pub readAs : Header → ℕ → Answer FrameOutline

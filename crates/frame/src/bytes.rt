@@ -3,18 +3,12 @@ ghost use mathlib.Core.Path.{_≡_};
 ghost use mathlib.Core.List.{_++_};
 ghost use Prim.Native.Nat.{_+_, _≤_};
 ghost use lib.ListN.{length, take, drop};
-ghost use Rattle.lists.specs.Choice.{pick, within, noneOf, countOf};
+ghost use Rattle.lists.specs.Choice.{pick, within, noneOf};
 ghost use Rattle.frame.specs.Checksum.{checksum};
 
 // What one pass over bytes finds: whether none lies between two values, and their exclusive or.
 pub(crate) struct Looked {
     pub clear: bool,
-    pub sum: u8,
-}
-
-// What a pass that counts finds: how many bytes lie between two values, and the exclusive or of all.
-pub(crate) struct Counted {
-    pub count: u8,
     pub sum: u8,
 }
 
@@ -49,24 +43,6 @@ fn see(seen: u8, b: u8, low: u8, high: u8) -> u8
         return seen;
     }
     1
-}
-
-// How many bytes lie between two values, both included, and the exclusive or of all, in one pass. A number of eight bits
-// is counted faster than a wider one.
-pub(crate) fn count_within(s: &[u8], low: u8, high: u8) -> Counted
-    requires { ⌜ length (now s) ≤ 255 ⌝ }
-    ensures { λ r. ⌜ r .count ≡ countOf (within low high) (now (s .entry)) ⌝ }
-    ensures { λ r. ⌜ r .sum ≡ checksum (now (s .entry)) ⌝ }
-{
-    let mut count: u8 = 0;
-    let mut sum: u8 = 0;
-    let mut i: usize = 0;
-    while i < s.len() {
-        count = count + lists::mark(s[i], low, high);
-        sum = sum ^ s[i];
-        i += 1;
-    }
-    Counted { count, sum }
 }
 
 // Brings `count` bytes that stand after two others to the front. With a fixed distance the compiler moves many at once.

@@ -27,7 +27,7 @@ pub fn is_flag(b: u8) -> bool
 }
 
 // Whether a byte is sent as two between the flags.
-pub(crate) fn is_stuffed(b: u8) -> bool
+pub fn is_stuffed(b: u8) -> bool
     ensures { λ r. ⌜ r ≡ isStuffed b ⌝ }
 {
     if EXTENDED_START <= b {

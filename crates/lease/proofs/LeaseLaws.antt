@@ -19,8 +19,8 @@ use Rattle.frame.specs.Address.{inRange}
 use Rattle.frame.specs.Stuffing.{isStuffed, stuff, stuffByte}
 use Rattle.frame.specs.Checksum.{sumFrom}
 use Rattle.frame.specs.Frame.{wireOf, payload, addressesOf, contentsOf, extended}
-use Rattle.frame.specs.Answers.{frameDraft}
-use Rattle.frame.proofs.WireLaws.{draft-fits}
+use Rattle.writer.specs.Answers.{frameDraft}
+use Rattle.writer.proofs.WireLaws.{draft-fits}
 use Rattle.lease.specs.Lease.{LeaseCall, hold, release, stop, addressOf, tokenOf, owns, stopFrame, answerOf}
 use Rattle.lease.specs.Lease.{tableAnswer, tableLeft, tableOf, lentAnswer, lentLeft, lentAfter}
 use Rattle.lease.specs.Answers.{writtenLength, outAfter}

@@ -166,7 +166,7 @@ fn write_stop(address: u32, token: u64, held: u64, out: &mut [u8]) -> Written
         return Written::Refused(Refusal::NotHolder);
     }
     let to = address as u8;
-    let written = frame::write_extended_number(to, 0x00, TERMINATE, TERMINATE_WIDTH, out);
+    let written = writer::write_extended_number(to, 0x00, TERMINATE, TERMINATE_WIDTH, out);
     match written {
         Written::Length(n) => Written::Length(n),
         // The frame is within the longest that is allowed, so that only room can lack.

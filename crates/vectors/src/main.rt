@@ -112,7 +112,7 @@ fn run_between(operation: usize, first: u8, second: u8, bytes: &[u8]) {
     match operation {
         operations::EXTENDED => wire::print_extended(first, second, bytes),
         operations::EXTENDED_LENGTH => {
-            wire::print_length(frame::extended_length(first, second, bytes));
+            wire::print_length(writer::extended_length(first, second, bytes));
         }
         operations::INSIDE => commands::print_numbered(
             commands::INSIDE,

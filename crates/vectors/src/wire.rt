@@ -7,7 +7,7 @@ use answer::Written;
 use command::entries;
 use frame::Origin;
 use frame::Read;
-use frame::WireLength;
+use writer::WireLength;
 
 // A frame that is read is written again from what was read, to where it came from.
 pub(crate) fn read(origin: Origin, wire: &[u8]) {
@@ -58,19 +58,19 @@ pub(crate) fn print_number(bytes: &[u8]) {
 pub(crate) fn print_standard(origin: Origin, contents: &[u8]) {
     print::say(print::WRITTEN, 0, 0, 0);
     let mut room = io::buffer();
-    let written = frame::write_standard(origin, contents, &mut room);
+    let written = writer::write_standard(origin, contents, &mut room);
     print_written(written, &room);
 }
 
 pub(crate) fn print_extended(to: u8, from: u8, contents: &[u8]) {
     print::say(print::WRITTEN, 0, 0, 0);
     let mut room = io::buffer();
-    let written = frame::write_extended(to, from, contents, &mut room);
+    let written = writer::write_extended(to, from, contents, &mut room);
     print_written(written, &room);
 }
 
 pub(crate) fn print_standard_length(origin: Origin, contents: &[u8]) {
-    print_length(frame::standard_length(origin, contents));
+    print_length(writer::standard_length(origin, contents));
 }
 
 // How many bytes a frame takes on the wire, or its refusal.

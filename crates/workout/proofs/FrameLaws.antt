@@ -13,9 +13,9 @@ use Rattle.frame.specs.Address.{inRange}
 use Rattle.frame.specs.Stuffing.{stuff}
 use Rattle.frame.specs.Checksum.{checksum}
 use Rattle.frame.specs.Frame.{extended, contentsOf, addressesOf, payload, wireOf}
-use Rattle.frame.specs.Answers.{frameDraft}
-use Rattle.frame.proofs.StuffingLaws.{stuff-between}
-use Rattle.frame.proofs.WireLaws.{draft-fits}
+use Rattle.writer.specs.Answers.{frameDraft}
+use Rattle.writer.proofs.StuffingLaws.{stuff-between}
+use Rattle.writer.proofs.WireLaws.{draft-fits}
 use Rattle.workout.specs.Limits.{Limits}
 use Rattle.workout.specs.Workout.{Programmed, withinLimits, workoutBytes, workoutFrame}
 use Rattle.workout.specs.Answers.{workoutDraft, workoutFrameDraft}

@@ -200,7 +200,7 @@ fn write_frame_within(limits: Limits, address: u32, workout: Workout, out: &mut 
         return Written::Refused(Refusal::OutOfLimits);
     }
     let contents = contents_of(workout);
-    frame::write_extended(address as u8, HOST, &contents, out)
+    writer::write_extended(address as u8, HOST, &contents, out)
 }
 
 fn contents_of(workout: Workout) -> [u8; 23]

@@ -1,6 +1,6 @@
 use mathlib.Core.Path.{subst}
-use Rattle.frame.specs.Answers.{lengthMeans}
-use Rattle.frame.specs.declared.WireLength.{WireLength}
+use Rattle.writer.specs.Answers.{lengthMeans}
+use Rattle.writer.specs.declared.WireLength.{WireLength}
 use Rattle.exports.specs.Answers.{WriteShort}
 use borrow.Author.Needs.{needs}
 use Rattle.exports.proofs.packed.of_length.Statement.{statement}
