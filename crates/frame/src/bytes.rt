@@ -44,15 +44,3 @@ fn see(seen: u8, b: u8, low: u8, high: u8) -> u8
     }
     1
 }
-
-// Brings `count` bytes that stand after two others to the front. With a fixed distance the compiler moves many at once.
-pub(crate) fn shift_two(s: &mut [u8], count: usize)
-    requires { ⌜ count + 2 ≤ length (now s) ⌝ }
-    ensures { λ r. ⌜ now (s .exit) ≡ take count (drop 2 (now (s .entry))) ++ drop count (now (s .entry)) ⌝ }
-{
-    let mut k: usize = 0;
-    while k < count {
-        s[k] = s[k + 2];
-        k += 1;
-    }
-}

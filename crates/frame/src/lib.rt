@@ -228,7 +228,7 @@ fn bring_contents(s: &mut [u8], start: usize, len: usize)
             return;
         }
         if start == 2 {
-            bytes::shift_two(s, len);
+            lists::shift(s, 2, len);
             return;
         }
     }

@@ -1,15 +1,11 @@
 -- The whole answer to a call: the enum, the position and the array that is left tell the outcome, and the array beside an
 -- answer by value is the outcome's contents and then zeros.
-use mathlib.Core.Path.{_≡_, refl, sym, ap, _∙_}
-use mathlib.Core.List.{List, [], _∷_, _++_, append-assoc, append-nil}
-use native.Mathlib.Numerals.{add-one}
+use mathlib.Core.Path.{_≡_, refl, ap}
+use mathlib.Core.List.{List}
 use native.Mathlib.Omega.{arith}
-use Prim.Native.Nat.{ℕ, suc, _+_, _-_, _≤_, _<_}
-use lib.Dec.{leb}
-use lib.ListN.{length, take, set, replicate}
-use lib.Seq.{take-at, take-all, take-suc-set, length-take-le}
-use borrow.Author.Tests.{leb-true, leb-false}
-use Rattle.lists.proofs.Cases.{by-bool}
+use Prim.Native.Nat.{ℕ, _-_}
+use lib.ListN.{length, take, replicate}
+use lib.Seq.{take-at}
 use Rattle.answer.specs.Answer.{result, refused}
 use Rattle.framing.specs.Reference.{Call, byte, finish}
 use Rattle.framing.specs.Located.{Located, unlocated, located, answerIn, positionIn, locatedBy}
@@ -52,43 +48,6 @@ call-whole r finish =
     located-whole (turnHeld h finish .answer) (r .state .start) (turnHeld h finish .next .bytes) (held-whole h finish)
 
 -- ---- the array beside an answer
-
--- zeros after the first bytes, one by one
-room-left : (len : ℕ) (s : List ℕ) → length s ≡ capacity → capacity - len ≡ capacity - length (take len s)
-room-left len s h =
-    by-bool (leb len capacity)
-    (λ y. let l : len ≤ capacity = leb-true len capacity y in
-    omega (arith, length-take-le len s (omega (arith, h))))
-    (λ n. omega (
-      arith,
-      leb-false len capacity n,
-      h,
-      ap length
-          (take-all len s (omega (arith, leb-false len capacity n))),
-    ))
-
-pub padded-none : (len : ℕ) (s : List ℕ) → length s ≡ capacity
-    → take len s ++ replicate (capacity - len) 0 ≡ padded (take len s)
-padded-none len s h = ap (λ (n : ℕ). take len s ++ replicate n 0) (room-left len s h)
-
-pub padded-more : (i : ℕ) (s all : List ℕ) → length s ≡ capacity → i < capacity
-    → take i s ++ replicate (capacity - i) 0 ≡ all
-    → take (i + 1) (set s i 0) ++ replicate (capacity - (i + 1)) 0 ≡ all
-padded-more i s all h l e =
-    let n : capacity - i ≡ suc (capacity - (i + 1)) = omega arith in
-    let f : take (i + 1) (set s i 0) ≡ take i s ++ 0 ∷ [] = rw (add-one, take-suc-set s i 0 (omega arith)) in
-    ap (λ (x : List ℕ). x ++ replicate (capacity - (i + 1)) 0) f
-    ∙ append-assoc (take i s) (0 ∷ []) (replicate (capacity - (i + 1)) 0)
-    ∙ ap (λ (m : ℕ). take i s ++ replicate m 0) (sym n)
-    ∙ e
-
-pub padded-all : (i : ℕ) (s all : List ℕ) → length s ≡ capacity → capacity ≤ i
-    → take i s ++ replicate (capacity - i) 0 ≡ all → s ≡ all
-padded-all i s all h l e =
-    let n : capacity - i ≡ 0 = omega arith in
-    sym (take-all i s (omega arith)) ∙ sym (append-nil (take i s))
-    ∙ sym (ap (λ (m : ℕ). take i s ++ replicate m 0) n)
-    ∙ e
 
 -- the first bytes of the array that is left are the outcome's contents
 pub beside-is : (o : Outcome) (bytes : List ℕ) → outcomeOf (summaryOf o) bytes ≡ o

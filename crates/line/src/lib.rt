@@ -365,10 +365,6 @@ fn first_of(bytes: [u8; 118], len: usize) -> [u8; 118]
     ensures { λ r. ⌜ r ≡ padded (take len bytes) ⌝ }
 {
     let mut contents = bytes;
-    let mut i = len;
-    while i < contents.len() {
-        contents[i] = 0;
-        i += 1;
-    }
+    lists::clear_from(&mut contents, len);
     contents
 }

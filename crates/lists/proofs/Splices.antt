@@ -1,15 +1,18 @@
 -- The laws of a list put into another at an index.
-use Prim.Native.Nat.{ℕ, _+_, _≤_, _<_, _-_}
+use Prim.Native.Nat.{ℕ, suc, _+_, _≤_, _<_, _-_}
 use mathlib.Core.Path.{_≡_, refl, sym, ap, _∙_}
 use mathlib.Core.List.{List, [], _∷_, _++_, append-assoc, append-nil}
 use native.Mathlib.Nat.{add-zero, add-assoc}
 use native.Mathlib.Numerals.{add-one}
 use native.Mathlib.Omega.{arith}
 use lib.ListN.{length, getD, take, drop, set, length-append, take-append-drop, length-drop, length-set}
-use lib.ListN.{drop-of-length-le}
+use lib.Dec.{leb}
+use lib.ListN.{drop-of-length-le, replicate}
 use lib.Seq.{set-split, take-at, take-all, drop-drop, length-take-le, drop-append-add, paste, paste-suc, take-length}
-use borrow.Author.Tests.{le-leb, lt-leb}
-use Rattle.lists.specs.Splice.{splice, copied}
+use lib.Seq.{take-suc-set}
+use borrow.Author.Tests.{le-leb, lt-leb, leb-true, leb-false}
+use Rattle.lists.proofs.Cases.{by-bool}
+use Rattle.lists.specs.Splice.{splice, copied, shifted, cleared}
 
 pub splice-nil : (out : List ℕ) (at : ℕ) → splice out at [] ≡ out
 splice-nil out at = ap (λ (n : ℕ). take at out ++ drop n out) (add-zero at) ∙ take-append-drop at out
@@ -141,5 +144,43 @@ pub fits-copied : (s out last : List ℕ) (at : ℕ) → at + length s ≤ lengt
     → last ≡ copied out at s
 fits-copied s out last at h e = e ∙ sym (copied-fits s out _ at h refl)
 
+-- elements brought to the front where there are so many
+pub shifted-fits : (s last : List ℕ) (by count : ℕ) → by + count ≤ length s
+    → last ≡ take count (drop by s) ++ drop count s → last ≡ shifted s by count
+shifted-fits s last by count h e = e ∙ sym (simp (le-leb (by + count) (length s) h) refl)
+
+pub past-shifted : (s : List ℕ) (by count : ℕ) → length s < by + count → s ≡ shifted s by count
+past-shifted s by count h = simp (lt-leb (by + count) (length s) h)
+
 pub past-copied : (s out : List ℕ) (at : ℕ) → length out < at + length s → out ≡ copied out at s
 past-copied s out at h = simp (lt-leb (at + length s) (length out) h)
+
+-- ---- zeros from an index on
+
+-- a turn of a loop that clears one element after the other
+pub clear-more : (i : ℕ) (s all : List ℕ) → i < length s → take i s ++ replicate (length s - i) 0 ≡ all
+    → take (i + 1) (set s i 0) ++ replicate (length (set s i 0) - (i + 1)) 0 ≡ all
+clear-more i s all l e =
+    let n : length s - i ≡ suc (length (set s i 0) - (i + 1)) = omega (arith, l, length-set s i 0) in
+    let f : take (i + 1) (set s i 0) ≡ take i s ++ 0 ∷ [] = rw (add-one, take-suc-set s i 0 l) in
+    ap (λ (x : List ℕ). x ++ replicate (length (set s i 0) - (i + 1)) 0) f
+    ∙ append-assoc (take i s) (0 ∷ []) (replicate (length (set s i 0) - (i + 1)) 0)
+    ∙ ap (λ (m : ℕ). take i s ++ replicate m 0) (sym n)
+    ∙ e
+
+-- its beginning and its end
+pub clear-none : (from : ℕ) (s : List ℕ) → take from s ++ replicate (length s - from) 0 ≡ cleared s from
+clear-none from s =
+    let e : length s - from ≡ length s - length (take from s) =
+    by-bool (leb from (length s))
+    (λ y. omega (arith, length-take-le from s (leb-true from (length s) y)))
+    (λ n. let l = leb-false from (length s) n in
+    omega (arith, l, ap length (take-all from s (omega (arith, l))))) in
+    ap (λ (n : ℕ). take from s ++ replicate n 0) e
+
+pub clear-all : (i : ℕ) (s all : List ℕ) → length s ≤ i → take i s ++ replicate (length s - i) 0 ≡ all → s ≡ all
+clear-all i s all l e =
+    let n : length s - i ≡ 0 = omega arith in
+    sym (take-all i s l) ∙ sym (append-nil (take i s))
+    ∙ sym (ap (λ (m : ℕ). take i s ++ replicate m 0) n)
+    ∙ e

@@ -1,11 +1,12 @@
 // Definitions and laws on lists that the layers above share: a choice by a test, a test on every element, a list put
 // into another from an index on, the first element that passes a test, and a machine run on a list of calls.
 ghost use mathlib.Core.Path.{_≡_};
+ghost use mathlib.Core.List.{_++_};
 ghost use Prim.Native.Nat.{_+_, _%_, _≤_, _<_};
 ghost use lib.Dec.{leb};
-ghost use lib.ListN.{length, drop};
+ghost use lib.ListN.{length, take, drop};
 ghost use Rattle.lists.specs.Choice.{pick, within, noneOf, countBefore, inBlocks};
-ghost use Rattle.lists.specs.Splice.{splice, copied};
+ghost use Rattle.lists.specs.Splice.{splice, copied, shifted, cleared};
 
 // How many bytes are tested together, and how many of those that are left.
 const BLOCK: usize = 32;
@@ -121,6 +122,42 @@ fn copy_each(s: &[u8], out: &mut [u8], at: usize)
     let mut i: usize = 0;
     while i < s.len() {
         out[at + i] = s[i];
+        i += 1;
+    }
+}
+
+// Brings `count` bytes that stand after `by` others to the front, where there are so many. Where the distance is known
+// the compiler moves many at once.
+pub fn shift(s: &mut [u8], by: usize, count: usize)
+    ensures { λ r. ⌜ now (s .exit) ≡ shifted (now (s .entry)) by count ⌝ }
+{
+    if s.len() < by {
+        return;
+    }
+    if s.len() - by < count {
+        return;
+    }
+    shift_each(s, by, count)
+}
+
+fn shift_each(s: &mut [u8], by: usize, count: usize)
+    requires { ⌜ by + count ≤ length (now s) ⌝ }
+    ensures { λ r. ⌜ now (s .exit) ≡ take count (drop by (now (s .entry))) ++ drop count (now (s .entry)) ⌝ }
+{
+    let mut k: usize = 0;
+    while k < count {
+        s[k] = s[by + k];
+        k += 1;
+    }
+}
+
+// Sets every byte from an index on to zero.
+pub fn clear_from(s: &mut [u8], from: usize)
+    ensures { λ r. ⌜ now (s .exit) ≡ cleared (now (s .entry)) from ⌝ }
+{
+    let mut i = from;
+    while i < s.len() {
+        s[i] = 0;
         i += 1;
     }
 }

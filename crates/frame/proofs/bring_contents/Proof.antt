@@ -1,4 +1,4 @@
-use mathlib.Core.Path.{_≡_, sym, ap, _∙_}
+use mathlib.Core.Path.{_≡_, refl, sym, ap, _∙_}
 use Prim.Native.Nat.{ℕ, _+_, _-_, _≤_}
 use native.Mathlib.Omega.{arith}
 use mathlib.Core.Bool.{false}
@@ -7,6 +7,7 @@ use lib.ListN.{length, take, drop, length-drop, take-append-drop}
 use lib.Seq.{take-all}
 use Rattle.lists.specs.Splice.{splice}
 use Rattle.lists.proofs.Lists.{drop-take}
+use Rattle.lists.proofs.Splices.{shifted-fits}
 use Rattle.frame.specs.Stuffing.{unstuff}
 use Rattle.frame.specs.Private.{unstuffedBytes, isSound, lastAt}
 use Rattle.frame.proofs.StuffingLaws.{unstuff-shrinks}
@@ -57,8 +58,8 @@ returns c =
     (sym (take-append-drop (a .len) (a .s .now))
     ∙ ap (λ (k : ℕ). take (a .len) (drop k (a .s .now)) ++ drop (a .len) (a .s .now)) (sym (c .if2 .taken)))
 
-shift-two-requires : tie.Need-shift-two-requires
-shift-two-requires c κs = search needs
+shift-requires : tie.Need-shift-requires
+shift-requires c κs = search needs
 
 same-length : tie.Need-same-length
 same-length c = search needs
@@ -68,9 +69,10 @@ returns-2 c =
     let t = c .before .before .before .before in
     let s = t .before .before .before .before in
     let a = s .args in
-    shifted-plain (a .s .now) _ (a .start) (a .len) (s .pre .0)
-    (length-drop (a .start) (a .s .now) ∙ t .before .before .if1 .taken)
-    (c .before .before .shift-two .ensures
+    let one = t .before .before .if1 .taken in
+    let h : 2 + a .len ≤ length (a .s .now) = omega (arith, one, t .if3 .taken, s .pre .1) in
+    shifted-plain (a .s .now) _ (a .start) (a .len) (s .pre .0) (length-drop (a .start) (a .s .now) ∙ one)
+    (c .before .before .shift .ensures ∙ sym (shifted-fits (a .s .now) _ 2 (a .len) h refl)
     ∙ ap (λ (k : ℕ). take (a .len) (drop k (a .s .now)) ++ drop (a .len) (a .s .now)) (sym (t .if3 .taken)))
 
 sub-last-at : tie.Need-sub-last-at
@@ -122,7 +124,7 @@ bring-contents-spec =
     sub-if1
     add-if1
     returns
-    shift-two-requires
+    shift-requires
     same-length
     returns-2
     sub-last-at

@@ -1,4 +1,4 @@
-use mathlib.Core.Path.{refl, sym, ap, subst}
+use mathlib.Core.Path.{refl, sym, subst}
 use borrow.Author.Needs.{needs}
 use Rattle.candidate.specs.Holder.{holder, finishHeld}
 use Rattle.line.specs.Reader.{finishOf, lentReader, LentStepIs}

@@ -1,4 +1,4 @@
-use mathlib.Core.Path.{_≡_, refl, sym, subst}
+use mathlib.Core.Path.{refl, sym, subst}
 use native.Mathlib.Omega.{arith}
 use Rattle.frame.specs.Answers.{judgeAnswer}
 use Rattle.line.specs.Reader.{lentReader}

@@ -2,17 +2,17 @@ use mathlib.Core.Path.{_≡_, refl, ap, _∙_}
 use Prim.Native.Nat.{ℕ, _+_, _-_, _≤_}
 use native.Mathlib.Omega.{arith}
 use mathlib.Core.List.{_++_}
-use lib.ListN.{length, take, drop, getD, set, length-set}
+use lib.ListN.{length, take, drop, length-set}
 use Rattle.lists.proofs.Lists.{shift-more}
 use borrow.Author.Needs.{needs}
-use Rattle.frame.proofs.bytes.shift_two.Statement.{statement}
-use Rattle.frame.proofs.bytes.shift_two.Tie as tie
+use Rattle.lists.proofs.shift_each.Statement.{statement}
+use Rattle.lists.proofs.shift_each.Tie as tie
 
 abbrev Inv-loop : tie.InvT-loop
-Inv-loop s₀ count k₀ s k = (k ≤ count) × (length s ≡ length s₀) × (s ≡ take k (drop 2 s₀) ++ drop k s₀)
+Inv-loop s₀ by count k₀ s k = (k ≤ count) × (length s ≡ length s₀) × (s ≡ take k (drop by s₀) ++ drop k s₀)
 
 abbrev μ-loop : tie.MeasureT-loop
-μ-loop s₀ count k₀ s k = count - k
+μ-loop s₀ by count k₀ s k = count - k
 
 loop-holds : tie.Need-loop-holds Inv-loop μ-loop
 loop-holds c = (search needs, refl, refl)
@@ -35,13 +35,11 @@ loop-less c = search needs
 loop-again : tie.Need-loop-again Inv-loop μ-loop
 loop-again c =
     let l = c .before .before in
-    let a = l .before .args in
-    let n : l .loop .k + 2 ≡ 2 + l .loop .k = omega arith in (
+    let a = l .before .args in (
       search needs,
       length-set (l .loop .s) (l .loop .k) _ ∙ l .loop .inv .1,
-      ap (λ (m : ℕ). set (l .loop .s) (l .loop .k) (getD (l .loop .s) m 0)) n
-          ∙ shift-more (a .s .now) (l .loop .s) 2 (l .loop .k) (omega (arith, l .before .pre, c .before .loop-test .taken))
-          (l .loop .inv .2),
+      shift-more (a .s .now) (l .loop .s) (a .by) (l .loop .k)
+          (omega (arith, l .before .pre, c .before .loop-test .taken)) (l .loop .inv .2),
     )
 
 same-length : tie.Need-same-length Inv-loop μ-loop
@@ -52,10 +50,10 @@ returns c =
     let l = c .before in
     let a = l .before .args in
     let e : l .loop .k ≡ a .count = omega (arith, l .loop .inv .0, c .loop-test .left) in
-    l .loop .inv .2 ∙ ap (λ (k : ℕ). take k (drop 2 (a .s .now)) ++ drop k (a .s .now)) e
+    l .loop .inv .2 ∙ ap (λ (k : ℕ). take k (drop (a .by) (a .s .now)) ++ drop k (a .s .now)) e
 
-pub shift-two-spec : {M : Type 1} → statement M
-shift-two-spec =
+pub shift-each-spec : {M : Type 1} → statement M
+shift-each-spec =
     tie.close
     (tie.spec
     Inv-loop
