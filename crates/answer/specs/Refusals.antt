@@ -1,11 +1,11 @@
--- Document 01, "Refusal numbers", 16 of document 02's No. 7 and 17 of its No. 9: the number of each refusal. Every
--- meaning of an answer goes through it.
+-- Document 01, "Refusal numbers", and of document 02, 16 of No. 7, 17 of No. 9 and 22 of No. 3: the number of each
+-- refusal. Every meaning of an answer goes through it.
 use Prim.Native.Nat.{ℕ}
 use Rattle.answer.specs.declared.Refusal.{Refusal}
 use Rattle.answer.specs.declared.Refusal.the-variants.{NoRoom, TooLong, BadEscape, TooShort, BadChecksum}
 use Rattle.answer.specs.declared.Refusal.the-variants.{Truncated, BadCount, BadStatus, BadAddress, AlreadyHeld}
 use Rattle.answer.specs.declared.Refusal.the-variants.{NotHolder, OutOfLimits, NotWorkout, ZeroToken, Absent}
-use Rattle.answer.specs.declared.Refusal.the-variants.{Full, Unnamed, BadTable}
+use Rattle.answer.specs.declared.Refusal.the-variants.{Full, Unnamed, BadTable, BadCharacter}
 
 abbrev pub numberOf : Refusal → ℕ
 numberOf NoRoom = 1
@@ -26,3 +26,4 @@ numberOf Absent = 15
 numberOf Full = 16
 numberOf Unnamed = 17
 numberOf BadTable = 18
+numberOf BadCharacter = 22

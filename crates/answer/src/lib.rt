@@ -7,7 +7,7 @@ ghost use Rattle.answer.specs.Refusals.{numberOf};
 pub enum Refusal {
     // The output is shorter than the result.
     NoRoom,
-    // A frame over 120 bytes on the wire, or a reply's contents over 117.
+    // A frame over 120 bytes on the wire, a packet over 256, or a reply's contents over 117.
     TooLong,
     // F3 without 00 to 03 after it.
     BadEscape,
@@ -41,6 +41,8 @@ pub enum Refusal {
     Unnamed,
     // A lent lease table that is not 2,048 bytes long ("desk").
     BadTable,
+    // A byte of a packet that is not allowed at its place ("character").
+    BadCharacter,
 }
 
 // The answer to writing: how many bytes were written, or why none was.
@@ -73,6 +75,7 @@ impl Refusal {
             Refusal::Full => 16,
             Refusal::Unnamed => 17,
             Refusal::BadTable => 18,
+            Refusal::BadCharacter => 22,
         }
     }
 }

@@ -1,0 +1,5 @@
+pub mod Flags
+pub mod Packet
+pub mod Verdict
+pub mod Answers
+pub mod Conditions
