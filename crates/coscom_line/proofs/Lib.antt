@@ -1,0 +1,11 @@
+pub mod ReaderLaws
+pub mod ValueLaws
+pub mod FeedLaws
+pub mod RunLaws
+pub mod ChunkLaws
+pub mod OutcomeLaws
+pub mod Follows
+pub mod Calls
+pub mod ChunkCalls
+pub mod Consequences
+pub mod WrittenTold

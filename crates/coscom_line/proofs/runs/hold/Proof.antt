@@ -1,0 +1,60 @@
+use mathlib.Core.Path.{_≡_, sym}
+use native.Mathlib.Omega.{arith}
+use lib.ListN.{length}
+use lib.Seq.{length-take-le}
+use Rattle.coscom_line.specs.Outcome.{capacity}
+use Rattle.coscom_line.proofs.RunLaws.{kept-all, kept-first, full-run}
+use borrow.Author.Needs.{needs}
+use Rattle.coscom_line.proofs.runs.hold.Statement.{statement}
+use Rattle.coscom_line.proofs.runs.hold.Tie as tie
+
+sub-room : tie.Need-sub-room
+sub-room c = search needs
+
+copy-short-requires : tie.Need-copy-short-requires
+copy-short-requires c κs = search needs
+
+add-t11 : tie.Need-add-t11
+add-t11 c = search needs
+
+returns : tie.Need-returns
+returns c =
+    let i = c .before .before in
+    let p = i .before .before .before in
+    let a : length (p .args .bytes .now) ≡ capacity = search needs in
+    kept-all (p .args .run .now) (p .args .bytes .now) _ (p .args .len) a (omega (arith, i .before .if1 .taken))
+    (omega (arith, i .before .if1 .taken, i .if2 .taken))
+    (c .copy-short .ensures)
+
+slice-aggregate-copy-short : tie.Need-slice-aggregate-copy-short
+slice-aggregate-copy-short c = sym (length-take-le _ _ (omega (arith, c .before .if2 .left)))
+
+copy-short-requires-2 : tie.Need-copy-short-requires-2
+copy-short-requires-2 c κs = search needs
+
+returns-2 : tie.Need-returns-2
+returns-2 c =
+    let i = c .before .before .before in
+    let p = i .before .before .before in
+    let a : length (p .args .bytes .now) ≡ capacity = search needs in
+    kept-first (p .args .run .now) (p .args .bytes .now) _ (p .args .len) a (omega (arith, i .before .if1 .taken))
+    (omega (arith, i .if2 .left))
+    (c .copy-short2 .ensures)
+
+returns-3 : tie.Need-returns-3
+returns-3 c =
+    let p = c .before .before in
+    full-run (p .args .run .now) (p .args .bytes .now) (p .args .len) (c .if1 .left) (p .pre)
+
+pub hold-spec : {M : Type 1} → statement M
+hold-spec =
+    tie.close
+    (tie.spec
+    sub-room
+    copy-short-requires
+    add-t11
+    returns
+    slice-aggregate-copy-short
+    copy-short-requires-2
+    returns-2
+    returns-3)

@@ -1,0 +1,4 @@
+pub mod Outcome
+pub mod Reader
+pub mod Chunk
+pub mod Private
