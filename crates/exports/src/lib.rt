@@ -2,7 +2,7 @@
 // Document 01, "What the box does"; document 02, No. 9. The exported functions are live; those for traces stand in
 // another static library, `trace_exports`, over the functions that take an origin.
 mod line_state;
-mod packed;
+pub mod packed;
 
 use frame::Origin;
 use workout::Goal;

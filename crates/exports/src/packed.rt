@@ -47,7 +47,8 @@ fn pack(f: Fields) -> u64
     low + 0x1_0000_0000 * (f.len as u64)
 }
 
-fn refused(why: Refusal) -> u64
+// A refusal.
+pub fn refused(why: Refusal) -> u64
     ensures { λ r. ⌜ Tells r (refusalFields (numberOf why)) ⌝ }
 {
     pack(Fields {
@@ -59,7 +60,8 @@ fn refused(why: Refusal) -> u64
     })
 }
 
-fn result(kind: u8, to: u8, from: u8, len: u32) -> u64
+// A result, by its three bytes and its length.
+pub fn result(kind: u8, to: u8, from: u8, len: u32) -> u64
     ensures { λ r. ⌜ Tells r (resultFields kind to from len) ⌝ }
 {
     pack(Fields {

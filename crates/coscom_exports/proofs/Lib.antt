@@ -1,0 +1,5 @@
+pub mod LineStateLaws
+pub mod ToldLaws
+pub mod LineAnswerLaws
+pub mod PacketCalls
+pub mod LineCalls

@@ -1,0 +1,4 @@
+pub mod Answers
+pub mod LineState
+pub mod LineAnswers
+pub mod Told
