@@ -1,4 +1,4 @@
-// Runs the worked examples on standard input, at most 65,536 bytes, and prints a line for each. The head of `stdin`
+// Runs the worked examples on standard input, at most 131,072 bytes, and prints a line for each. The head of `stdin`
 // describes both. What it prints is tested and not proved: it is compared with what a plain Rust program prints. The
 // answers are those of the crates below.
 mod chunks;
@@ -6,6 +6,8 @@ mod commands;
 mod leases;
 mod lines;
 mod operations;
+mod packet_lines;
+mod packets;
 mod print;
 mod replies;
 mod wire;
@@ -16,7 +18,7 @@ use command::entries;
 use frame::Origin;
 
 fn main() {
-    let mut text = io::large_buffer();
+    let mut text = [0u8; 131072];
     let n = io::read_full(libc::STDIN_FILENO, &mut text);
     run_all(&text[..n]);
 }
@@ -60,6 +62,10 @@ fn run(operation: usize, arguments: &[u8]) {
         operations::CHUNKS_AT => chunks::run_counted(Origin::Trace, arguments),
         operations::LIVE_CHUNKS => chunks::run_new(Origin::Live, arguments),
         operations::LIVE_CHUNKS_AT => chunks::run_counted(Origin::Live, arguments),
+        operations::PACKET_READ => packets::read(arguments),
+        operations::PACKET_WRITE => packets::write(arguments),
+        operations::PACKETS => packet_lines::run_calls(false, arguments),
+        operations::PACKET_CHUNKS => packet_lines::run_calls(true, arguments),
         operations::NAMES => replies::print_names(),
         _ => run_on_bytes(operation, arguments),
     }

@@ -59,20 +59,28 @@ pub(crate) const DISTANCE_FRAME: usize = 27;
 
 pub(crate) const TIME_FRAME: usize = 28;
 
-pub(crate) const HOLD: usize = 29;
+pub(crate) const PACKET_READ: usize = 29;
 
-pub(crate) const RELEASE: usize = 30;
+pub(crate) const PACKET_WRITE: usize = 30;
 
-pub(crate) const STOP: usize = 31;
+pub(crate) const PACKETS: usize = 31;
 
-pub(crate) const OWN_BYTES: usize = 32;
+pub(crate) const PACKET_CHUNKS: usize = 32;
 
-pub(crate) const COUNT: usize = 33;
+pub(crate) const HOLD: usize = 33;
+
+pub(crate) const RELEASE: usize = 34;
+
+pub(crate) const STOP: usize = 35;
+
+pub(crate) const OWN_BYTES: usize = 36;
+
+pub(crate) const COUNT: usize = 37;
 
 pub(crate) fn named(name: &[u8]) -> usize {
     let names =
         b"frame contents standard extended number command inside step item status distance time lease line line-at chunks \
         chunks-at names standard-length extended-length live-frame live-standard live-length live-line live-line-at live-chunks \
-        live-chunks-at distance-frame time-frame hold release stop bytes";
+        live-chunks-at distance-frame time-frame packet-read packet-write packets packet-chunks hold release stop bytes";
     words::index_among(names, COUNT, name)
 }

@@ -94,9 +94,13 @@ pub(crate) const LENGTH: usize = 43;
 
 pub(crate) const NO_LENGTH: usize = 44;
 
-pub(crate) const UNKNOWN: usize = 45;
+pub(crate) const PACKET: usize = 45;
 
-pub(crate) const LINE_END: usize = 46;
+pub(crate) const UNIT: usize = 46;
+
+pub(crate) const UNKNOWN: usize = 47;
+
+pub(crate) const LINE_END: usize = 48;
 
 // Prints a form. In it #, $ and & stand for the first, second and third number, % and ^ for the two digits of the
 // first and of the second. The checker's work grows with the calls and the literals of each function, so all forms
@@ -110,7 +114,7 @@ pub(crate) fn say(form: usize, a: usize, b: usize, c: usize) {
         |toggle:#,previous:$,state:&,items:[|],written:| byte=| results=| states=\
         | workout=|distance:#,split:$,watts:&,written:|time:#,split:$,watts:&,written:\
         | hold=| release=| stop=| bytes=|done| step:| feed_in:| by=#| at=#| nonzero=#| taken=#| finish:\
-        | length=#| length=refused:#|?|\n";
+        | length=#| length=refused:#| kind=packet header=| len=# unit=|?|\n";
     fill(words::nth(forms, b'|', form), a, b, c);
 }
 

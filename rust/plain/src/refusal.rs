@@ -2,11 +2,12 @@
 
 /// The output is shorter than the result.
 pub const NO_ROOM: u8 = 1;
-/// Over 120 bytes on the wire, or over 117 bytes of written reply contents.
+/// Over 120 bytes on the wire, over 256 for a packet, or over 117 bytes of written
+/// reply contents.
 pub const LONG: u8 = 2;
 /// F3 without 00 to 03 after it.
 pub const ESCAPE: u8 = 3;
-/// Too few bytes for a frame, or an empty reply.
+/// Too few bytes for a frame or a packet, or an empty reply.
 pub const SHORT: u8 = 4;
 /// The checksum differs.
 pub const SUM: u8 = 5;
@@ -36,3 +37,5 @@ pub const FULL: u8 = 16;
 pub const UNNAMED: u8 = 17;
 /// The lent lease table is not 2,048 bytes.
 pub const TABLE_SIZE: u8 = 18;
+/// A byte of a packet is not allowed at its place.
+pub const CHARACTER: u8 = 22;

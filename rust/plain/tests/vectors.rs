@@ -7,6 +7,7 @@
 
 mod examples;
 mod numbers;
+mod treadmill;
 
 use std::collections::{HashMap, HashSet};
 use std::fs;
@@ -315,6 +316,87 @@ fn every_frame_of_the_sources_is_among_them() {
     }
 }
 
+/// What the answer to a packet of the sources is, by its header and data unit.
+fn packet_answer(wire: &str, header: &str, unit: &str) -> String {
+    let [header, data] = [header, unit].map(|text| hex(text.as_bytes()).concat());
+    let (len, wire) = (unit.len(), wire.replace(' ', ""));
+    format!("kind=packet header={header} len={len} unit={data} written={wire}")
+}
+
+#[test]
+fn every_packet_of_the_sources_is_among_them() {
+    let (examples, answers) = (text("stdin"), text("stdout"));
+    let (examples, answers) = (by_name(&examples), by_name(&answers));
+    for (name, wire, header, unit) in treadmill::PACKETS {
+        assert_eq!(examples[name], format!("packet-read 300 {wire}"), "{name}");
+        assert_eq!(answers[name], packet_answer(wire, header, unit), "{name}");
+    }
+}
+
+#[test]
+fn packets_that_are_read_are_written_again() {
+    let (examples, answers) = (text("stdin"), text("stdout"));
+    let answers = by_name(&answers);
+    let mut count = 0;
+    for (name, example) in by_name(&examples) {
+        let words: Vec<&str> = example.split(' ').collect();
+        if words[0] == "packet-read" && answers[name].starts_with("kind=packet") {
+            assert_eq!(
+                value(answers[name], "written="),
+                words[2..].concat(),
+                "{name}"
+            );
+            count += 1;
+        }
+    }
+    assert!(count >= 40, "{count} packets are read");
+}
+
+#[test]
+fn packets_of_the_sources_are_told() {
+    for (name, wire, header, unit) in treadmill::PACKETS {
+        let answer = packet_answer(wire, header, unit);
+        let told = printed(&format!("{name} packet-read 300 {wire}"));
+        assert_eq!(told, format!("{name} {answer}\n"));
+        let covered = hex([*header, *unit].concat().as_bytes()).join(" ");
+        let written = printed(&format!("{name} packet-write 300 {covered}"));
+        let wire = value(&answer, "written=");
+        assert_eq!(written, format!("{name} written={wire}\n"));
+    }
+}
+
+#[test]
+fn packets_are_told() {
+    let sound = "kind=packet header=533032 len=1 unit=77";
+    let cases = [
+        ("packet-read 300", "kind=refused code=6".to_string()),
+        (
+            "packet-read 1 01 53 30 32 77 30 30 17",
+            format!("{sound} written=0153303277303017"),
+        ),
+        (
+            "packet-read 0 01 53 30 32 77 30 30 17",
+            "kind=refused code=1".to_string(),
+        ),
+        ("packet-write 7 53 30 32", "written=01533032383117".into()),
+        ("packet-write 6 53 30 32", "written=refused:1".into()),
+        (
+            "packets 06 01 53 01 53 30 32 77 30 30 17 01 / 17",
+            format!("by=3 kind=refused code=6 by=10 {sound} finish: kind=refused code=6 finish:"),
+        ),
+        (
+            "packet-chunks 01 , , 53 01 53 30 32 77 30 , 30 17 06 / , 01",
+            format!(
+                "taken=1 taken=0 taken=2 kind=refused code=6 taken=5 taken=2 {sound} taken=1 \
+                 finish: taken=0 taken=1 finish: kind=refused code=6"
+            ),
+        ),
+    ];
+    for (call, answer) in cases {
+        assert_eq!(printed(&format!("it {call}")), format!("it {answer}\n"));
+    }
+}
+
 /// Whether a name is one of the source documents' examples: a capital letter, then
 /// a digit.
 fn is_of_the_sources(name: &str) -> bool {
@@ -329,7 +411,9 @@ fn no_other_is_told_of_the_sources() {
     let workouts = examples::WORKOUTS.iter().map(|example| example.0);
     let combined = numbers::COMBINED.iter().map(|example| example.0);
     let taken_apart = numbers::TAKEN_APART.iter().map(|example| example.0);
-    let tables = frames.chain(bare).chain(combined).chain(taken_apart);
+    let packets = treadmill::PACKETS.iter().map(|example| example.0);
+    let numbers = combined.chain(taken_apart);
+    let tables = frames.chain(bare).chain(numbers).chain(packets);
     let known: HashSet<&str> = tables.chain(workouts).collect();
     let examples = text("stdin");
     for name in by_name(&examples)

@@ -7,9 +7,10 @@ use std::process::ExitCode;
 use plain::command::{self, Cursor, Found};
 use plain::frame::{self, Origin, Read};
 use plain::line::{Answer, Line};
+use plain::packet_line::{self, PacketLine};
 use plain::reply::{self, Status};
 use plain::workout::{self, Goal, Workout};
-use plain::{lease, refusal};
+use plain::{lease, packet, refusal};
 
 /// Room for whatever the examples write.
 const ROOM: usize = 300;
@@ -70,9 +71,20 @@ fn run(line: &str) -> Option<String> {
         "status" => status_answer(&bytes(arguments)?)?,
         "names" => names_answer(),
         "number" => format!(" number={}", number(&bytes(arguments)?)),
-        _ => return None,
+        _ => packet_answer(operation, arguments)?,
     };
     Some(format!("{name}{answer}"))
+}
+
+/// The answer to an example of packets.
+fn packet_answer(operation: &str, arguments: &str) -> Option<String> {
+    match operation {
+        "packet-read" => packet_read_answer(arguments),
+        "packet-write" => packet_write_answer(arguments),
+        "packets" => packets_answer(arguments),
+        "packet-chunks" => packet_chunks_answer(arguments),
+        _ => None,
+    }
 }
 
 fn bytes(text: &str) -> Option<Vec<u8>> {
@@ -86,7 +98,15 @@ fn hex(bytes: &[u8]) -> String {
 
 /// What a writer leaves first in its output.
 fn written(write: impl FnOnce(&mut [u8]) -> Result<usize, u8>) -> Result<Vec<u8>, u8> {
-    let mut out = vec![0; ROOM];
+    written_into(ROOM, write)
+}
+
+/// The same with an output of so many bytes.
+fn written_into(
+    room: usize,
+    write: impl FnOnce(&mut [u8]) -> Result<usize, u8>,
+) -> Result<Vec<u8>, u8> {
+    let mut out = vec![0; room];
     let len = write(&mut out)?;
     out.truncate(len);
     Ok(out)
@@ -542,6 +562,93 @@ fn chunk_answers(line: &mut Line, chunk: &[u8]) -> String {
         answers += &format!(" taken={taken}{}", told(answer, line.contents()));
         rest = &rest[taken..];
         if taken == 0 || rest.is_empty() {
+            return answers;
+        }
+    }
+}
+
+/// The first word, a number of bytes, and the bytes after it.
+fn room_and_bytes(arguments: &str) -> Option<(usize, Vec<u8>)> {
+    let (room, rest) = arguments.split_once(' ').unwrap_or((arguments, ""));
+    Some((room.parse().ok()?, bytes(rest)?))
+}
+
+fn packet_read_answer(arguments: &str) -> Option<String> {
+    let (room, wire) = room_and_bytes(arguments)?;
+    let mut out = vec![0; room];
+    let read = match packet::read(&wire, &mut out) {
+        Ok(read) => read,
+        Err(code) => return Some(refusal_of(code)),
+    };
+    let unit = &out[..read.len];
+    let again = value(written(|out| packet::write(read.header, unit, out)));
+    Some(format!("{} written={again}", told_packet(read, unit)))
+}
+
+fn told_packet(read: packet::Read, unit: &[u8]) -> String {
+    let packet::Read { header, len } = read;
+    let (header, unit) = (hex(&header), hex(unit));
+    format!(" kind=packet header={header} len={len} unit={unit}")
+}
+
+fn packet_write_answer(arguments: &str) -> Option<String> {
+    let (room, rest) = room_and_bytes(arguments)?;
+    let &[letter, tens, ones, ref unit @ ..] = &rest[..] else {
+        return None;
+    };
+    let header = [letter, tens, ones];
+    let wire = written_into(room, |out| packet::write(header, unit, out));
+    Some(writing_answer(wire))
+}
+
+/// The answers of a packet reader that gets single bytes and is finished after each
+/// group.
+fn packets_answer(arguments: &str) -> Option<String> {
+    let mut line = PacketLine::new();
+    let group = |group| {
+        let mut answers = String::new();
+        for (by, byte) in bytes(group)?.into_iter().enumerate() {
+            if let Some(answer) = line.feed(byte) {
+                answers += &format!(" by={by}{}", told_of(answer, line.unit()));
+            }
+        }
+        Some(answers + &packets_finished(&mut line))
+    };
+    arguments.split('/').map(group).collect()
+}
+
+fn packets_finished(line: &mut PacketLine) -> String {
+    let last = line.finish();
+    let last = last.map(|answer| told_of(answer, line.unit()));
+    format!(" finish:{}", last.unwrap_or_default())
+}
+
+fn told_of(answer: packet_line::Answer, unit: &[u8]) -> String {
+    answer.map_or_else(refusal_of, |read| told_packet(read, unit))
+}
+
+/// The answers of a packet reader that gets chunks and is finished after each group of
+/// them.
+fn packet_chunks_answer(arguments: &str) -> Option<String> {
+    let mut line = PacketLine::new();
+    let group = |group: &str| {
+        let chunk = |chunk| Some(packet_chunk_answers(&mut line, &bytes(chunk)?));
+        let calls: String = group.split(',').map(chunk).collect::<Option<_>>()?;
+        Some(calls + &packets_finished(&mut line))
+    };
+    arguments.split('/').map(group).collect()
+}
+
+/// The answers to a chunk, and to what a call did not take of it.
+fn packet_chunk_answers(line: &mut PacketLine, chunk: &[u8]) -> String {
+    let mut answers = String::new();
+    let mut rest = chunk;
+    loop {
+        let (taken, answer) = line.feed_chunk(rest);
+        let told = answer.map(|answer| told_of(answer, line.unit()));
+        answers += &format!(" taken={taken}{}", told.unwrap_or_default());
+        rest = &rest[taken..];
+        if rest.is_empty() {
             return answers;
         }
     }
