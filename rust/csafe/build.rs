@@ -1,7 +1,7 @@
-//! Makes the two proved static libraries with `rt staticlib` and links them.
+//! Makes the three proved static libraries with `rt staticlib` and links them.
 //!
-//! Where `CSAFE_STATICLIB` names a directory with a ready `libexports.a` and `libtrace_exports.a`, those are linked and
-//! `rt` is not run.
+//! Where `CSAFE_STATICLIB` names a directory with a ready `libexports.a`, `libtrace_exports.a` and
+//! `libcoscom_exports.a`, those are linked and `rt` is not run.
 
 use std::env;
 use std::fs;
@@ -9,8 +9,8 @@ use std::io::{ErrorKind, Write};
 use std::path::{Path, PathBuf};
 use std::process::{exit, Command, Stdio};
 
-/// The crates whose archives are linked: that of the live line, and that of stored traces.
-const CRATES: [&str; 2] = ["exports", "trace_exports"];
+/// The crates whose archives are linked: that of the live line, that of stored traces, and that of treadmill packets.
+const CRATES: [&str; 3] = ["exports", "trace_exports", "coscom_exports"];
 const READY_ARCHIVES: &str = "CSAFE_STATICLIB";
 
 /// The target that the kit compiles for: processor, system and the bits of a pointer.
@@ -108,7 +108,7 @@ fn prove(root: &Path, name: &str) {
         Ok(output) => output,
         Err(error) if error.kind() == ErrorKind::NotFound => stop(&format!(
             "the program `rt` is not on the path. Install the Rattle toolchain, or set {READY_ARCHIVES} to a directory that has {}.",
-            CRATES.map(archive_of).join(" and ")
+            CRATES.map(archive_of).join(", ")
         )),
         Err(error) => stop(&format!("`{command}` could not be started: {error}.")),
     };

@@ -1,13 +1,15 @@
 /*
- * CSAFE frames of a live line and of stored traces, programmed workouts and machine leases.
+ * CSAFE frames of a live line and of stored traces, programmed workouts, machine leases and treadmill packets.
  *
- * Link target/staticlib/libexports.a, which `rt staticlib exports` makes. The functions for stored traces, at the end,
- * stand in target/staticlib/libtrace_exports.a, which `rt staticlib trace_exports` makes.
+ * Link target/staticlib/libexports.a, which `rt staticlib exports` makes. Two kinds of functions, at the end, stand in
+ * libraries of their own: those for stored traces in target/staticlib/libtrace_exports.a, which
+ * `rt staticlib trace_exports` makes, and those for treadmill packets in target/staticlib/libcoscom_exports.a, which
+ * `rt staticlib coscom_exports` makes.
  *
  * A slice is a pointer and a length. Every function takes any numbers and any slices, returns, and answers one
- * 64-bit number: a result or a refusal. A refusal changes no lent byte, but that a line reader that is not full goes
- * on, and that every call of one sets the numbers that it answers with. After a result the bytes of the output past it
- * are as they were.
+ * 64-bit number: a result or a refusal. A refusal changes no lent byte, but that a packet reader, and a line reader
+ * that is not full, goes on, and that every call of one sets the numbers that it answers with. After a result the bytes
+ * of the output past it are as they were.
  *
  * The slices and numbers that are lent to one call must not overlap, and nobody else may access them during the call:
  * no thread, and where they are in shared memory or a mapped file no other process. The functions take no lock. The
@@ -55,6 +57,15 @@ extern "C" {
 /* The bytes of a lease table. */
 #define CSAFE_TABLE_LEN 2048
 
+/* The most bytes of a treadmill packet on the wire, its flags included. */
+#define CSAFE_PACKET_LIMIT 256
+
+/* The most bytes of a packet's data unit. An output of this length has room for every packet that is read. */
+#define CSAFE_UNIT_LIMIT 249
+
+/* The bytes of a packet reader. */
+#define CSAFE_PACKET_LINE_LEN 254
+
 /*
  * The numbers of the refusals that the functions below give. Each function's comment lists its own in order: the first
  * that holds is given. Any other number than CSAFE_OK is a refusal too.
@@ -62,11 +73,11 @@ extern "C" {
 enum {
     CSAFE_OK = 0,
     CSAFE_NO_ROOM = 1,        /* the output is shorter than the result */
-    CSAFE_TOO_LONG = 2,       /* the frame is over 120 bytes on the wire */
+    CSAFE_TOO_LONG = 2,       /* the frame is over 120 bytes on the wire, or the packet over 256 */
     CSAFE_BAD_ESCAPE = 3,     /* F3 is not followed by 00 to 03 */
-    CSAFE_TOO_SHORT = 4,      /* a checksum or an address is missing */
-    CSAFE_BAD_CHECKSUM = 5,   /* the checksum is not the one that the contents have */
-    CSAFE_TRUNCATED = 6,      /* not one frame from its start flag to its stop flag */
+    CSAFE_TOO_SHORT = 4,      /* a checksum or an address is missing, or a packet has under 5 bytes between its flags */
+    CSAFE_BAD_CHECKSUM = 5,   /* the checksum is not that of the contents, or of a packet's header and data unit */
+    CSAFE_TRUNCATED = 6,      /* not one frame or packet from its start flag to its stop flag */
     CSAFE_BAD_ADDRESS = 9,    /* the address is not one of 01 to FC */
     CSAFE_ALREADY_HELD = 10,  /* the address is held already */
     CSAFE_NOT_HOLDER = 11,    /* the token is 0 or not the holder's, or the address is free */
@@ -74,7 +85,8 @@ enum {
     CSAFE_ZERO_TOKEN = 14,    /* the token is 0 */
     CSAFE_FULL = 16,          /* the line reader takes no more bytes before it is finished */
     CSAFE_UNNAMED = 17,       /* a standard frame names no sender, so a live line takes none */
-    CSAFE_BAD_TABLE = 18      /* the lease table is not 2,048 bytes long */
+    CSAFE_BAD_TABLE = 18,     /* the lease table is not 2,048 bytes long */
+    CSAFE_BAD_CHARACTER = 22  /* a byte of a packet is not allowed at its place */
 };
 
 /*
@@ -88,7 +100,7 @@ enum {
 };
 
 /*
- * The layout of an answer:
+ * The layout of an answer of all functions but those for packets:
  *
  *   bits  0 to  7   the refusal's number, 0 for a result
  *   bits  8 to 15   the kind of the frame that was read, 2 where a line reader told nothing
@@ -98,6 +110,17 @@ enum {
  *
  * A refusal has its number and is 0 otherwise. Kind, destination and source are 0 for all functions that read no frame,
  * and the length is 0 for hold and release.
+ *
+ * The layout of an answer of the functions for packets:
+ *
+ *   bits  0 to  7   the refusal's number, 0 for a result
+ *   bits  8 to 15   the letter of the header that was read, as the byte that it is on the wire
+ *   bits 16 to 23   the byte of the header's first digit
+ *   bits 24 to 31   the byte of its second digit
+ *   bits 32 to 63   the length of the result: data unit read, or bytes written
+ *
+ * A refusal has its number and is 0 otherwise. Letter and digits are 0 where no packet was read. Where a packet reader
+ * told nothing, the whole answer is 0. It is not 0 where a packet is told, because a letter is not.
  */
 
 /* The refusal's number, CSAFE_OK for a result. */
@@ -114,6 +137,15 @@ static inline uint8_t csafe_from(uint64_t answer) { return (uint8_t)((answer >> 
 
 /* The length of the result. */
 static inline uint32_t csafe_length(uint64_t answer) { return (uint32_t)(answer >> 32); }
+
+/* The letter of the packet that was read, 0 where a packet reader told nothing. */
+static inline uint8_t csafe_letter(uint64_t answer) { return (uint8_t)((answer >> 8) & 0xFF); }
+
+/* The byte of the first digit in the header of the packet that was read. */
+static inline uint8_t csafe_tens(uint64_t answer) { return (uint8_t)((answer >> 16) & 0xFF); }
+
+/* The byte of the second digit in the header of the packet that was read. */
+static inline uint8_t csafe_ones(uint64_t answer) { return (uint8_t)((answer >> 24) & 0xFF); }
 
 /*
  * Writes nothing. A standard frame names no sender, so none goes out on a live line, and a program that asks for one is
@@ -295,6 +327,66 @@ uint64_t csafe_trace_read(const uint8_t *wire, size_t wire_len, uint8_t *out, si
  */
 uint64_t csafe_trace_feed(uint8_t bytes[CSAFE_LINE_LEN], uint64_t *state, uint64_t *counts, const uint8_t *input,
                           size_t input_len, uint64_t *taken, uint32_t *position);
+
+/*
+ * The functions for treadmill packets, of the coscom protocol. They stand in target/staticlib/libcoscom_exports.a, and
+ * a program that has no treadmill to speak to does without it.
+ *
+ * A packet is the start flag 01, a header, a data unit, a checksum and the stop flag 17. The header is a letter A to Z
+ * and two digits. The data unit has the bytes 20 to 7E and 1D alone, so that no flag stands in it and nothing is
+ * escaped. The checksum is the sum of header and data unit modulo 100, as two digits. A packet has at most
+ * CSAFE_PACKET_LIMIT bytes.
+ */
+
+/*
+ * Writes a packet first in the output and answers its length on the wire, which is seven bytes more than the data unit
+ * has. The header is the letter and the bytes of the two digits, as 53, 30 and 32 for S02.
+ * Refused, in this order: CSAFE_TOO_LONG, CSAFE_BAD_CHARACTER, CSAFE_NO_ROOM.
+ */
+uint64_t csafe_packet_write(uint8_t letter, uint8_t tens, uint8_t ones, const uint8_t *unit, size_t unit_len,
+                            uint8_t *out, size_t out_len);
+
+/*
+ * Reads a slice that has to be one packet, from its start flag to its stop flag. Puts its data unit first in the output
+ * and answers its header and the length of its data unit.
+ * Refused, in this order: CSAFE_TRUNCATED, CSAFE_TOO_LONG, CSAFE_TOO_SHORT, CSAFE_BAD_CHARACTER, CSAFE_BAD_CHECKSUM,
+ * CSAFE_NO_ROOM.
+ */
+uint64_t csafe_packet_read(const uint8_t *wire, size_t wire_len, uint8_t *out, size_t out_len);
+
+/*
+ * Feeds bytes of a treadmill's line to a packet reader up to the first that is answered, and sets `taken` to how many
+ * were taken.
+ *
+ * A packet reader is CSAFE_PACKET_LINE_LEN bytes and a number that goes with them, its state, which is 0 for a new one.
+ * Any bytes and any number are a reader. The state has
+ *
+ *   bits  0 to  1   0 outside of a candidate, 1 in one, 2 or 3 in one that has more than CSAFE_PACKET_LINE_LEN bytes
+ *   bits  2 to 63   how many of the bytes are held, and more than there are counts as all
+ *
+ * No call holds a flag. Where the caller's own bytes have one among those held, the candidate is refused at its stop
+ * flag as CSAFE_TRUNCATED.
+ *
+ * A candidate for a packet begins at a start flag. At its stop flag it is answered as csafe_packet_read answers a
+ * slice, its data unit being the first bytes of the reader, or refused. Where nothing is told, the answer is 0 and all
+ * bytes were taken, or the first CSAFE_CHUNK_LIMIT of a longer input, which is cut to them. The next call has to start
+ * right after the last byte taken. However a stream is cut into calls, its answers are those of its bytes fed one by
+ * one. Of an empty input none are taken and nothing is told.
+ *
+ * A packet reader counts no bytes. It tells no positions, and there is no limit to how many it takes.
+ *
+ * Refused where a start flag comes before the stop flag: CSAFE_TRUNCATED, and the flag begins the next candidate.
+ * Refused at the stop flag, in this order: CSAFE_TOO_LONG, CSAFE_TOO_SHORT, CSAFE_BAD_CHARACTER, CSAFE_BAD_CHECKSUM.
+ */
+uint64_t csafe_packet_feed(uint8_t bytes[CSAFE_PACKET_LINE_LEN], uint64_t *state, const uint8_t *input,
+                           size_t input_len, uint64_t *taken);
+
+/*
+ * Ends the input of a packet reader, which is as new afterwards: its state is 0. Its bytes stay as they are. Where no
+ * candidate was open, the answer is 0.
+ * Refused: CSAFE_TRUNCATED where a candidate for a packet was open.
+ */
+uint64_t csafe_packet_finish(uint64_t *state);
 
 #ifdef __cplusplus
 }

@@ -3,7 +3,7 @@ use core::fmt;
 /// Why a call was refused: a variant for each number of the table of refusals.
 ///
 /// The section "Errors" of each function lists what it can give, in order: the first that holds is given. The
-/// functions of this crate give 1 to 6, 9 to 12, 14 and 16 to 18. The others are those of the command, reply and
+/// functions of this crate give 1 to 6, 9 to 12, 14, 16 to 18 and 22. The others are those of the command, reply and
 /// workout readers, and stand here so that one table serves a portal's logs.
 ///
 /// A static library of another version may answer a number that stands for nothing here. Any function tells that as
@@ -28,15 +28,15 @@ use core::fmt;
 pub enum Error {
     /// The output is shorter than the result.
     NoRoom = 1,
-    /// A frame is over 120 bytes on the wire, or a reply's contents are over 117.
+    /// A frame is over 120 bytes on the wire, a packet is over 256, or a reply's contents are over 117.
     TooLong = 2,
     /// F3 is not followed by 00 to 03.
     BadEscape = 3,
-    /// There are too few bytes for the kind of frame, or a reply is empty.
+    /// There are too few bytes for the kind of frame or for a packet, or a reply is empty.
     TooShort = 4,
-    /// The checksum is not the one that the contents have.
+    /// The checksum is not the one that the contents have, or a packet's header and data unit.
     BadChecksum = 5,
-    /// The bytes are not one frame from its start flag to its stop flag.
+    /// The bytes are not one frame or packet from its start flag to its stop flag.
     Truncated = 6,
     /// A count is missing or runs beyond the end, or an item's data is over 255 bytes.
     BadCount = 7,
@@ -64,6 +64,9 @@ pub enum Error {
     Unnamed = 17,
     /// The lent lease table is not 2,048 bytes long.
     BadTable = 18,
+    /// A byte of a packet is not allowed at its place: a header is a letter A to Z and two digits, a data unit has 20
+    /// to 7E and 1D alone, and a checksum is two digits.
+    BadCharacter = 22,
     /// The static library answered a number that no refusal of this version has.
     #[non_exhaustive]
     Unknown {
@@ -96,6 +99,7 @@ impl Error {
             Error::Full => 16,
             Error::Unnamed => 17,
             Error::BadTable => 18,
+            Error::BadCharacter => 22,
             Error::Unknown { number } => number,
         }
     }
@@ -140,6 +144,7 @@ impl Error {
             16 => Error::Full,
             17 => Error::Unnamed,
             18 => Error::BadTable,
+            22 => Error::BadCharacter,
             _ => Error::Unknown { number },
         }
     }
@@ -150,14 +155,16 @@ impl fmt::Display for Error {
         f.write_str(match self {
             Error::NoRoom => "the output is shorter than the result",
             Error::TooLong => {
-                "the frame is over 120 bytes on the wire, or the reply's contents are over 117"
+                "the frame is over 120 bytes on the wire, the packet over 256, or the reply's contents over 117"
             }
             Error::BadEscape => "F3 is not followed by 00 to 03",
             Error::TooShort => {
-                "there are too few bytes for the kind of frame, or the reply is empty"
+                "there are too few bytes for the kind of frame or for a packet, or the reply is empty"
             }
-            Error::BadChecksum => "the checksum is not the one that the contents have",
-            Error::Truncated => "the bytes are not one frame from its start flag to its stop flag",
+            Error::BadChecksum => "the checksum is not that of the contents, or of the packet",
+            Error::Truncated => {
+                "the bytes are not one frame or packet from its start flag to its stop flag"
+            }
             Error::BadCount => {
                 "a count is missing or runs beyond the end, or an item's data is over 255 bytes"
             }
@@ -174,6 +181,7 @@ impl fmt::Display for Error {
             }
             Error::Unnamed => "a standard frame names no sender, so a live line takes none",
             Error::BadTable => "the lent lease table is not 2,048 bytes long",
+            Error::BadCharacter => "a byte of the packet is not allowed at its place",
             Error::Unknown { number } => {
                 return write!(
                     f,
@@ -200,7 +208,7 @@ mod tests {
             let error = Error::from_number(number).expect("a refusal");
             assert_eq!(error.number(), number);
             let named = !matches!(error, Error::Unknown { .. });
-            assert_eq!(named, matches!(number, 1..=18), "number {number}");
+            assert_eq!(named, matches!(number, 1..=18 | 22), "number {number}");
         }
     }
 

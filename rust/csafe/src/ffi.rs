@@ -1,12 +1,14 @@
-//! The boundary to the two static libraries, and the only module with unsafe code.
+//! The boundary to the three static libraries, and the only module with unsafe code.
 //!
-//! The declarations stand in the order and with the names of `csafe.h`, those of the library for traces last. The test
-//! `declarations` compares both with the exported functions of the Rattle source, name by name and type by type.
+//! The declarations stand in the order and with the names of `csafe.h`, those of the library for traces after those for
+//! a live line, and those for packets last. The test `declarations` compares both with the exported functions of the
+//! Rattle source, name by name and type by type.
 
 use core::sync::atomic::{compiler_fence, Ordering};
 
 use crate::frame::{Frame, Kind};
 use crate::line::HELD_LEN;
+use crate::packet::{self, Header, Packet};
 use crate::{Error, Located};
 
 #[rustfmt::skip]
@@ -30,6 +32,10 @@ mod exported {
         pub fn csafe_trace_standard_length(contents: *const u8, contents_len: usize) -> u64;
         pub fn csafe_trace_read(wire: *const u8, wire_len: usize, out: *mut u8, out_len: usize) -> u64;
         pub fn csafe_trace_feed(bytes: *mut u8, state: *mut u64, counts: *mut u64, input: *const u8, input_len: usize, taken: *mut u64, position: *mut u32) -> u64;
+        pub fn csafe_packet_write(letter: u8, tens: u8, ones: u8, unit: *const u8, unit_len: usize, out: *mut u8, out_len: usize) -> u64;
+        pub fn csafe_packet_read(wire: *const u8, wire_len: usize, out: *mut u8, out_len: usize) -> u64;
+        pub fn csafe_packet_feed(bytes: *mut u8, state: *mut u64, input: *const u8, input_len: usize, taken: *mut u64) -> u64;
+        pub fn csafe_packet_finish(state: *mut u64) -> u64;
     }
 }
 
@@ -38,7 +44,8 @@ const EXTENDED: u8 = 1;
 const NOTHING: u8 = 2;
 
 /// What each exported function answers: from the lowest byte on a refusal's number or 0, the kind, the two
-/// addresses, and in the upper half the length.
+/// addresses, and in the upper half the length. Where a packet was read, the header's letter and its two digits stand
+/// in place of kind and addresses.
 #[derive(Clone, Copy)]
 pub(crate) struct Answer(u64);
 
@@ -57,10 +64,16 @@ impl Answer {
         }
     }
 
-    /// Whether the line reader told anything. All other functions always do.
+    /// Whether the line reader told anything. All other functions for frames always do.
     #[inline]
     pub(crate) fn is_told(self) -> bool {
         self.byte(1) != NOTHING
+    }
+
+    /// Whether the packet reader told anything. A packet has a letter, which is not 0.
+    #[inline]
+    pub(crate) fn is_packet_told(self) -> bool {
+        self.0 != 0
     }
 
     /// The length of the result.
@@ -76,6 +89,16 @@ impl Answer {
         Frame {
             kind: self.kind(),
             contents: &bytes[..self.len()],
+        }
+    }
+
+    /// The packet that was read, whose data unit is the first of these bytes. The contracts of the library keep the
+    /// length within them.
+    #[inline]
+    pub(crate) fn packet_in(self, bytes: &[u8]) -> Packet<'_> {
+        Packet {
+            header: Header::new(&[self.byte(1), self.byte(2), self.byte(3)]),
+            unit: &bytes[..self.len()],
         }
     }
 
@@ -311,6 +334,58 @@ pub(crate) fn stop(table: &[u8], address: u32, token: u64, out: &mut [u8]) -> An
     })
 }
 
+#[inline]
+pub(crate) fn packet_write(header: Header, unit: &[u8], out: &mut [u8]) -> Answer {
+    let [letter, tens, ones] = header.bytes();
+    // SAFETY: as for `write_standard`; any header is taken.
+    Answer(unsafe {
+        exported::csafe_packet_write(
+            letter,
+            tens,
+            ones,
+            unit.as_ptr(),
+            unit.len(),
+            out.as_mut_ptr(),
+            out.len(),
+        )
+    })
+}
+
+#[inline]
+pub(crate) fn packet_read(wire: &[u8], out: &mut [u8]) -> Answer {
+    // SAFETY: as for `write_standard`.
+    Answer(unsafe {
+        exported::csafe_packet_read(wire.as_ptr(), wire.len(), out.as_mut_ptr(), out.len())
+    })
+}
+
+#[inline]
+pub(crate) fn packet_feed(
+    bytes: &mut [u8; packet::HELD_LEN],
+    state: &mut u64,
+    input: &[u8],
+) -> (usize, Answer) {
+    let mut taken = 0;
+    // SAFETY: the first pointer is to as many bytes as the function takes there. The input's comes with its length,
+    // and the function stays within it. The exclusive borrows keep all four apart. Any number is a reader's.
+    let answer = Answer(unsafe {
+        exported::csafe_packet_feed(
+            bytes.as_mut_ptr(),
+            state,
+            input.as_ptr(),
+            input.len(),
+            &mut taken,
+        )
+    });
+    (taken as usize, answer)
+}
+
+#[inline]
+pub(crate) fn packet_finish(state: &mut u64) -> Answer {
+    // SAFETY: the pointer is to a number that is borrowed exclusively. Any number is a reader's.
+    Answer(unsafe { exported::csafe_packet_finish(state) })
+}
+
 #[cfg(test)]
 mod tests {
     use plain::workout::{self, Goal, Workout};
@@ -517,5 +592,64 @@ mod tests {
         assert_eq!(release(table, 0x05, 72).0, 11);
         assert_eq!(release(table, 0x05, 71).0, 0);
         assert_eq!(release(&mut table[1..], 0x05, 71).0, 18);
+    }
+
+    /// `S02` with the data unit `w` has the checksum 00.
+    const PACKET: [u8; 8] = *b"\x01S02w00\x17";
+
+    #[test]
+    fn a_packets_answer_is_taken_apart() {
+        let told = Answer(0x0000_0002_3230_5300);
+        assert!(told.accepted().is_ok());
+        assert!(told.is_packet_told());
+        let packet = told.packet_in(b"1.50");
+        let header = Header::new(b"S02");
+        let unit = b"1.";
+        assert_eq!(packet, Packet { header, unit });
+        assert!(!Answer(0).is_packet_told());
+    }
+
+    #[test]
+    fn packet_answers_are_whole_numbers_of_the_layout() {
+        let out = &mut [0; 256];
+        let header = Header::new(b"S02");
+        assert_eq!(packet_write(header, b"w", out).0, 8 << 32);
+        assert_eq!(out[..8], PACKET);
+        assert_eq!(packet_write(header, &[b'w'; 250], out).0, 2);
+        assert_eq!(packet_write(Header::new(b"s02"), b"w", out).0, 22);
+        assert_eq!(packet_write(header, b"w", &mut out[..7]).0, 1);
+        assert_eq!(packet_read(&PACKET, out).0, 0x0000_0001_3230_5300);
+        assert_eq!(packet_read(&PACKET, &mut []).0, 1);
+        assert_eq!(packet_read(&PACKET[1..], out).0, 6);
+        assert_eq!(packet_read(b"\x01S028\x17", out).0, 4);
+        assert_eq!(packet_read(b"\x01S028A\x17", out).0, 22);
+        assert_eq!(packet_read(b"\x01S0282\x17", out).0, 5);
+    }
+
+    #[test]
+    fn packet_line_answers_are_whole_numbers_of_the_layout() {
+        let (bytes, state) = (&mut [0; packet::HELD_LEN], &mut 0);
+        let mut feed = |input: &[u8]| {
+            let (taken, answer) = packet_feed(bytes, state, input);
+            (taken, answer.0, *state)
+        };
+        assert_eq!(feed(&[]), (0, 0, 0));
+        assert_eq!(feed(b"\x06\x17"), (2, 0, 0));
+        assert_eq!(feed(&PACKET[..4]), (4, 0, 4 * 3 + 1));
+        assert_eq!(feed(b"w00\x17\x06"), (4, 0x0000_0001_3230_5300, 0));
+        assert_eq!(feed(b"\x01S0282\x17"), (7, 5, 0));
+        assert_eq!(feed(b"\x01\x01"), (2, 6, 1));
+        assert_eq!(feed(&[b'0'; 254]), (254, 0, 4 * 254 + 1));
+        assert_eq!(feed(b"0"), (1, 0, 2));
+        assert_eq!(feed(b"\x17"), (1, 2, 0));
+        assert_eq!(feed(&[b'0'; 65_537]), (65_536, 0, 0));
+    }
+
+    #[test]
+    fn a_packet_finish_answers_6_where_a_candidate_is_open() {
+        for (open, answer) in [(0, 0), (4 * 3, 0), (1, 6), (4 * 254 + 1, 6), (2, 6), (3, 6)] {
+            let mut state = open;
+            assert_eq!((packet_finish(&mut state).0, state), (answer, 0), "{open}");
+        }
     }
 }

@@ -1,16 +1,18 @@
-//! CSAFE frames of a live line and of stored traces, programmed workouts and machine leases for a portal's server.
+//! CSAFE frames of a live line and of stored traces, programmed workouts, machine leases and treadmill packets for a
+//! portal's server.
 //!
 //! The work is done by functions that are proved: each takes any bytes and any numbers, returns, and answers a
-//! result or one numbered refusal, an [`Error`]. A refusal leaves every lent byte as it was, but that a line reader
-//! that is not full goes on. After a success the bytes of the output past the result are as they were. This crate
-//! passes slices and numbers to these functions and takes their answers apart, which is tested. It allocates nothing
-//! and does without the standard library.
+//! result or one numbered refusal, an [`Error`]. A refusal leaves every lent byte as it was, but that a packet reader,
+//! and a line reader that is not full, goes on. After a success the bytes of the output past the result are as they
+//! were. This crate passes slices and numbers to these functions and takes their answers apart, which is tested. It
+//! allocates nothing and does without the standard library.
 //!
 //! - [`frame`] tells how long a frame is on the wire, writes it, and reads one from a slice.
 //! - [`mod@line`] reads the frames of a live line, in whatever chunks its bytes arrive, and tells where each began.
 //! - [`trace`] does both for stored traces, in which standard frames are read as they stand.
 //! - [`workout`] writes a programmed workout, and the frame that takes it to a machine.
 //! - [`lease`] keeps who holds which machine, and writes the frame that stops it for the holder alone.
+//! - [`packet`] writes and reads the packets of treadmills, from a slice and from a line.
 //!
 //! A standard frame names no sender. On a live line it is refused as [`Error::Unnamed`], in reading and in writing.
 //!
@@ -83,6 +85,7 @@ pub mod frame;
 pub mod lease;
 pub mod line;
 mod located;
+pub mod packet;
 pub mod trace;
 pub mod workout;
 
@@ -91,6 +94,7 @@ pub use frame::{Frame, OwnedFrame};
 pub use lease::LeaseTable;
 pub use line::LineReader;
 pub use located::Located;
+pub use packet::{OwnedPacket, Packet, PacketReader};
 pub use workout::Workout;
 
 /// The snippet of the repository's README is compiled and run with the tests.

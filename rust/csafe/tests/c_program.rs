@@ -10,6 +10,8 @@ const PROGRAM: &str = include_str!("portal.c");
 
 const LIVE_ARCHIVE: &str = "libexports.a";
 const TRACE_ARCHIVE: &str = "libtrace_exports.a";
+const PACKET_ARCHIVE: &str = "libcoscom_exports.a";
+const ARCHIVES: [&str; 3] = [LIVE_ARCHIVE, TRACE_ARCHIVE, PACKET_ARCHIVE];
 
 const EXPECTED: &str = "\
 write_standard: 17 unnamed to=00 from=00 len=0
@@ -162,6 +164,48 @@ release: 18 bad table to=00 from=00 len=0
 release: 9 bad address to=00 from=00 len=0
 release: 11 not holder to=00 from=00 len=0
 release: 0 ok to=00 from=00 len=0
+packet_write: 0 ok letter=00 tens=00 ones=00 len=11 01 53 30 31 31 2E 35 30 37 36 17
+packet_write: 2 too long letter=00 tens=00 ones=00 len=0
+packet_write: 22 bad character letter=00 tens=00 ones=00 len=0
+packet_write: 22 bad character letter=00 tens=00 ones=00 len=0
+packet_write: 1 no room letter=00 tens=00 ones=00 len=0
+packet_read: 0 ok letter=53 tens=30 ones=31 len=4 31 2E 35 30
+packet_read: 6 truncated letter=00 tens=00 ones=00 len=0
+packet_read: 2 too long letter=00 tens=00 ones=00 len=0
+packet_read: 4 too short letter=00 tens=00 ones=00 len=0
+packet_read: 22 bad character letter=00 tens=00 ones=00 len=0
+packet_read: 5 bad checksum letter=00 tens=00 ones=00 len=0
+packet_read: 1 no room letter=00 tens=00 ones=00 len=0
+packet_feed: 6 truncated letter=00 tens=00 ones=00 len=0
+taken 4, state 1
+packet_feed: 0 ok letter=00 tens=00 ones=00 len=0
+taken 5, state 21
+packet_feed: 0 ok letter=53 tens=30 ones=31 len=4 31 2E 35 30
+taken 5, state 0
+packet_feed: 4 too short letter=00 tens=00 ones=00 len=0
+taken 4, state 0
+packet_feed: 22 bad character letter=00 tens=00 ones=00 len=0
+taken 7, state 0
+packet_feed: 5 bad checksum letter=00 tens=00 ones=00 len=0
+taken 7, state 0
+packet_feed: 0 ok letter=00 tens=00 ones=00 len=0
+taken 1, state 1
+packet_feed: 2 too long letter=00 tens=00 ones=00 len=0
+taken 256, state 0
+packet_feed: 0 ok letter=00 tens=00 ones=00 len=0
+taken 0, state 0
+packet_feed: 0 ok letter=00 tens=00 ones=00 len=0
+taken 3, state 5
+packet_finish: 6 truncated letter=00 tens=00 ones=00 len=0
+state 0
+packet_finish: 0 ok letter=00 tens=00 ones=00 len=0
+state 0
+packet_feed: 0 ok letter=00 tens=00 ones=00 len=0
+taken 65536, state 21
+packet_feed: 0 ok letter=53 tens=30 ones=31 len=0
+taken 1, state 0
+packet_feed: 0 ok letter=00 tens=00 ones=00 len=0
+taken 1, state 0
 ";
 
 /// The names of the functions that a source declares or calls, each without the prefix of all of them.
@@ -177,8 +221,8 @@ fn functions(source: &str) -> BTreeSet<&str> {
 #[test]
 fn the_program_calls_every_function_of_the_header() {
     let declared = functions(HEADER);
-    // Eighteen of the archives, and five that take an answer apart.
-    assert_eq!(declared.len(), 23);
+    // Twenty-two of the archives, and eight that take an answer apart.
+    assert_eq!(declared.len(), 30);
     assert_eq!(functions(PROGRAM), declared);
 }
 
@@ -192,16 +236,19 @@ fn a_cpp_program_gets_the_expected_answers() {
     check(&compiled("c++", "-std=c++11", "c++"));
 }
 
-/// No name with `csafe_trace_`, as all functions for traces have, stands in the archive of the live line.
+/// No name with `csafe_trace_` or `csafe_packet_`, as all functions for traces and for packets have, stands in another
+/// archive than theirs.
 #[test]
-fn the_functions_for_traces_stand_in_an_archive_of_their_own() {
-    let names_a_trace = |archive: &str| {
+fn the_functions_for_traces_and_for_packets_stand_in_archives_of_their_own() {
+    for archive in ARCHIVES {
         let bytes = fs::read(archive_in(archive)).expect("the archive is read");
-        let name = b"csafe_trace_";
-        bytes.windows(name.len()).any(|window| window == name)
-    };
-    assert!(!names_a_trace(LIVE_ARCHIVE));
-    assert!(names_a_trace(TRACE_ARCHIVE));
+        let has = |name: &str| {
+            let mut windows = bytes.windows(name.len());
+            windows.any(|window| window == name.as_bytes())
+        };
+        assert_eq!(has("csafe_trace_"), archive == TRACE_ARCHIVE, "{archive}");
+        assert_eq!(has("csafe_packet_"), archive == PACKET_ARCHIVE, "{archive}");
+    }
 }
 
 fn archive_in(archive: &str) -> PathBuf {
@@ -227,7 +274,7 @@ fn compiled(compiler: &str, standard: &str, language: &str) -> PathBuf {
         .args(["-x", language])
         .arg(package.join("tests").join("portal.c"))
         .args(["-x", "none"])
-        .args([LIVE_ARCHIVE, TRACE_ARCHIVE].map(archive_in))
+        .args(ARCHIVES.map(archive_in))
         .arg("-o")
         .arg(&program)
         .output()

@@ -5,6 +5,7 @@
 #include "csafe.h"
 
 #include <stdio.h>
+#include <string.h>
 
 /* Where bytes come from. */
 enum origin { LIVE, TRACE };
@@ -31,6 +32,7 @@ static const char *name_of(uint8_t number)
     case CSAFE_FULL: return "full";
     case CSAFE_UNNAMED: return "unnamed";
     case CSAFE_BAD_TABLE: return "bad table";
+    case CSAFE_BAD_CHARACTER: return "bad character";
     default: return "unknown";
     }
 }
@@ -51,13 +53,19 @@ static void print_fields(const char *call, uint64_t answer)
            kind_of(csafe_kind(answer)), csafe_to(answer), csafe_from(answer), (unsigned)csafe_length(answer));
 }
 
-static void print_answer(const char *call, uint64_t answer, const uint8_t *out)
+/* The bytes of a result, and the end of its line. */
+static void print_result(uint64_t answer, const uint8_t *out)
 {
-    print_fields(call, answer);
     for (uint32_t i = 0; i < csafe_length(answer); i++) {
         printf(" %02X", out[i]);
     }
     printf("\n");
+}
+
+static void print_answer(const char *call, uint64_t answer, const uint8_t *out)
+{
+    print_fields(call, answer);
+    print_result(answer, out);
 }
 
 /* No bytes belong to a length that is only told. */
@@ -293,6 +301,112 @@ static void leases(void)
     print_answer("release", csafe_release(table, len, 0xF1, 71), wire);
 }
 
+static void print_packet(const char *call, uint64_t answer, const uint8_t *out)
+{
+    printf("%s: %u %s letter=%02X tens=%02X ones=%02X len=%u", call, csafe_number(answer),
+           name_of(csafe_number(answer)), csafe_letter(answer), csafe_tens(answer), csafe_ones(answer),
+           (unsigned)csafe_length(answer));
+    print_result(answer, out);
+}
+
+static void write_packets(void)
+{
+    static const uint8_t unit[] = {0x31, 0x2E, 0x35, 0x30};
+    static const uint8_t wrong_unit[] = {0x31, 0x2E, 0x35, 0x7F};
+    static const uint8_t long_unit[CSAFE_UNIT_LIMIT + 1] = {0};
+    const size_t len = sizeof unit;
+    uint8_t wire[CSAFE_PACKET_LIMIT];
+    print_packet("packet_write", csafe_packet_write('S', '0', '1', unit, len, wire, sizeof wire), wire);
+    print_packet("packet_write", csafe_packet_write('s', '0', '1', long_unit, sizeof long_unit, wire, 0), wire);
+    print_packet("packet_write", csafe_packet_write('S', '0', 'I', unit, len, wire, 0), wire);
+    print_packet("packet_write", csafe_packet_write('S', '0', '1', wrong_unit, len, wire, 0), wire);
+    print_packet("packet_write", csafe_packet_write('S', '0', '1', unit, len, wire, 10), wire);
+}
+
+static void read_packet(const uint8_t *wire, size_t wire_len, size_t room)
+{
+    uint8_t unit[CSAFE_UNIT_LIMIT];
+    print_packet("packet_read", csafe_packet_read(wire, wire_len, unit, room), unit);
+}
+
+static void read_packets(void)
+{
+    static const uint8_t sound[] = {0x01, 0x53, 0x30, 0x31, 0x31, 0x2E, 0x35, 0x30, 0x37, 0x36, 0x17};
+    static const uint8_t too_short[] = {0x01, 0x53, 0x30, 0x31, 0x38, 0x17};
+    static const uint8_t bad_character[] = {0x01, 0x53, 0x30, 0x31, 0x38, 0x41, 0x17};
+    static const uint8_t bad_checksum[] = {0x01, 0x53, 0x30, 0x31, 0x38, 0x31, 0x17};
+    uint8_t too_long[CSAFE_PACKET_LIMIT + 1] = {0};
+    too_long[0] = 0x01;
+    too_long[CSAFE_PACKET_LIMIT] = 0x17;
+    read_packet(sound, sizeof sound, CSAFE_UNIT_LIMIT);
+    read_packet(sound, sizeof sound - 1, CSAFE_UNIT_LIMIT);
+    read_packet(too_long, sizeof too_long, CSAFE_UNIT_LIMIT);
+    read_packet(too_short, sizeof too_short, CSAFE_UNIT_LIMIT);
+    read_packet(bad_character, sizeof bad_character, CSAFE_UNIT_LIMIT);
+    read_packet(bad_checksum, sizeof bad_checksum, CSAFE_UNIT_LIMIT);
+    read_packet(sound, sizeof sound, 3);
+}
+
+struct packet_reader {
+    uint8_t bytes[CSAFE_PACKET_LINE_LEN];
+    uint64_t state;
+};
+
+static struct packet_reader new_packet_reader(void)
+{
+    struct packet_reader reader = {{0}, 0};
+    return reader;
+}
+
+/* Feeds the input by as many calls as it needs, one at least, until all of it is taken or a call takes none. */
+static void feed_packets(struct packet_reader *reader, const uint8_t *input, size_t input_len)
+{
+    size_t at = 0;
+    uint64_t taken;
+    do {
+        uint64_t answer;
+        taken = UNWRITTEN;
+        answer = csafe_packet_feed(reader->bytes, &reader->state, input + at, input_len - at, &taken);
+        print_packet("packet_feed", answer, reader->bytes);
+        printf("taken %lu, state %lu\n", (unsigned long)taken, (unsigned long)reader->state);
+        at += (size_t)taken;
+    } while (taken > 0 && at < input_len);
+}
+
+static void finish_packets(struct packet_reader *reader)
+{
+    print_packet("packet_finish", csafe_packet_finish(&reader->state), reader->bytes);
+    printf("state %lu\n", (unsigned long)reader->state);
+}
+
+/* The first packet comes in two inputs, after a candidate that it truncates. */
+static void read_packet_line(void)
+{
+    static const uint8_t first[] = {0x06, 0x01, 0x53, 0x01, 0x53, 0x30, 0x31, 0x31, 0x2E};
+    static const uint8_t second[] = {0x35, 0x30, 0x37, 0x36, 0x17, 0x15, 0x01, 0x53, 0x17, 0x01, 0x53, 0x30,
+                                     0x31, 0x38, 0x41, 0x17, 0x01, 0x53, 0x30, 0x31, 0x38, 0x31, 0x17, 0x01};
+    uint8_t too_long[CSAFE_PACKET_LINE_LEN + 2] = {0};
+    struct packet_reader reader = new_packet_reader();
+    too_long[CSAFE_PACKET_LINE_LEN + 1] = 0x17;
+    feed_packets(&reader, first, sizeof first);
+    feed_packets(&reader, second, sizeof second);
+    feed_packets(&reader, too_long, sizeof too_long);
+    feed_packets(&reader, first, 0);
+    feed_packets(&reader, first, 3);
+    finish_packets(&reader);
+    finish_packets(&reader);
+}
+
+/* The stop flag stands right after the bytes that the first call takes. */
+static void feed_a_long_chunk_of_packets(void)
+{
+    static const uint8_t packet[] = {0x01, 0x53, 0x30, 0x31, 0x38, 0x30, 0x17};
+    static uint8_t chunk[CSAFE_CHUNK_LIMIT + 2];
+    struct packet_reader reader = new_packet_reader();
+    memcpy(chunk + CSAFE_CHUNK_LIMIT + 1 - sizeof packet, packet, sizeof packet);
+    feed_packets(&reader, chunk, sizeof chunk);
+}
+
 int main(void)
 {
     write_frames();
@@ -309,5 +423,9 @@ int main(void)
     workouts();
     workout_frames();
     leases();
+    write_packets();
+    read_packets();
+    read_packet_line();
+    feed_a_long_chunk_of_packets();
     return 0;
 }

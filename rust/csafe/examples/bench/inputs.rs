@@ -10,15 +10,15 @@ use crate::sides::{Ours, Side};
 /// Bytes of contents in an input, all its frames together, and the most frames. With fewer the processor learns from
 /// pass to pass which byte is escaped: of frames of 60 bytes, a fifth of them F0 to F3, one was read in 60 ns among 512
 /// and in 155 ns among 4,096.
-const INPUT_LEN: usize = 200_000;
-const FRAMES_LIMIT: usize = 16_384;
+pub const INPUT_LEN: usize = 200_000;
+pub const FRAMES_LIMIT: usize = 16_384;
 
 /// A length is left out of a sweep where fewer than one in so many frames fits, because those that fit have far
 /// fewer escapes than the sweep is about.
 const TRIES: usize = 4;
 
 /// The length of a line, and the most stray bytes between two of its frames.
-const LINE_LEN: usize = 524_288;
+pub const LINE_LEN: usize = 524_288;
 const STRAY_LIMIT: usize = 60;
 
 /// Of the traffic on a line: the lengths of its frames on the wire, the most stray bytes between two of them, and one
@@ -140,7 +140,7 @@ pub fn damaged(wires: &[Vec<u8>]) -> Vec<Vec<u8>> {
     wires
 }
 
-fn change_a_byte(wire: &mut [u8], random: &mut Xorshift) {
+pub fn change_a_byte(wire: &mut [u8], random: &mut Xorshift) {
     let at = random.below(wire.len());
     wire[at] ^= 1 + random.below(255) as u8;
 }

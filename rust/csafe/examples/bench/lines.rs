@@ -1,14 +1,15 @@
-//! The rows of lines. Plain Rust is measured by the chunk, as ours is, and byte by byte. The traffic has frames of both
-//! kinds and is read as a trace; the others are live lines.
+//! The rows of lines. Plain Rust is measured by the chunk, as ours is, and byte by byte. The traffic of frames has both
+//! kinds and is read as a trace; the others are live lines, and lines of treadmill packets.
 
 use plain::frame::Origin;
 
 use crate::inputs::{self, Frames, CONTENTS_LIMIT};
+use crate::packets::{self, PacketFeeding};
 use crate::rows::SLICES;
-use crate::sides::{Plain, PlainByByte};
+use crate::sides::{Ours, Plain, PlainByByte};
 use crate::table::Table;
 use crate::timing;
-use crate::work::Feeding;
+use crate::work::{Feeding, Work};
 use crate::Choice;
 
 /// Each ratio is of the times of ours and of plain Rust that were taken in turn.
@@ -26,7 +27,12 @@ pub fn print(choice: &Choice) {
     let mut table = Table::new(&COLUMNS);
     for (what, origin, line) in lines() {
         if choice.has(what) {
-            table.row(&row(what, origin, &line));
+            table.row(&row(what, line.len(), &mut Feeding(origin, &line)));
+        }
+    }
+    for (what, line) in packets::lines() {
+        if choice.has(&what) {
+            table.row(&row(&what, line.len(), &mut PacketFeeding(&line)));
         }
     }
 }
@@ -53,10 +59,15 @@ fn lines() -> [(&'static str, Origin, Vec<u8>); 7] {
     ]
 }
 
-fn row(what: &str, origin: Origin, line: &[u8]) -> [String; COLUMNS.len()] {
-    let by_chunk = timing::compare::<Plain>(&mut Feeding(origin, line), SLICES);
-    let by_byte = timing::compare::<PlainByByte>(&mut Feeding(origin, line), SLICES);
-    let rate = |time: f64| format!("{:.1}", line.len() as f64 / time / 1e6);
+/// The times for a line of so many bytes.
+fn row(
+    what: &str,
+    len: usize,
+    work: &mut (impl Work<Ours> + Work<Plain> + Work<PlainByByte>),
+) -> [String; COLUMNS.len()] {
+    let by_chunk = timing::compare::<Plain>(work, SLICES);
+    let by_byte = timing::compare::<PlainByByte>(work, SLICES);
+    let rate = |time: f64| format!("{:.1}", len as f64 / time / 1e6);
     [
         what.to_string(),
         rate(by_chunk.ours),

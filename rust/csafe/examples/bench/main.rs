@@ -4,7 +4,7 @@
 //!     cargo run --profile lto --example bench
 //!
 //! With words, only the rows whose names have all of them are measured: `bench read`, `bench line half`, `bench
-//! lease`. With `--lengths` the ratios of the sweeps are also printed by length.
+//! lease`, `bench packet`. With `--lengths` the ratios of the sweeps are also printed by length.
 //!
 //! Before a row is measured, both sides have to answer each call on its input alike and write the same bytes. They
 //! are timed in one process, in short slices that take turns. The ratio is plain Rust's time to ours, so above 1 ours
@@ -12,13 +12,16 @@
 //! bytes, and to plain Rust a second time byte by byte.
 //!
 //! Rows whose names begin with `trace` have standard frames and are measured on the calls for traces, on both sides.
-//! All others are measured on the calls for a live line.
+//! Those whose names begin with `packet` have treadmill packets and are measured on the calls for packets. All others
+//! are measured on the calls for a live line.
 
 #[path = "../../tests/common/mod.rs"]
 mod common;
 mod header;
 mod inputs;
 mod lines;
+mod packet_sides;
+mod packets;
 mod rows;
 mod sides;
 mod sweep;
@@ -59,6 +62,7 @@ fn main() {
     println!(
         "- rows that begin with `trace`: calls for traces on both sides, with standard frames"
     );
+    println!("- rows that begin with `packet`: calls for treadmill packets on both sides");
     println!("- all other rows: calls for a live line on both sides");
     rows::print(&choice);
     lines::print(&choice);

@@ -1,8 +1,9 @@
-//! The rows of single inputs: frames of any length, and leases.
+//! The rows of single inputs: frames of any length, leases, and packets.
 
 use plain::frame::Origin;
 
 use crate::inputs::{self, Frames, Kind, CONTENTS_LIMIT};
+use crate::packets::{PacketReading, PacketWriting, Packets, UNIT_LENGTHS};
 use crate::sides::{Ours, Plain};
 use crate::table::Table;
 use crate::timing;
@@ -29,6 +30,7 @@ pub fn print(choice: &Choice) {
     let mut rows = Rows { choice, table };
     rows.frames();
     rows.leases();
+    rows.packets();
 }
 
 impl Rows<'_> {
@@ -88,6 +90,26 @@ impl Rows<'_> {
             ("lease, stop refused, address out of range", &beyond),
         ] {
             self.row(what, Done::Calls(calls.len()), &mut Stopping(held, calls));
+        }
+    }
+
+    fn packets(&mut self) {
+        for len in UNIT_LENGTHS {
+            let packets = Packets::of_length(len);
+            let what = format!("packet read, {len} bytes of data");
+            let reading = &mut PacketReading(&packets.wires);
+            self.row(&what, Done::Bytes(packets.wire_len()), reading);
+        }
+        let any = Packets::of_lengths(&UNIT_LENGTHS);
+        let damaged = inputs::damaged(&any.wires);
+        let reading = &mut PacketReading(&damaged);
+        let what = "packet read, damaged";
+        self.row(what, Done::Bytes(any.wire_len()), reading);
+        for len in UNIT_LENGTHS {
+            let packets = Packets::of_length(len);
+            let what = format!("packet write, {len} bytes of data");
+            let writing = &mut PacketWriting(&packets.plain);
+            self.row(&what, Done::Bytes(packets.wire_len()), writing);
         }
     }
 }

@@ -9,7 +9,7 @@ use crate::sides::{Line, LineSide, Side, CHUNK_LIMIT, TABLE_LEN};
 
 /// Where a buffer begins shows in the times, so it is the start of a line of the cache for both sides.
 #[repr(align(64))]
-struct Aligned<T>(T);
+pub struct Aligned<T>(pub T);
 
 /// Calls of a side on one input.
 pub trait Work<S> {

@@ -9,14 +9,15 @@ pub const STANDARD: u8 = 0;
 pub const EXTENDED: u8 = 1;
 pub const NOTHING: u8 = 2;
 
-/// What a call answered: a refusal's number or 0, of a result its kind, addresses and length, and of what a line reader
-/// told its position. They are 0 where there are none.
+/// What a call answered: a refusal's number or 0, of a frame its kind and addresses, of a packet its header, of a
+/// result its length, and of what a line reader told its position. They are 0 where there are none.
 #[derive(Clone, Copy, Debug, Default, PartialEq, Eq)]
 pub struct Answer {
     pub number: u8,
     pub kind: u8,
     pub to: u8,
     pub from: u8,
+    pub header: [u8; 3],
     pub len: usize,
     pub position: u32,
 }
@@ -29,7 +30,7 @@ impl Answer {
         }
     }
 
-    /// A result of this length that is no frame read.
+    /// A result of this length that is no frame and no packet read.
     pub fn done(len: usize) -> Answer {
         Answer {
             len,
@@ -49,6 +50,13 @@ impl Answer {
             kind: EXTENDED,
             to,
             from,
+            ..Answer::done(len)
+        }
+    }
+
+    pub fn packet(header: [u8; 3], len: usize) -> Answer {
+        Answer {
+            header,
             ..Answer::done(len)
         }
     }
@@ -80,12 +88,13 @@ impl fmt::Display for Answer {
             kind,
             to,
             from,
+            header,
             len,
             position,
         } = self;
         write!(
             f,
-            "number {number}, kind {kind}, to 0x{to:02X}, from 0x{from:02X}, length {len}, position {position}"
+            "number {number}, kind {kind}, to 0x{to:02X}, from 0x{from:02X}, header {header:02X?}, length {len}, position {position}"
         )
     }
 }
@@ -119,12 +128,16 @@ pub enum Function {
     Hold,
     Release,
     Stop,
+    PacketWrite,
+    PacketRead,
+    PacketFeed,
+    PacketFinish,
     Listing,
 }
 
 /// Each function with its name and every answer that it can give.
 #[rustfmt::skip]
-pub const FUNCTIONS: [(Function, &str, &[Outcome]); 19] = [
+pub const FUNCTIONS: [(Function, &str, &[Outcome]); 23] = [
     (Function::WriteStandard, "csafe_write_standard", &[Refused(17)]),
     (Function::WriteExtended, "csafe_write_extended", &[Accepted, Refused(2), Refused(1)]),
     (Function::StandardLength, "csafe_standard_length", &[Refused(17)]),
@@ -149,6 +162,12 @@ pub const FUNCTIONS: [(Function, &str, &[Outcome]); 19] = [
     (Function::Hold, "csafe_hold", &[Accepted, Refused(18), Refused(9), Refused(14), Refused(10)]),
     (Function::Release, "csafe_release", &[Accepted, Refused(18), Refused(9), Refused(11)]),
     (Function::Stop, "csafe_stop", &[Accepted, Refused(18), Refused(9), Refused(11), Refused(1)]),
+    (Function::PacketWrite, "csafe_packet_write", &[Accepted, Refused(2), Refused(22), Refused(1)]),
+    (Function::PacketRead, "csafe_packet_read",
+        &[Accepted, Refused(6), Refused(2), Refused(4), Refused(22), Refused(5), Refused(1)]),
+    (Function::PacketFeed, "csafe_packet_feed",
+        &[Accepted, Nothing, Refused(6), Refused(2), Refused(4), Refused(22), Refused(5)]),
+    (Function::PacketFinish, "csafe_packet_finish", &[Nothing, Refused(6)]),
     (Function::Listing, "listing", &[Accepted, Refused(6), Refused(2), Refused(3), Refused(4), Refused(5)]),
 ];
 

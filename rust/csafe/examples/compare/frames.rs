@@ -238,19 +238,29 @@ impl Frames {
     }
 }
 
-/// Puts bytes at a place of any alignment, between flags.
+/// Puts bytes at a place of any alignment, between stop flags.
 fn place<'a>(placed: &'a mut Vec<u8>, bytes: &[u8], random: &mut Xorshift) -> &'a [u8] {
+    place_between(STOP, placed, bytes, random)
+}
+
+/// The same between flags of any protocol.
+pub fn place_between<'a>(
+    flag: u8,
+    placed: &'a mut Vec<u8>,
+    bytes: &[u8],
+    random: &mut Xorshift,
+) -> &'a [u8] {
     let start = random.below(AROUND);
     placed.clear();
-    placed.resize(start, STOP);
+    placed.resize(start, flag);
     placed.extend(bytes);
     let end = placed.len();
-    placed.resize(end + AROUND, STOP);
+    placed.resize(end + AROUND, flag);
     &placed[start..end]
 }
 
 /// The length of an output: any, about that of the result, or ample.
-fn any_room(random: &mut Xorshift, exact: usize) -> usize {
+pub fn any_room(random: &mut Xorshift, exact: usize) -> usize {
     let room = match random.below(4) {
         0 => random.below(130),
         1 => (exact + 1).saturating_sub(random.below(3)),

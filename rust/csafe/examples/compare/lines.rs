@@ -251,7 +251,7 @@ fn any_large_count(random: &mut Xorshift) -> u32 {
 }
 
 /// The length of a chunk, often 1 and often all.
-fn any_chunk(random: &mut Xorshift, left: usize) -> usize {
+pub fn any_chunk(random: &mut Xorshift, left: usize) -> usize {
     match random.below(4) {
         0 => 1,
         1 => random.below(8).min(left),

@@ -4,10 +4,11 @@
 //!
 //! Every exported function is called with well-formed, damaged and random inputs, those for a live line and those for
 //! traces with inputs of the same kinds. Sound frames with one byte changed are read too, and the answer is foretold
-//! from the frame before the change. Line readers begin new, or nearly full. The listing program lists traces of many
-//! frames. Answers are compared, with their positions, and so are outputs, tables and readers, whole, with the bytes
-//! around them. The first difference ends the program with exit status 1 and the input that shows it. At the end
-//! stands a table of what each function answered, so that one sees that each refusal was met.
+//! from the frame before the change. Line readers begin new, or nearly full. Treadmill packets are written, read,
+//! damaged and read again, and fed to packet readers. The listing program lists traces of many frames. Answers are
+//! compared, with their positions, and so are outputs, tables and readers, whole, with the bytes around them. The first
+//! difference ends the program with exit status 1 and the input that shows it. At the end stands a table of what each
+//! function answered, so that one sees that each refusal was met.
 //!
 //! The listing program is made with `rt check listing`, unless `CSAFE_LISTING` names a ready one.
 
@@ -32,6 +33,12 @@ mod lines;
 mod listed;
 mod listings;
 mod ours;
+#[path = "../../tests/common/packet_damage.rs"]
+mod packet_damage;
+#[path = "../../tests/common/packet_held.rs"]
+mod packet_held;
+mod packet_lines;
+mod packets;
 #[path = "../../tests/common/program.rs"]
 mod program;
 mod progress;
@@ -51,6 +58,8 @@ use frames::Frames;
 use leases::Leases;
 use lines::Lines;
 use listings::Listings;
+use packet_lines::PacketLines;
+use packets::Packets;
 use progress::Progress;
 use tally::{grouped, Tally};
 use workouts::Workouts;
@@ -135,7 +144,7 @@ fn run(calls: u64, seed: u64) -> Result<(), String> {
 }
 
 /// Each kind with the calls that are made in turn.
-type Shares = [(u64, Box<dyn Comparison>); 7];
+type Shares = [(u64, Box<dyn Comparison>); 9];
 
 fn comparisons(calls: u64) -> Shares {
     let share = (calls / 100).clamp(100, 20_000);
@@ -146,6 +155,8 @@ fn comparisons(calls: u64) -> Shares {
         (share, Box::new(Lines::new(Origin::Trace))),
         (share, Box::new(Workouts)),
         (share, Box::new(Leases::new())),
+        (share, Box::new(Packets::default())),
+        (share, Box::new(PacketLines::new())),
         (1, Box::new(Listings::new())),
     ]
 }

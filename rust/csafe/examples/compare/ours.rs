@@ -2,8 +2,9 @@
 
 use csafe::frame::{self, Kind};
 use csafe::line::{self, HELD_LEN};
+use csafe::packet::{self, Header, HELD_LEN as PACKET_HELD_LEN};
 use csafe::workout::{Goal, Hundredths, Metres, Seconds};
-use csafe::{lease, Error, Frame, Located, Workout};
+use csafe::{lease, Error, Frame, Located, Packet, Workout};
 use plain::frame::Origin;
 
 use crate::answer::Answer;
@@ -81,6 +82,37 @@ pub fn release(table: &mut [u8], address: u32, token: u64) -> Answer {
 
 pub fn stop(table: &[u8], address: u32, token: u64, out: &mut [u8]) -> Answer {
     written(lease::stop(table, address, token, out))
+}
+
+pub fn packet_write(header: [u8; 3], unit: &[u8], out: &mut [u8]) -> Answer {
+    written(packet::write(Header::new(&header), unit, out))
+}
+
+pub fn packet_read(wire: &[u8], out: &mut [u8]) -> Answer {
+    told_packet(packet::read(wire, out))
+}
+
+pub fn packet_feed(
+    bytes: &mut [u8; PACKET_HELD_LEN],
+    state: &mut u64,
+    input: &[u8],
+) -> (usize, Answer) {
+    let fed = packet::feed(bytes, state, input);
+    (fed.taken, fed.told.map_or(Answer::nothing(), told_packet))
+}
+
+pub fn packet_finish(state: &mut u64) -> Answer {
+    packet::finish(state).map_or_else(
+        |error| Answer::refused(error.number()),
+        |()| Answer::nothing(),
+    )
+}
+
+fn told_packet(result: Result<Packet, Error>) -> Answer {
+    match result {
+        Ok(Packet { header, unit }) => Answer::packet(header.bytes(), unit.len()),
+        Err(error) => Answer::refused(error.number()),
+    }
 }
 
 fn written(result: Result<usize, Error>) -> Answer {

@@ -152,7 +152,7 @@ mod tests {
     fn a_full_tally_has_no_gap() {
         assert_eq!(full().gaps(true), Vec::<String>::new());
         assert_eq!(full().strangers(), Vec::<String>::new());
-        assert_eq!(full().calls(), 19);
+        assert_eq!(full().calls(), 23);
     }
 
     #[test]

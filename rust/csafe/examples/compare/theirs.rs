@@ -4,6 +4,8 @@ use plain::damage;
 use plain::frame::{self, Origin, Read};
 use plain::lease;
 use plain::line::{self, Line};
+use plain::packet;
+use plain::packet_line::{self, PacketLine};
 use plain::refusal;
 use plain::workout::{self, Goal, Workout};
 
@@ -92,6 +94,31 @@ pub fn release(table: &mut [u8], address: u32, token: u64) -> Answer {
 
 pub fn stop(table: &[u8], address: u32, token: u64, out: &mut [u8]) -> Answer {
     written(lease::stop(table, address, token, out))
+}
+
+pub fn packet_write(header: [u8; 3], unit: &[u8], out: &mut [u8]) -> Answer {
+    written(packet::write(header, unit, out))
+}
+
+pub fn packet_read(wire: &[u8], out: &mut [u8]) -> Answer {
+    packet_answer(Some(packet::read(wire, out)))
+}
+
+/// Feeds one byte.
+pub fn packet_feed(line: &mut PacketLine, byte: u8) -> Answer {
+    packet_answer(line.feed(byte))
+}
+
+pub fn packet_finish(line: &mut PacketLine) -> Answer {
+    packet_answer(line.finish())
+}
+
+fn packet_answer(answer: Option<packet_line::Answer>) -> Answer {
+    match answer {
+        None => Answer::nothing(),
+        Some(Ok(packet::Read { header, len })) => Answer::packet(header, len),
+        Some(Err(number)) => Answer::refused(number),
+    }
 }
 
 fn written(result: Result<usize, u8>) -> Answer {

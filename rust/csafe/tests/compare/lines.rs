@@ -14,6 +14,7 @@ use plain::frame::Origin;
 use plain::line::Answer;
 
 use crate::common::Xorshift;
+use crate::cuts::any_chunk;
 use crate::frame_damage::{EXTENDED_START, STANDARD_START, STOP};
 use crate::frames::of_alphabet;
 use crate::held::{first_of, Held};
@@ -139,16 +140,6 @@ fn borrowed(told: &Result<Located<OwnedFrame>, Located<Error>>) -> Told<'_> {
             answer: answer.frame(),
         }),
         Err(refused) => Err(*refused),
-    }
-}
-
-/// The length of a chunk, often 1 and often all.
-fn any_chunk(random: &mut Xorshift, left: usize) -> usize {
-    match random.below(4) {
-        0 => 1,
-        1 => random.below(8).min(left),
-        2 => random.below(left + 1),
-        _ => left,
     }
 }
 

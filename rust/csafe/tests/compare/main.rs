@@ -8,6 +8,7 @@
 mod by_origin;
 #[path = "../common/mod.rs"]
 mod common;
+mod cuts;
 mod damage;
 #[path = "../common/frame_damage.rs"]
 mod frame_damage;
@@ -25,6 +26,11 @@ mod lines;
 mod listed;
 mod listings;
 mod output;
+#[path = "../common/packet_damage.rs"]
+mod packet_damage;
+#[path = "../common/packet_held.rs"]
+mod packet_held;
+mod packets;
 #[path = "../common/program.rs"]
 mod program;
 mod tally;

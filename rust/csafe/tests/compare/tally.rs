@@ -4,7 +4,7 @@ use plain::frame::Origin;
 
 /// Counts answers by their number, 0 for a result.
 #[derive(Default)]
-pub struct Tally([usize; 19]);
+pub struct Tally([usize; 23]);
 
 impl Tally {
     pub fn add<T>(&mut self, answer: &Result<T, u8>) {

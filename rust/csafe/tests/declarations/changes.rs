@@ -6,7 +6,7 @@ use crate::Texts;
 type Change = (&'static str, &'static str, &'static str);
 
 #[rustfmt::skip]
-const OF_SOURCE: [Change; 14] = [
+const OF_SOURCE: [Change; 18] = [
     ("to: u8, from: u8", "from: u8, to: u8", "csafe_write_extended"),
     ("csafe_extended_length(to: u8, from: u8", "csafe_extended_length(from: u8, to: u8", "csafe_extended_length"),
     ("csafe_standard_length(contents: &[u8]", "csafe_standard_length(contents: &mut [u8]", "csafe_standard_length"),
@@ -20,11 +20,15 @@ const OF_SOURCE: [Change; 14] = [
     ("counts: &mut u64, position: &mut u32)", "counts: &mut u64, position: &mut u64)", "csafe_finish"),
     ("csafe_finish(state: &mut u64, counts", "csafe_finish(counts: &mut u64, state", "csafe_finish"),
     ("csafe_trace_read(wire: &[u8]", "csafe_trace_read(wire: &mut [u8]", "csafe_trace_read"),
+    ("letter: u8,\n    tens: u8", "tens: u8,\n    letter: u8", "csafe_packet_write"),
+    ("[u8; 254]", "[u8; 253]", "csafe_packet_feed"),
+    ("csafe_packet_read(wire: &[u8]", "csafe_packet_read(wire: &mut [u8]", "csafe_packet_read"),
+    ("csafe_packet_finish(state: &mut u64", "csafe_packet_finish(state: &mut u32", "csafe_packet_finish"),
     ("address: u32", "address: u8", "csafe_write_distance_workout_frame"),
 ];
 
 #[rustfmt::skip]
-const OF_BLOCK: [Change; 15] = [
+const OF_BLOCK: [Change; 18] = [
     ("to: u8, from: u8", "from: u8, to: u8", "csafe_write_extended"),
     ("csafe_extended_length(to: u8, from: u8", "csafe_extended_length(from: u8, to: u8", "csafe_extended_length"),
     ("csafe_standard_length(contents: *const u8", "csafe_standard_length(contents: *mut u8", "csafe_standard_length"),
@@ -39,11 +43,14 @@ const OF_BLOCK: [Change; 15] = [
     ("address: u32, token: u64)", "address: u32)", "csafe_hold"),
     ("wire_len", "length", "csafe_read"),
     ("csafe_trace_read(wire: *const u8", "csafe_trace_read(wire: *mut u8", "csafe_trace_read"),
+    ("letter: u8, tens: u8", "tens: u8, letter: u8", "csafe_packet_write"),
+    ("csafe_packet_read(wire: *const u8", "csafe_packet_read(wire: *mut u8", "csafe_packet_read"),
+    ("pub fn csafe_packet_finish(state: *mut u64) -> u64;", "", "csafe_packet_finish"),
     ("address: u32", "address: u8", "csafe_write_distance_workout_frame"),
 ];
 
 #[rustfmt::skip]
-const OF_HEADER: [Change; 15] = [
+const OF_HEADER: [Change; 19] = [
     ("uint8_t to, uint8_t from", "uint8_t from, uint8_t to", "csafe_write_extended"),
     ("csafe_extended_length(uint8_t to, uint8_t from", "csafe_extended_length(uint8_t from, uint8_t to",
         "csafe_extended_length"),
@@ -59,6 +66,10 @@ const OF_HEADER: [Change; 15] = [
     ("split_metres", "split_hundredths", "csafe_write_distance_workout"),
     ("enum {", "union {", "union"),
     ("csafe_trace_read(const uint8_t", "csafe_trace_read(uint8_t", "csafe_trace_read"),
+    ("uint8_t letter, uint8_t tens", "uint8_t tens, uint8_t letter", "csafe_packet_write"),
+    ("csafe_packet_read(const uint8_t", "csafe_packet_read(uint8_t", "csafe_packet_read"),
+    ("uint64_t csafe_packet_finish(uint64_t *state);", "", "csafe_packet_finish"),
+    ("#define CSAFE_PACKET_LINE_LEN 254", "#define CSAFE_PACKET_LINE_LEN 253", "csafe_packet_feed"),
     ("uint32_t address", "uint8_t address", "csafe_write_distance_workout_frame"),
 ];
 

@@ -1,4 +1,4 @@
-//! The declarations of the exported functions, in `src/ffi.rs` and in `csafe.h`, against the Rattle source of both
+//! The declarations of the exported functions, in `src/ffi.rs` and in `csafe.h`, against the Rattle source of the three
 //! static libraries: name by name, parameter by parameter, type by type, in order and both ways.
 //!
 //! The readers of the files know what stands there and nothing else. Anything else fails the tests.
@@ -13,16 +13,17 @@ mod tokens;
 use std::fs;
 use std::path::{Path, PathBuf};
 
-use csafe::{frame, lease, line, workout, Error};
+use csafe::{frame, lease, line, packet, workout, Error};
 
 use header::Header;
 use signature::{compare, without_array_lengths};
 
 /// The refusals that the exported functions give.
-const GIVEN: [u8; 14] = [1, 2, 3, 4, 5, 6, 9, 10, 11, 12, 14, 16, 17, 18];
+const GIVEN: [u8; 15] = [1, 2, 3, 4, 5, 6, 9, 10, 11, 12, 14, 16, 17, 18, 22];
 
-/// The crates whose functions are exported: those of the live line first, then those of stored traces.
-const CRATES: [&str; 2] = ["exports", "trace_exports"];
+/// The crates whose functions are exported: those of the live line first, then those of stored traces, then those of
+/// treadmill packets.
+const CRATES: [&str; 3] = ["exports", "trace_exports", "coscom_exports"];
 
 /// The files. The sources of the crates stand one after the other.
 struct Texts {
@@ -73,7 +74,7 @@ fn the_declarations_are_those_of_the_source() {
     let texts = Texts::read();
     assert_eq!(texts.check(), Ok(()));
     let functions = rattle::exported(&texts.source).expect("it was read before");
-    assert!(functions.len() >= 18, "{} functions", functions.len());
+    assert!(functions.len() >= 22, "{} functions", functions.len());
 }
 
 #[test]
@@ -106,6 +107,9 @@ fn the_headers_lengths_are_those_of_the_package() {
         ("CSAFE_WORKOUT_FRAME_LIMIT", workout::FRAME_LIMIT),
         ("CSAFE_STOP_LIMIT", lease::STOP_LIMIT),
         ("CSAFE_TABLE_LEN", lease::TABLE_LEN),
+        ("CSAFE_PACKET_LIMIT", packet::WIRE_LIMIT),
+        ("CSAFE_UNIT_LIMIT", packet::UNIT_LIMIT),
+        ("CSAFE_PACKET_LINE_LEN", packet::HELD_LEN),
     ];
     assert_eq!(lengths, expected);
 }

@@ -6,6 +6,7 @@ use plain::line::{self as plain_rust, Answer, Line};
 
 use super::{borrowed, our_reader, readers, Done, Readers};
 use crate::common::Xorshift;
+use crate::cuts::{pieces, places};
 use crate::frame_damage::{ESCAPE, EXTENDED_START, STANDARD_START, STOP};
 use crate::held::CHUNK_LIMIT as LIMIT;
 use crate::output::hex;
@@ -85,13 +86,6 @@ fn parts() -> Vec<Vec<u8>> {
         }
     }
     all
-}
-
-/// How many bytes of a part may stand before the end of what a call takes: any number, of a long part those about its
-/// two ends.
-fn places(part: &[u8]) -> impl Iterator<Item = usize> {
-    let len = part.len();
-    (0..=len).filter(move |before| *before < 10 || len - before < 5)
 }
 
 /// Readers of each origin that were fed a beginning.
@@ -228,21 +222,6 @@ fn parts_of_a_line_about_the_limit_are_read_alike() {
     for readers in all {
         readers.has_each(&[0, 2, 3, 4, 5, 6], 100);
     }
-}
-
-/// A stream in pieces, and whether a finish follows each. A piece ends after each byte whose bit is set in either
-/// number.
-fn pieces(stream: &[u8], cuts: u64, finishes: u64) -> Vec<(&[u8], bool)> {
-    let is_set = |bits: u64, at: usize| bits >> at & 1 == 1;
-    let mut all = Vec::new();
-    let mut start = 0;
-    for at in 0..stream.len() {
-        if is_set(cuts | finishes, at) || at + 1 == stream.len() {
-            all.push((&stream[start..=at], is_set(finishes, at)));
-            start = at + 1;
-        }
-    }
-    all
 }
 
 /// All answers of our iterator and our finish.

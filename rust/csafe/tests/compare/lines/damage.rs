@@ -4,8 +4,9 @@ use plain::damage::{part_at, read_changed};
 use plain::frame::Origin;
 use plain::line::Answer;
 
-use super::{any_chunk, Done, Readers};
+use super::{Done, Readers};
 use crate::common::Xorshift;
+use crate::cuts::any_chunk;
 use crate::damage::{changed, PartTally, Sound, STOP_TO_05};
 use crate::frame_damage::any_allowed_change;
 use crate::output::hex;

@@ -5,9 +5,10 @@ use csafe::{Error, Located};
 use plain::frame::{self as plain_rust, Origin, Read};
 use plain::line::Answer;
 
-use super::{any_chunk, check_held, refused_at, Done, FULL};
+use super::{check_held, refused_at, Done, FULL};
 use crate::by_origin;
 use crate::common::Xorshift;
+use crate::cuts::any_chunk;
 use crate::frame_damage::{ESCAPE, EXTENDED_START, STANDARD_START, STOP};
 use crate::held::{
     counts_of, Held, IN_EXTENDED, IN_STANDARD, LINE_LIMIT, MODES, OUTSIDE, OVERLONG,

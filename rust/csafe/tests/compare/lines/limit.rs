@@ -5,8 +5,9 @@ use plain::frame::Read;
 use plain::line::{self as plain_rust, Answer};
 
 use super::pair::Pair;
-use super::{any_chunk, refused_at, Done, FRAME, FULL};
+use super::{refused_at, Done, FRAME, FULL};
 use crate::common::Xorshift;
+use crate::cuts::any_chunk;
 use crate::frame_damage::{EXTENDED_START, STANDARD_START, STOP};
 use crate::held::{CHUNK_LIMIT, LINE_LIMIT as LIMIT};
 use crate::output::hex;
