@@ -15,15 +15,15 @@ use Rattle.lists.proofs.Lists.{take-bounds}
 use Rattle.lists.proofs.Splices.{set-splice, set2-splice, splice-next, length-splice, copied-fits}
 use Rattle.answer.specs.Answer.{result, refused, through}
 use Rattle.answer.proofs.Drafts.{writes-refusal, writes-no-room, writes-done}
-use Rattle.coscom.specs.Flags.{startFlag, stopFlag, candidateOf}
+use Rattle.coscom.specs.Flags.{startFlag, stopFlag, candidateOf, flagless}
 use Rattle.coscom.specs.Packet.{Packet, packet, isLetter, isDigit, isForbidden, isProper, sumOf, covered, checksum}
 use Rattle.coscom.specs.Packet.{tensDigit, onesDigit, twoDigits, payload, wireOf}
 use Rattle.coscom.specs.Verdict.{Verdict, packetIn, sumTens, sumOnes, isSpelt, isSummed, judge}
 use Rattle.coscom.specs.Verdict.{isBounded, verdict}
 use Rattle.coscom.specs.Answers.{packetDraft, PacketOutline, outline, outlineOf, judgeAnswer, readAnswer, unitOf}
 use Rattle.coscom.specs.Answers.{readOut, leftIn, packetRead}
-use Rattle.coscom.proofs.PacketLaws.{parts-length}
-use Rattle.coscom.proofs.VerdictLaws.{whole-length, whole-accepts, unit-in}
+use Rattle.coscom.proofs.PacketLaws.{parts-length, spelt-flagless}
+use Rattle.coscom.proofs.VerdictLaws.{whole-length, judge-accepts, whole-accepts, unit-in}
 
 -- ---- a loop that sums
 
@@ -210,6 +210,15 @@ pub refused-means : (v : Verdict) (n : ℕ) → refused n ≡ judgeAnswer v → 
 unfolding judgeAnswer
 refused-means (refused m) n e = let q : m ≡ n = cc in ap refused q
 refused-means (result p) n e = let z : _≡_ {A = ℕ} 0 1 = cc in absurd (omega arith)
+
+-- no flag stands in what is judged to be a packet
+pub packet-flagless : (body : List ℕ) (o : PacketOutline) → result o ≡ judgeAnswer (judge body) → flagless body ≡ true
+unfolding judgeAnswer
+packet-flagless body o e = by-verdict (judge body) refl e
+  where
+    by-verdict : (v : Verdict) → judge body ≡ v → result o ≡ judgeAnswer v → flagless body ≡ true
+    by-verdict (refused m) q e = let z : _≡_ {A = ℕ} 0 1 = cc in absurd (omega arith)
+    by-verdict (result p) q e = let a = judge-accepts body p q in spelt-flagless body (a .enough) (a .spelt)
 
 -- a candidate of which a packet was told
 pub record ToldIn (body : List ℕ) (o : PacketOutline) : Type 0 where

@@ -223,3 +223,10 @@ proper-flagless p x y m d e =
     of-unit : (b : ℕ) → InUnit b → isFlag b ≡ false
     of-unit b (inl h) = above-no-flag b (omega (arith, h .0))
     of-unit b (inr h) = above-no-flag b (omega arith)
+
+-- no flag stands in bytes that are allowed at their places
+pub spelt-flagless : (body : List ℕ) → 5 ≤ length body → isSpelt body ≡ true → flagless body ≡ true
+spelt-flagless body h e =
+    let a = spelt-allowed body h e in
+    ap flagless (in-parts body h)
+    ∙ proper-flagless (packetIn body) (sumTens body) (sumOnes body) (spelt-proper body h a) (a .sum-tens) (a .sum-ones)

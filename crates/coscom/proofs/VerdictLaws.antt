@@ -114,6 +114,7 @@ module _ (body : List ℕ) (limit : length body ≤ 254) where
 pub record Accepts (body : List ℕ) (p : Packet) : Type 0 where
   pub within-limit : length body ≤ 254
   pub enough : 5 ≤ length body
+  pub spelt : isSpelt body ≡ true
   pub packet-is : packetIn body ≡ p
 
 pub judge-accepts : (body : List ℕ) (p : Packet) → judge body ≡ result p → Accepts body p
@@ -125,7 +126,7 @@ judge-accepts body p e =
     (λ c. by-bool (isSummed body)
     (λ d. let q : result (packetIn body) ≡ result p = simp (a, b, c, d) at e in
     let r : packetIn body ≡ p = cc in
-    record { within-limit = omega (arith, leb-true (length body + 2) 256 a); enough = leb-true _ _ b; packet-is = r })
+    record { within-limit = omega (arith, leb-true (length body + 2) 256 a); enough = leb-true _ _ b; spelt = c; packet-is = r })
     (λ d. let q : refused 5 ≡ result p = simp (a, b, c, d) at e in
     let z : _≡_ {A = ℕ} 0 1 = cc in absurd (omega arith)))
     (λ c. let q : refused 22 ≡ result p = simp (a, b, c) at e in

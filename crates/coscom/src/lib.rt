@@ -61,7 +61,7 @@ pub fn write_packet(letter: u8, tens: u8, ones: u8, unit: &[u8], out: &mut [u8])
     }
     let sum = check::checksum_of(letter, tens, ones, unit);
     put_head(letter, tens, ones, out);
-    lists::copy_short(unit, out, 4);
+    lists::copy(unit, out, 4);
     put_tail(sum, out, unit.len() + 4);
     Written::Length(n)
 }
@@ -88,7 +88,7 @@ pub fn read_packet(wire: &[u8], out: &mut [u8]) -> Read
             if out.len() < len {
                 return Read::Refused(Refusal::NoRoom);
             }
-            lists::copy_short(&body[3..3 + len], out, 0);
+            lists::copy(&body[3..3 + len], out, 0);
             Read::Packet {
                 letter,
                 tens,
@@ -137,18 +137,35 @@ fn judge_first(s: &mut [u8], len: usize) -> Read
     }
 }
 
-// The verdict on what stands between the two flags. Refusals 6, 2, 4, 22 and 5.
+// The verdict on what stands between the two flags. Refusals 6, 2, 4, 22 and 5. No byte of a packet is a flag, so only
+// what is no packet is looked through for one.
 fn examine(body: &[u8]) -> Read
     ensures { λ r. ⌜ readMeans r ≡ judgeAnswer (verdict (candidateOf (now (body .entry)))) ⌝ }
 {
-    if !check::is_flagless(body) {
-        return Read::Refused(Refusal::Truncated);
+    let found = judge_body(body);
+    match found {
+        Read::Refused(why) => {
+            if check::is_flagless(body) {
+                return Read::Refused(why);
+            }
+            Read::Refused(Refusal::Truncated)
+        }
+        Read::Packet {
+            letter,
+            tens,
+            ones,
+            len,
+        } => Read::Packet {
+            letter,
+            tens,
+            ones,
+            len,
+        },
     }
-    examine_flagless(body)
 }
 
-// The same where neither flag stands in it. Refusals 2, 4, 22 and 5.
-fn examine_flagless(body: &[u8]) -> Read
+// The same where no flag stands in it. Refusals 2, 4, 22 and 5.
+fn judge_body(body: &[u8]) -> Read
     ensures { λ r. ⌜ readMeans r ≡ judgeAnswer (judge (now (body .entry))) ⌝ }
 {
     let n = body.len();

@@ -66,13 +66,13 @@ fn hold(bytes: &mut [u8; 254], len: usize, run: &[u8]) -> State
         let room = crate::ROOM - len;
         let n = run.len();
         if n <= room {
-            lists::copy_short(run, bytes, len);
+            lists::copy(run, bytes, len);
             return State {
                 len: len + n,
                 mode: Mode::Inside,
             };
         }
-        lists::copy_short(&run[..room], bytes, len);
+        lists::copy(&run[..room], bytes, len);
     }
     State {
         len: crate::FRESH,

@@ -18,7 +18,7 @@ use Rattle.coscom.proofs.read_packet.Statement.{statement}
 use Rattle.coscom.proofs.read_packet.Tie as tie
 use Rattle.coscom.proofs.check.is_bounded.Reads as is-bounded-reads
 use Rattle.coscom.proofs.examine.Reads as examine-reads
-use Rattle.lists.proofs.copy_short.Reads as copy-short-reads
+use Rattle.lists.proofs.copy.Reads as copy-reads
 
 abbrev W : tie.Else1 → List ℕ
 W t = t .before .before .before .before .args .wire .now
@@ -82,20 +82,20 @@ returns-2 c =
     let u = told k in
     read-no-room _ (Out k) (u .packet-is) (sym (whole (E k)) ∙ u .judged) (omega (arith, u .counted, c .if2 .taken))
 
-add-copy-short : tie.Need-add-copy-short
-add-copy-short c = search needs
+add-copy : tie.Need-add-copy
+add-copy c = search needs
 
-sub-copy-short : tie.Need-sub-copy-short
-sub-copy-short c = search needs
+sub-copy : tie.Need-sub-copy
+sub-copy c = search needs
 
-part-copy-short-start : tie.Need-part-copy-short-start
-part-copy-short-start c = search needs
+part-copy-start : tie.Need-part-copy-start
+part-copy-start c = search needs
 
-part-copy-short-end : tie.Need-part-copy-short-end
-part-copy-short-end c = let u = told (c .before .before) in omega (arith, u .fits)
+part-copy-end : tie.Need-part-copy-end
+part-copy-end c = let u = told (c .before .before) in omega (arith, u .fits)
 
-copy-short-requires : tie.Need-copy-short-requires
-copy-short-requires c κs = search needs
+copy-requires : tie.Need-copy-requires
+copy-requires c κs = search needs
 
 returns-3 : tie.Need-returns-3
 returns-3 c =
@@ -114,7 +114,7 @@ returns-4 c =
     let done =
     read-done _ (Out k) (u .packet-is) _ (sym (whole (E k)) ∙ u .judged) (omega (arith, u .counted, room))
     (copied-fits (u .packet-is .unit) (Out k) _ 0 (omega (arith, u .counted, room))
-    (c .before .before .copy-short .ensures
+    (c .before .before .copy .ensures
     ∙ ap (λ (i : ℕ). copied (Out k) 0 (take i (drop 3 (Body (E k))))) n ∙ ap (copied (Out k) 0) (sym (u .unit-is)))) in
     (ap result (sym (u .outline-is)) ∙ done .0, done .1)
 
@@ -132,11 +132,11 @@ read-packet-spec =
     enum-known-found
     enum-known-found-2
     returns-2
-    add-copy-short
-    sub-copy-short
-    part-copy-short-start
-    part-copy-short-end
-    copy-short-requires
+    add-copy
+    sub-copy
+    part-copy-start
+    part-copy-end
+    copy-requires
     returns-3
     same-length
     returns-4)

@@ -16,7 +16,7 @@ use Rattle.coscom.proofs.check.checksum_of.Reads as checksum-of-reads
 use Rattle.coscom.proofs.check.is_proper.Reads as is-proper-reads
 use Rattle.coscom.proofs.put_head.Reads as put-head-reads
 use Rattle.coscom.proofs.put_tail.Reads as put-tail-reads
-use Rattle.lists.proofs.copy_short.Reads as copy-short-reads
+use Rattle.lists.proofs.copy.Reads as copy-reads
 
 abbrev P : tie.Else2 → Packet
 P t =
@@ -60,8 +60,8 @@ checksum-of-requires c κs = search needs
 put-head-requires : tie.Need-put-head-requires
 put-head-requires c κs = search needs
 
-copy-short-requires : tie.Need-copy-short-requires
-copy-short-requires c κs = search needs
+copy-requires : tie.Need-copy-requires
+copy-requires c κs = search needs
 
 add-put-tail : tie.Need-add-put-tail
 add-put-tail c = search needs
@@ -82,7 +82,7 @@ returns-4 c =
     let p = P t in
     let room : length (p .unit) + 7 ≤ length (Out t) = sum .before .if3 .left in
     let whole = put-packet p (sum .checksum-of .result) (Out t) _ _ _ (sum .checksum-of .ensures .0) room
-    (head .put-head .ensures) (unit .copy-short .ensures) (tail .put-tail .ensures) in
+    (head .put-head .ensures) (unit .copy .ensures) (tail .put-tail .ensures) in
     let done = writes-done _ (wireOf p) (Out t) _ (drafted t) (omega (arith, wire-length p, room)) whole in
     (ap result (sym (wire-length p)) ∙ done .0, done .1)
 
@@ -97,7 +97,7 @@ write-packet-spec =
     returns-3
     checksum-of-requires
     put-head-requires
-    copy-short-requires
+    copy-requires
     add-put-tail
     put-tail-requires
     same-length

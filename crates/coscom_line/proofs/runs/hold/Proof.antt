@@ -11,8 +11,8 @@ use Rattle.coscom_line.proofs.runs.hold.Tie as tie
 sub-room : tie.Need-sub-room
 sub-room c = search needs
 
-copy-short-requires : tie.Need-copy-short-requires
-copy-short-requires c κs = search needs
+copy-requires : tie.Need-copy-requires
+copy-requires c κs = search needs
 
 add-t11 : tie.Need-add-t11
 add-t11 c = search needs
@@ -24,13 +24,13 @@ returns c =
     let a : length (p .args .bytes .now) ≡ capacity = search needs in
     kept-all (p .args .run .now) (p .args .bytes .now) _ (p .args .len) a (omega (arith, i .before .if1 .taken))
     (omega (arith, i .before .if1 .taken, i .if2 .taken))
-    (c .copy-short .ensures)
+    (c .copy .ensures)
 
-slice-aggregate-copy-short : tie.Need-slice-aggregate-copy-short
-slice-aggregate-copy-short c = sym (length-take-le _ _ (omega (arith, c .before .if2 .left)))
+slice-aggregate-copy : tie.Need-slice-aggregate-copy
+slice-aggregate-copy c = sym (length-take-le _ _ (omega (arith, c .before .if2 .left)))
 
-copy-short-requires-2 : tie.Need-copy-short-requires-2
-copy-short-requires-2 c κs = search needs
+copy-requires-2 : tie.Need-copy-requires-2
+copy-requires-2 c κs = search needs
 
 returns-2 : tie.Need-returns-2
 returns-2 c =
@@ -39,7 +39,7 @@ returns-2 c =
     let a : length (p .args .bytes .now) ≡ capacity = search needs in
     kept-first (p .args .run .now) (p .args .bytes .now) _ (p .args .len) a (omega (arith, i .before .if1 .taken))
     (omega (arith, i .if2 .left))
-    (c .copy-short2 .ensures)
+    (c .copy2 .ensures)
 
 returns-3 : tie.Need-returns-3
 returns-3 c =
@@ -51,10 +51,10 @@ hold-spec =
     tie.close
     (tie.spec
     sub-room
-    copy-short-requires
+    copy-requires
     add-t11
     returns
-    slice-aggregate-copy-short
-    copy-short-requires-2
+    slice-aggregate-copy
+    copy-requires-2
     returns-2
     returns-3)

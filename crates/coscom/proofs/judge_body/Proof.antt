@@ -8,8 +8,8 @@ use Rattle.coscom.specs.Answers.{judgeAnswer}
 use Rattle.coscom.proofs.VerdictLaws.{judge-long, judge-short, judge-character, judge-sum, judge-sound}
 use Rattle.coscom.proofs.CodeLaws.{answer-packet}
 use borrow.Author.Needs.{needs}
-use Rattle.coscom.proofs.examine_flagless.Statement.{statement}
-use Rattle.coscom.proofs.examine_flagless.Tie as tie
+use Rattle.coscom.proofs.judge_body.Statement.{statement}
+use Rattle.coscom.proofs.judge_body.Tie as tie
 use Rattle.coscom.proofs.check.is_spelt.Reads as is-spelt-reads
 use Rattle.coscom.proofs.check.is_summed.Reads as is-summed-reads
 
@@ -66,8 +66,8 @@ returns-5 c =
     (judge-sound (Body e) (two .before .if1 .left) (two .if2 .left) (spelt e)
     (sym (f .before .is-summed .ensures) ∙ not-false _ (f .if4 .left)))
 
-pub examine-flagless-spec : {M : Type 1} → statement M
-examine-flagless-spec =
+pub judge-body-spec : {M : Type 1} → statement M
+judge-body-spec =
     tie.close
     (tie.spec
     returns
