@@ -49,6 +49,12 @@ call-writes (wrote r κs unit out out′ e) = e
 pub call-reads : {w out last : List ℕ} {a : Answer PacketOutline} → CalledRead w out a last → Reads w out a last
 call-reads (read-slice r κs wire out out′ e) = e
 
+-- What a call wrote stands first in its output: the packet's bytes, at most 256, and each is allowed at its place.
+pub call-wire : {p : Packet} {out last : List ℕ} {n : ℕ} → CalledWrite p out (result n) last
+    → (take n last ≡ wireOf p) × (length (wireOf p) ≤ 256) × Proper p
+call-wire {p} {out} {last} {n} k =
+    trip.written-wire p out (result n) last n (table.written-by-table p out (result n) last .0 (call-writes k)) refl
+
 -- ---- demand 1: the tables
 
 -- A call that reads is answered, and leaves its output, exactly as the papers' table says.

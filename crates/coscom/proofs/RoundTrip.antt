@@ -132,8 +132,8 @@ module _ (w out : List ℕ) (a : Answer PacketOutline) (last : List ℕ) (r : Re
         (v .0, told-exactly (v .0) (omega (arith, unit-short w (v .0) k, room)) .1 k)),
   )
 
--- the bytes of a packet that was written stand first in the output
-written-wire : (p : Packet) (out : List ℕ) (a : Answer ℕ) (last : List ℕ) (n : ℕ) → WriteJudged p out a last
+-- The bytes of a packet that was written stand first in the output.
+pub written-wire : (p : Packet) (out : List ℕ) (a : Answer ℕ) (last : List ℕ) (n : ℕ) → WriteJudged p out a last
     → a ≡ result n → (take n last ≡ wireOf p) × (length (wireOf p) ≤ 256) × Proper p
 written-wire p out a last n (overLimit l) e = let z : _≡_ {A = ℕ} 0 1 = cc in absurd (omega arith)
 written-wire p out a last n (notProper l k) e = let z : _≡_ {A = ℕ} 0 1 = cc in absurd (omega arith)

@@ -1,8 +1,9 @@
 // The tests on a packet's bytes, and its checksum.
+use crate::HEADER_LEN;
 use crate::START;
 use crate::STOP;
 ghost use mathlib.Core.Path.{_≡_};
-ghost use Prim.Native.Nat.{_+_, _*_, _≤_};
+ghost use Prim.Native.Nat.{_+_, _≤_};
 ghost use lib.ListN.{length};
 ghost use Rattle.lists.specs.Choice.{pick, within, noneOf};
 ghost use Rattle.coscom.specs.Flags.{flagless};
@@ -12,7 +13,7 @@ ghost use Rattle.coscom.specs.Verdict.{isSpelt, isSummed, isBounded};
 // The separator of a data unit's fields, the one control character in it.
 const SEPARATOR: u8 = 0x1D;
 
-const DIGIT_ZERO: u8 = 0x30;
+pub(crate) const DIGIT_ZERO: u8 = 0x30;
 
 const DIGIT_NINE: u8 = 0x39;
 
@@ -82,7 +83,7 @@ pub(crate) fn is_spelt(body: &[u8]) -> bool
     ensures { λ r. ⌜ r ≡ isSpelt (now (body .entry)) ⌝ }
 {
     let n = body.len();
-    if !is_proper(body[0], body[1], body[2], &body[3..n - 2]) {
+    if !is_proper(body[0], body[1], body[2], &body[HEADER_LEN..n - 2]) {
         return false;
     }
     if !is_digit(body[n - 2]) {
@@ -98,7 +99,7 @@ pub(crate) fn is_summed(body: &[u8]) -> bool
     ensures { λ r. ⌜ r ≡ isSummed (now (body .entry)) ⌝ }
 {
     let n = body.len();
-    let sum = checksum_of(body[0], body[1], body[2], &body[3..n - 2]);
+    let sum = checksum_of(body[0], body[1], body[2], &body[HEADER_LEN..n - 2]);
     if body[n - 2] != DIGIT_ZERO + sum / 10 {
         return false;
     }
@@ -153,8 +154,8 @@ pub(crate) fn is_bounded(wire: &[u8]) -> bool
     wire[n - 1] == STOP
 }
 
-// Whether neither flag stands in a slice. A packet has no byte from 01 to 17 between its flags, so that one look is
-// enough for it.
+// Whether neither flag stands in a slice. Both lie in 01 to 17, and most bytes on the line outside of it, so that one
+// look is mostly enough.
 pub(crate) fn is_flagless(s: &[u8]) -> bool
     ensures { λ r. ⌜ r ≡ flagless (now (s .entry)) ⌝ }
 {

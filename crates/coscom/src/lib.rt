@@ -19,16 +19,22 @@ pub const START: u8 = 0x01;
 
 pub const STOP: u8 = 0x17;
 
-// The longest data unit: a packet has seven bytes more, and at most 256.
+// The longest data unit. A packet has at most 256 bytes.
 const UNIT_LIMIT: usize = 249;
+
+// The bytes of a packet around its data unit: flags, header and checksum.
+const AROUND_UNIT: usize = 7;
 
 // The most bytes that may stand between the flags of a packet.
 const BODY_LIMIT: usize = 254;
 
 // The bytes of a header, which stand before the data unit.
-const HEADER_LEN: usize = 3;
+pub(crate) const HEADER_LEN: usize = 3;
 
-// The header's three bytes and the checksum's two.
+// The start flag and the header, which stand before the data unit on the wire.
+const HEAD_LEN: usize = 4;
+
+// The fewest bytes between the flags: the header's and the checksum's two.
 const FEWEST: usize = 5;
 
 // The answer to reading: the header and the number of bytes of the data unit, or why it was refused.
@@ -55,14 +61,14 @@ pub fn write_packet(letter: u8, tens: u8, ones: u8, unit: &[u8], out: &mut [u8])
     if !check::is_proper(letter, tens, ones, unit) {
         return Written::Refused(Refusal::BadCharacter);
     }
-    let n = unit.len() + 7;
+    let n = unit.len() + AROUND_UNIT;
     if out.len() < n {
         return Written::Refused(Refusal::NoRoom);
     }
     let sum = check::checksum_of(letter, tens, ones, unit);
     put_head(letter, tens, ones, out);
-    lists::copy(unit, out, 4);
-    put_tail(sum, out, unit.len() + 4);
+    lists::copy(unit, out, HEAD_LEN);
+    put_tail(sum, out, unit.len() + HEAD_LEN);
     Written::Length(n)
 }
 
@@ -88,7 +94,7 @@ pub fn read_packet(wire: &[u8], out: &mut [u8]) -> Read
             if out.len() < len {
                 return Read::Refused(Refusal::NoRoom);
             }
-            lists::copy(&body[3..3 + len], out, 0);
+            lists::copy(&body[HEADER_LEN..HEADER_LEN + len], out, 0);
             Read::Packet {
                 letter,
                 tens,
@@ -100,8 +106,8 @@ pub fn read_packet(wire: &[u8], out: &mut [u8]) -> Read
 }
 
 // Judges the candidate that the start flag, the first `len` bytes of an array (all where it has fewer) and the stop flag
-// make. The data unit of an accepted packet is brought to the front; a refusal changes nothing. Refusals 6, 2, 4, 22
-// and 5.
+// make. The data unit of an accepted packet is brought to the front; a refusal changes nothing. Refusals 6, 4, 22 and
+// 5: with at most 254 bytes 2 does not occur.
 pub fn judge_array(bytes: &mut [u8; 254], len: usize) -> Read
     ensures { λ r. ⌜ readMeans r ≡ judgeAnswer (verdict (candidateOf (take len (now (bytes .entry))))) ⌝ }
     ensures { λ r. ⌜ now (bytes .exit)
@@ -185,7 +191,7 @@ fn judge_body(body: &[u8]) -> Read
         letter: body[0],
         tens: body[1],
         ones: body[2],
-        len: n - 5,
+        len: n - FEWEST,
     }
 }
 
@@ -206,7 +212,7 @@ fn put_tail(sum: u8, out: &mut [u8], at: usize)
     requires { ⌜ at + 3 ≤ length (now out) ⌝ }
     ensures { λ r. ⌜ now (out .exit) ≡ splice (now (out .entry)) at (tensDigit sum ∷ onesDigit sum ∷ 0x17 ∷ []) ⌝ }
 {
-    out[at] = 0x30 + sum / 10;
-    out[at + 1] = 0x30 + sum % 10;
+    out[at] = check::DIGIT_ZERO + sum / 10;
+    out[at + 1] = check::DIGIT_ZERO + sum % 10;
     out[at + 2] = STOP;
 }

@@ -5,28 +5,34 @@ use mathlib.Core.Path.{_≡_, refl, sym, ap, ap₂, _∙_, subst}
 use mathlib.Core.List.{List, [], _∷_, _++_}
 use native.Mathlib.Omega.{arith}
 use Prim.Native.Nat.{ℕ, _≤_}
-use lib.ListN.{length}
+use lib.ListN.{length, take}
 use contract.Lifetimes.{Lfts}
 use denote.Ref.{RefT}
 use Rattle.lists.specs.Choice.{Every}
 use Rattle.lists.specs.Machine.{RanBy, Through, AnsweredBy}
 use Rattle.lists.proofs.Machines.{ran-by-run, through-known}
-use Rattle.framing.specs.Reference.{Call, byte, finish}
+use Rattle.framing.specs.Reference.{Call, byte, finish, Reference}
 use Rattle.framing.specs.Demand3.{feed, Demand3}
 use Rattle.framing.proofs.Restart.{demand3-of}
+use Rattle.answer.specs.Answer.{result}
 use Rattle.coscom.specs.Flags.{stopFlag}
+use Rattle.coscom.specs.Packet.{Packet}
+use Rattle.coscom.proofs.Table.{written-by-table}
+use Rattle.coscom.proofs.RoundTrip.{written-wire}
 use Rattle.coscom_line.specs.Outcome.{Outcome, outcomeOf, capacity, Not1}
 use Rattle.coscom_line.specs.Reader.{coscom, outcomeAt, nextAfter, AsNew}
-use Rattle.coscom_line.specs.Chunk.{cutChunk, TakenToAnswer, byByte, TakesFirst, AsSingly}
+use Rattle.coscom_line.specs.Chunk.{cutChunk, TakenToAnswer, byByte, TakesFirst, AsSingly, toldAlone}
 use Rattle.coscom_line.proofs.ValueLaws.{call-whole, fed-whole}
 use Rattle.coscom_line.proofs.ChunkLaws.{takes-to-answer, takes-first}
 use Rattle.coscom_line.proofs.Follows.{as-new-follows}
+use Rattle.coscom_line.proofs.WrittenTold.{reference-told-packet}
 use Rattle.coscom_line.proofs.Consequences.{run-never-1, left-new, left-closed}
 use Rattle.coscom_exports.specs.LineState.{LentLine, lentLine, newLine, readerIn, readerOf}
 use Rattle.coscom_exports.specs.LineAnswers.{fedTo, FedAs}
 use Rattle.coscom_exports.specs.Told.{toldOutcome}
 use Rattle.coscom_exports.proofs.ToldLaws.{fed-told, finish-told}
 use Rattle.coscom_exports.proofs.LineAnswerLaws.{fed-next, finished-next}
+use Rattle.coscom_exports.proofs.PacketCalls.{ExportedWrite, exported-writes}
 use Rattle.coscom_exports.proofs.csafe_packet_feed.Reads as feed-reads
 use Rattle.coscom_exports.proofs.csafe_packet_finish.Reads as finish-reads
 
@@ -108,6 +114,15 @@ pub exported-stream : {l last : LentLine} {stream : List Call} {outcomes : List 
 exported-stream t =
     exported-singly (through-known ExportedLine ExportedLine (λ l calls. Unit {0}) each-takes t tt)
 
+-- So two ways of cutting one stream give the same outcomes, and leave the same reader.
+pub exported-stream-alike : {l last last′ : LentLine} {stream : List Call} {outcomes outcomes′ : List Outcome}
+    → Through ExportedLine l stream outcomes last → Through ExportedLine l stream outcomes′ last′
+    → (outcomes ≡ outcomes′) × (readerOf last ≡ readerOf last′)
+exported-stream-alike t u =
+    let a = exported-stream t in
+    let b = exported-stream u in
+    (a .outcomes-are ∙ sym (b .outcomes-are), a .reader-is ∙ sym (b .reader-is))
+
 -- Demand 3, whole, from any array of 254 bytes and a number that is outside of a candidate.
 pub exported-demand-3 : Demand3 coscom (AnsweredBy ExportedLine (λ l. AsNew (readerOf l)))
 exported-demand-3 =
@@ -120,6 +135,16 @@ pub new-line : AsNew (readerOf newLine)
 new-line = record { array = refl; outside-is = refl }
 
 -- ---- consequences
+
+-- What an exported call wrote, fed in whichever calls to a reader that is as new, is told as that packet and nothing
+-- else.
+pub exported-written-told : {p : Packet} {out last : List ℕ} {n : ℕ} {outcomes : List Outcome}
+    → ExportedWrite p out (result n) last
+    → AnsweredBy ExportedLine (λ l. AsNew (readerOf l)) (feed (take n last)) outcomes → outcomes ≡ toldAlone p
+exported-written-told {p} {out} {last} {n} {outcomes} k t =
+    let w = written-wire p out (result n) last n (written-by-table p out (result n) last .0 (exported-writes k)) refl in
+    exported-demand-3 .same (feed (take n last)) outcomes t
+    ∙ ap (λ (s : List ℕ). Reference coscom (feed s)) (w .0) ∙ reference-told-packet p (w .2) (w .1)
 
 -- No call of a row, from whichever array and number, is answered 1.
 pub exported-never-1 : {l last : LentLine} {calls : List Call} {outcomes : List Outcome}

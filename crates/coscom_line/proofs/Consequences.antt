@@ -11,7 +11,6 @@ use Rattle.lists.proofs.Cases.{by-bool}
 use Rattle.lists.proofs.Machines.{left-append}
 use Rattle.answer.specs.Answer.{refused}
 use Rattle.framing.specs.Reference.{Call, byte, finish, Role, starts, stops, plain}
-use Rattle.framing.specs.Bounded.{outside}
 use Rattle.coscom.specs.Flags.{stopFlag, roleOf}
 use Rattle.coscom.specs.Verdict.{Verdict, verdict}
 use Rattle.coscom.specs.Conditions.{Judged, truncated, long, short, badCharacter, badSum, sound}

@@ -1,10 +1,12 @@
--- A packet that was written is told by a reader that is as new, and nothing else is.
+-- The bytes of a packet that may be written, and what a call wrote, are told by a reader that is as new as that packet
+-- and nothing else.
 use mathlib.Core.Path.{_≡_, refl, sym, ap, _∙_, subst}
 use mathlib.Core.List.{List, [], _∷_, _++_, append-assoc}
 use native.Mathlib.Omega.{arith}
 use Prim.Native.Nat.{ℕ, _≤_}
-use lib.ListN.{length, length-append}
+use lib.ListN.{length, take, length-append}
 use Rattle.lists.specs.Machine.{run, AnsweredBy}
+use Rattle.answer.specs.Answer.{result}
 use Rattle.framing.specs.Reference.{Role, FlagFree, opened, byteAnswer, byteAfter, answerTo, candidateAfter, Reference}
 use Rattle.framing.specs.Demand3.{feed}
 use Rattle.coscom.specs.Flags.{startFlag, stopFlag, roleOf, candidateOf}
@@ -12,6 +14,7 @@ use Rattle.coscom.specs.Packet.{Packet, wireOf}
 use Rattle.coscom.specs.Verdict.{Verdict, verdict}
 use Rattle.coscom.specs.Conditions.{Proper}
 use Rattle.coscom.proofs.RoundTrip.{written-sound, reads-back}
+use Rattle.coscom.proofs.Calls.{CalledWrite, call-wire}
 use Rattle.coscom_line.specs.Outcome.{Outcome, nothing, judged}
 use Rattle.coscom_line.specs.Reader.{coscom, AsNew}
 use Rattle.coscom_line.specs.Chunk.{byByte, toldAlone}
@@ -61,3 +64,12 @@ module _ (p : Packet) (proper : Proper p) (short : length (wireOf p) ≤ 256) wh
   pub written-told : {outcomes : List Outcome} → AnsweredBy CalledOn AsNew (feed (wireOf p)) outcomes
       → outcomes ≡ toldAlone p
   written-told {outcomes} k = chunks-demand-3 .same (feed (wireOf p)) outcomes k ∙ reference-told-packet
+
+-- What a call wrote, given to a reader that is as new in whichever calls, is told as that packet and nothing else.
+pub call-written-told : {p : Packet} {out last : List ℕ} {n : ℕ} {outcomes : List Outcome}
+    → CalledWrite p out (result n) last → AnsweredBy CalledOn AsNew (feed (take n last)) outcomes
+    → outcomes ≡ toldAlone p
+call-written-told {p} {out} {last} {n} {outcomes} k t =
+    let w = call-wire k in
+    chunks-demand-3 .same (feed (take n last)) outcomes t
+    ∙ ap (λ (l : List ℕ). Reference coscom (feed l)) (w .0) ∙ reference-told-packet p (w .2) (w .1)

@@ -3,7 +3,8 @@ use Prim.Native.Nat.{ℕ, _+_, _*_, _/_, _%_, _^_, _<_}
 use mathlib.Core.Path.{_≡_}
 
 -- What it tells: a refusal's number, 0 for a result; the kind of frame, 0 for standard, 1 for extended and 2
--- where a line reader told nothing; the addresses; the length.
+-- where a line reader told nothing; the addresses; the length. Of packets, which have a library of their own, the bytes
+-- of the header stand in place of kind and addresses.
 pub record Fields : Type 0 where
   pub number : ℕ
   pub kind : ℕ

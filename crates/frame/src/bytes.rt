@@ -1,8 +1,5 @@
-// Loops over bytes that the compiler turns into vector code: a look for a range of values, the exclusive or, a shift.
+// A loop over bytes that the compiler turns into vector code: a look for a range of values, and the exclusive or.
 ghost use mathlib.Core.Path.{_≡_};
-ghost use mathlib.Core.List.{_++_};
-ghost use Prim.Native.Nat.{_+_, _≤_};
-ghost use lib.ListN.{length, take, drop};
 ghost use Rattle.lists.specs.Choice.{pick, within, noneOf};
 ghost use Rattle.frame.specs.Checksum.{checksum};
 

@@ -144,16 +144,17 @@ pub fits-copied : (s out last : List ℕ) (at : ℕ) → at + length s ≤ lengt
     → last ≡ copied out at s
 fits-copied s out last at h e = e ∙ sym (copied-fits s out _ at h refl)
 
--- elements brought to the front where there are so many
+pub past-copied : (s out : List ℕ) (at : ℕ) → length out < at + length s → out ≡ copied out at s
+past-copied s out at h = simp (lt-leb (at + length s) (length out) h)
+
+-- ---- elements brought to the front
+
 pub shifted-fits : (s last : List ℕ) (by count : ℕ) → by + count ≤ length s
     → last ≡ take count (drop by s) ++ drop count s → last ≡ shifted s by count
 shifted-fits s last by count h e = e ∙ sym (simp (le-leb (by + count) (length s) h) refl)
 
 pub past-shifted : (s : List ℕ) (by count : ℕ) → length s < by + count → s ≡ shifted s by count
 past-shifted s by count h = simp (lt-leb (by + count) (length s) h)
-
-pub past-copied : (s out : List ℕ) (at : ℕ) → length out < at + length s → out ≡ copied out at s
-past-copied s out at h = simp (lt-leb (at + length s) (length out) h)
 
 -- ---- zeros from an index on
 

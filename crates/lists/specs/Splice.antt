@@ -1,4 +1,5 @@
--- A list put into another at an index: what a writer leaves in a lent slice.
+-- A list put into another at an index, which is what a writer leaves in a lent slice; a part of a list brought to its
+-- front; and zeros from an index on.
 use Prim.Native.Nat.{ℕ, _+_, _-_}
 use mathlib.Core.List.{List, _++_}
 use lib.Dec.{leb}

@@ -1,5 +1,6 @@
 // Definitions and laws on lists that the layers above share: a choice by a test, a test on every element, a list put
-// into another from an index on, the first element that passes a test, and a machine run on a list of calls.
+// into another from an index on, a part brought to the front, zeros from an index on, the first element that passes a
+// test, and a machine run on a list of calls.
 ghost use mathlib.Core.Path.{_≡_};
 ghost use mathlib.Core.List.{_++_};
 ghost use Prim.Native.Nat.{_+_, _%_, _≤_, _<_};
