@@ -21,7 +21,8 @@ use Rattle.coscom.proofs.Table.{written-by-table}
 use Rattle.coscom.proofs.RoundTrip.{written-wire}
 use Rattle.coscom_line.specs.Outcome.{Outcome, outcomeOf, capacity, Not1}
 use Rattle.coscom_line.specs.Reader.{coscom, outcomeAt, nextAfter, AsNew}
-use Rattle.coscom_line.specs.Chunk.{cutChunk, TakenToAnswer, byByte, TakesFirst, AsSingly, toldAlone}
+use Rattle.framing.specs.Chunk.{cutChunk}
+use Rattle.coscom_line.specs.Chunk.{TakenToAnswer, byByte, TakesFirst, AsSingly, toldAlone}
 use Rattle.coscom_line.proofs.ValueLaws.{call-whole, fed-whole}
 use Rattle.coscom_line.proofs.ChunkLaws.{takes-to-answer, takes-first}
 use Rattle.coscom_line.proofs.Follows.{as-new-follows}

@@ -14,7 +14,8 @@ use Rattle.framing.specs.Demand3.{feed, Demand3}
 use Rattle.framing.proofs.Restart.{demand3-of}
 use Rattle.coscom_line.specs.Outcome.{Outcome, toldMeans, summaryOf, outcomeOf, ValueAnswer, valueOutcome}
 use Rattle.coscom_line.specs.Reader.{coscom, lentReader, outcomeAt, nextAfter, AsNew}
-use Rattle.coscom_line.specs.Chunk.{cutChunk, chunkOf, ChunkIs, TakenToAnswer, byByte}
+use Rattle.framing.specs.Chunk.{cutChunk}
+use Rattle.coscom_line.specs.Chunk.{chunkOf, ChunkIs, TakenToAnswer, byByte}
 use Rattle.coscom_line.specs.Chunk.{TakesFirst, AsSingly}
 use Rattle.coscom_line.specs.declared.Told.{Told}
 use Rattle.coscom_line.specs.declared.State.{State}

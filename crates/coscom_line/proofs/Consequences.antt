@@ -1,28 +1,24 @@
 -- The reader that calls leave, in any form, is as new after a finish and after the stop flag, and it never answers 1.
-use mathlib.Core.Path.{_≡_, refl, sym, ap, _∙_, subst}
+use mathlib.Core.Path.{_≡_, refl, sym, _∙_, subst}
 use mathlib.Core.List.{List, [], _∷_, _++_}
 use native.Mathlib.Omega.{arith}
 use Prim.Native.Nat.{ℕ}
-use lib.Dec.{ltb}
-use lib.ListN.{length, length-set}
+use lib.ListN.{length}
 use Rattle.lists.specs.Choice.{Every}
 use Rattle.lists.specs.Machine.{run, leftAfter, RanBy}
-use Rattle.lists.proofs.Cases.{by-bool}
-use Rattle.lists.proofs.Machines.{left-append}
+use Rattle.lists.proofs.Machines.{left-append, left-keeps, run-every}
 use Rattle.answer.specs.Answer.{refused}
-use Rattle.framing.specs.Reference.{Call, byte, finish, Role, starts, stops, plain}
-use Rattle.coscom.specs.Flags.{stopFlag, roleOf}
+use Rattle.framing.specs.Reference.{Call, byte, finish}
+use Rattle.framing.proofs.Bounded.{bounded-kept}
+use Rattle.coscom.specs.Flags.{stopFlag}
 use Rattle.coscom.specs.Verdict.{Verdict, verdict}
 use Rattle.coscom.specs.Conditions.{Judged, truncated, long, short, badCharacter, badSum, sound}
 use Rattle.coscom.proofs.Table.{verdict-by-table}
 use Rattle.coscom_line.specs.Outcome.{Outcome, nothing, judged, Not1, capacity}
-use Rattle.coscom_line.specs.Reader.{readerOf, AsNew, roleStep, outcomeAt}
-use Rattle.coscom_line.specs.Reader.{nextAfter}
+use Rattle.coscom_line.specs.Reader.{coscom, coscomBounds, seen, AsNew, outcomeAt, nextAfter}
 use Rattle.coscom_line.specs.Chunk.{AsSingly}
 use Rattle.coscom_line.specs.declared.LineReader.{LineReader}
-use Rattle.coscom_line.specs.declared.Mode.{Mode}
-use Rattle.coscom_line.specs.declared.Mode.the-variants.{Outside, Inside, Overlong}
-use Rattle.coscom_line.proofs.ReaderLaws.{held-byte}
+use Rattle.coscom_line.specs.declared.Mode.the-variants.{Outside}
 use Rattle.coscom_line.proofs.Follows.{coscom-suits}
 use Rattle.coscom_line.proofs.OutcomeLaws.{every-outcome}
 use Rattle.coscom_line.proofs.ChunkCalls.{CalledOn, chunks-singly}
@@ -60,8 +56,7 @@ call-not-1 =
 
 -- No call on a reader is answered 1.
 pub run-never-1 : (r : LineReader) (calls : List Call) → Every Not1 (run outcomeAt nextAfter r calls)
-run-never-1 r [] = tt
-run-never-1 r (c ∷ calls) = (call-not-1 r c, run-never-1 (nextAfter r c) calls)
+run-never-1 r calls = run-every outcomeAt nextAfter (λ u. Unit {0}) Not1 (λ u c k. (tt, call-not-1 u c)) r calls tt
 
 -- No call of a row, in whichever form and on whichever reader, is answered 1.
 pub calls-never-1 : {r last : LineReader} {calls : List Call} {outcomes : List Outcome}
@@ -70,36 +65,20 @@ calls-never-1 {r} {last} {calls} k = subst (Every Not1) (sym (chunks-singly k .o
 
 -- ---- as new
 
--- a byte of a role keeps the array's length
-byte-kept : (bytes : List ℕ) (len b : ℕ) → length bytes ≡ capacity → (mode : Mode) (ρ : Role)
-    → length (roleStep ρ (readerOf bytes len mode) b .next .bytes) ≡ capacity
-byte-kept bytes len b h mode starts = h
-byte-kept bytes len b h Outside stops = h
-byte-kept bytes len b h Inside stops = coscom-suits .kept tt len bytes h
-byte-kept bytes len b h Overlong stops = h
-byte-kept bytes len b h Outside plain = h
-byte-kept bytes len b h Inside plain =
-    ap (λ (r : LineReader). length (r .bytes)) (held-byte bytes len b)
-    ∙ by-bool (ltb len capacity) (λ y. simp (y, length-set bytes len b) h) (λ n. simp n h)
-byte-kept bytes len b h Overlong plain = h
+abbrev HasArray : LineReader → Type 0
+HasArray r = length (r .bytes) ≡ capacity
 
-call-kept : (r : LineReader) (c : Call) → length (r .bytes) ≡ capacity → length (nextAfter r c .bytes) ≡ capacity
-call-kept r (byte b) h = byte-kept (r .bytes) (r .state .len) b h (r .state .mode) (roleOf b)
-call-kept r finish h = h
+call-kept : (r : LineReader) (c : Call) → HasArray r → HasArray (nextAfter r c)
+call-kept r c h = bounded-kept coscom coscomBounds coscom-suits (seen r) c h
 
-left-kept : (r : LineReader) (calls : List Call) → length (r .bytes) ≡ capacity
-    → length (leftAfter nextAfter r calls .bytes) ≡ capacity
-left-kept r [] h = h
-left-kept r (c ∷ calls) h = left-kept (nextAfter r c) calls (call-kept r c h)
-
-module _ (r last : LineReader) (calls : List Call) (outcomes : List Outcome) (h : length (r .bytes) ≡ capacity) where
+module _ (r last : LineReader) (calls : List Call) (outcomes : List Outcome) (h : HasArray r) where
   -- after a call that leaves it outside of a candidate
   closed-by : (c : Call) → nextAfter (leftAfter nextAfter r calls) c .state .mode ≡ Outside
       → AsSingly r (calls ++ c ∷ []) outcomes last → AsNew last
   closed-by c e k =
       let u = leftAfter nextAfter r calls in
       subst AsNew (sym (k .reader-is ∙ left-append nextAfter r calls (c ∷ [])))
-      (record { array = call-kept u c (left-kept r calls h); outside-is = e })
+      (record { array = call-kept u c (left-keeps nextAfter HasArray call-kept r calls h); outside-is = e })
 
   -- The reader that calls leave which are answered as singly, the last a finish or the stop flag, is as new, whatever
   -- it was before.

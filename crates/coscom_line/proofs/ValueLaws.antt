@@ -1,23 +1,22 @@
 -- The whole answer to a call: the enum and the array that is left tell the outcome, and the array beside an answer by
 -- value is the outcome's data unit and then zeros.
 use mathlib.Core.Path.{_≡_, refl, ap}
-use mathlib.Core.Bool.{Bool, true, false}
-use mathlib.Core.List.{List, [], _∷_}
+use mathlib.Core.List.{List}
 use Prim.Native.Nat.{ℕ, _-_}
 use lib.ListN.{length, take, replicate}
 use lib.Seq.{take-at}
-use Rattle.lists.specs.Choice.{pick}
 use Rattle.answer.specs.Answer.{result, refused}
 use Rattle.framing.specs.Reference.{Call, byte, finish, Role, starts, stops, plain}
 use Rattle.framing.specs.Bounded.{BoundedMode, outside, inside, overlong, truncatedIn, terminatedIn, leftByStop}
+use Rattle.framing.proofs.Chunk.{fed-has}
 use Rattle.coscom.specs.Flags.{roleOf, candidateOf}
 use Rattle.coscom.specs.Packet.{Packet, packet}
 use Rattle.coscom.specs.Verdict.{verdict}
 use Rattle.coscom.specs.Answers.{judgeAnswer, packetRead}
 use Rattle.coscom_line.specs.Outcome.{Outcome, nothing, judged, summaryOf, outcomeOf, isAnswer, capacity, padded}
 use Rattle.coscom_line.specs.Outcome.{unitTold, ValueAnswer, valueAnswerOf, valueOutcome}
-use Rattle.coscom_line.specs.Reader.{coscom, coscomBounds, modeSeen, ReaderTurn, roleStep, stepOf, turnOf}
-use Rattle.coscom_line.specs.Chunk.{ChunkTurn, chunkTurn, laterBy, feedOf}
+use Rattle.coscom_line.specs.Reader.{coscom, coscomBounds, modeSeen, roleStep, turnOf}
+use Rattle.coscom_line.specs.Chunk.{feedOf}
 use Rattle.coscom_line.specs.Private.{Whole, besideTold}
 use Rattle.coscom_line.specs.declared.LineReader.{LineReader}
 use Rattle.coscom.proofs.CodeLaws.{left-whole}
@@ -51,19 +50,9 @@ call-whole r finish = truncated-whole (modeSeen (r .state .mode)) (r .bytes)
 -- The same of bytes up to the first that is answered.
 pub fed-whole : (r : LineReader) (s : List ℕ)
     → outcomeOf (summaryOf (feedOf r s .answer)) (feedOf r s .next .bytes) ≡ feedOf r s .answer
-unfolding feedOf
-fed-whole r [] = refl
-fed-whole r (b ∷ s) =
-    by-answer (isAnswer (stepOf r b .answer)) (stepOf r b) (call-whole r (byte b)) (feedOf (stepOf r b .next) s)
-    (fed-whole (stepOf r b .next) s)
-  where
-    by-answer : (q : Bool) (t : ReaderTurn) → Whole t → (f : ChunkTurn)
-        → outcomeOf (summaryOf (f .answer)) (f .next .bytes) ≡ f .answer
-        → outcomeOf (summaryOf (pick q (chunkTurn (t .answer) (t .next) 1) (laterBy 1 f) .answer))
-        (pick q (chunkTurn (t .answer) (t .next) 1) (laterBy 1 f) .next .bytes)
-        ≡ pick q (chunkTurn (t .answer) (t .next) 1) (laterBy 1 f) .answer
-    by-answer true t h f k = h
-    by-answer false t h f k = k
+fed-whole r s =
+    fed-has nothing isAnswer turnOf (λ u. Unit {0}) (λ o u. outcomeOf (summaryOf o) (u .bytes) ≡ o) (λ u k. refl)
+    (λ u b k. (tt, call-whole u (byte b))) r s tt
 
 -- ---- the array beside an answer
 

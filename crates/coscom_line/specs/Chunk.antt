@@ -1,51 +1,28 @@
 -- The call that takes a chunk, and the same bytes fed singly: document 02, No. 4.
 use mathlib.Core.Path.{_≡_}
-use mathlib.Core.List.{List, [], _∷_}
-use Prim.Native.Nat.{ℕ, zero, suc, _+_, _≤_}
-use lib.ListN.{length, take}
-use Rattle.lists.specs.Choice.{pick}
-use Rattle.lists.specs.Machine.{run, leftAfter}
+use mathlib.Core.List.{List}
+use Prim.Native.Nat.{ℕ, _≤_}
+use lib.ListN.{length}
 use Rattle.answer.specs.Answer.{result}
 use Rattle.framing.specs.Reference.{Call}
+use Rattle.framing.specs.Chunk.{FedTurn, fedBy, cutChunk, lastAnswered, FirstSingly, Singly}
 use Rattle.coscom.specs.Packet.{Packet, wireOf}
 use Rattle.coscom_line.specs.Outcome.{Outcome, nothing, judged, toldMeans, summaryOf, isAnswer}
-use Rattle.coscom_line.specs.Reader.{lentReader, stepOf, outcomeAt, nextAfter}
+use Rattle.coscom_line.specs.Reader.{lentReader, turnOf, outcomeAt, nextAfter}
 use Rattle.coscom_line.specs.declared.Told.{Told}
 use Rattle.coscom_line.specs.declared.LineReader.{LineReader}
 use Rattle.coscom_line.specs.declared.ChunkStep.{ChunkStep}
 use Rattle.coscom_line.specs.declared.ChunkAnswer.{ChunkAnswer}
 
 -- An outcome, the reader afterwards, and how many bytes were taken.
-pub record ChunkTurn : Type 0 where
-  pub answer : Outcome
-  pub next : LineReader
-  pub taken : ℕ
-
-abbrev pub chunkTurn : Outcome → LineReader → ℕ → ChunkTurn
-chunkTurn o r n = record { answer = o; next = r; taken = n }
-
--- What a chunk gives, where i bytes that were not answered come before it.
-abbrev pub laterBy : ℕ → ChunkTurn → ChunkTurn
-laterBy i f = chunkTurn (f .answer) (f .next) (i + f .taken)
+abbrev pub ChunkTurn : Type 0
+ChunkTurn = FedTurn LineReader Outcome
 
 -- The bytes fed singly, up to the first that is answered. With no answer all of them are taken.
-unfoldable pub feedOf : LineReader → List ℕ → ChunkTurn
-feedOf r [] = chunkTurn nothing r 0
-feedOf r (b ∷ bs) =
-    pick (isAnswer (stepOf r b .answer)) (chunkTurn (stepOf r b .answer) (stepOf r b .next) 1)
-    (laterBy 1 (feedOf (stepOf r b .next) bs))
+abbrev pub feedOf : LineReader → List ℕ → ChunkTurn
+feedOf r s = fedBy nothing isAnswer turnOf r s
 
--- ---- a chunk
-
--- The most bytes of a chunk that a call takes.
-abbrev pub chunkLimit : ℕ
-chunkLimit = 65536
-
--- A chunk of more bytes is cut to its first ones.
-abbrev pub cutChunk : List ℕ → List ℕ
-cutChunk s = take chunkLimit s
-
--- What a call on a chunk gives.
+-- What a call on a chunk gives. Of more than 65,536 bytes it takes no more than so many.
 abbrev pub chunkOf : LineReader → List ℕ → ChunkTurn
 chunkOf r s = feedOf r (cutChunk s)
 
@@ -77,9 +54,7 @@ pub record TakenToAnswer (given : List ℕ) (taken : ℕ) (o : Outcome) : Type 0
 
 -- The outcomes of the bytes that a chunk took: nothing for each but the last, and the chunk's outcome for the last.
 abbrev pub byByte : ℕ → Outcome → List Outcome
-byByte zero o = []
-byByte (suc zero) o = o ∷ []
-byByte (suc (suc n)) o = nothing ∷ byByte (suc n) o
+byByte n o = lastAnswered nothing n o
 
 -- What the bytes of a packet are answered with where they come first: nothing for each but the last, and the packet for
 -- the last.
@@ -88,11 +63,8 @@ toldAlone p = byByte (length (wireOf p)) (judged (result p))
 
 -- A call was given several, and the first of them, so many, have the outcomes and leave the reader that they do singly.
 abbrev pub TakesFirst : LineReader → (given : List Call) → (taken : ℕ) → List Outcome → LineReader → Type 0
-TakesFirst r given taken outcomes next =
-    (taken ≤ length given) × (outcomes ≡ run outcomeAt nextAfter r (take taken given))
-    × (next ≡ leftAfter nextAfter r (take taken given))
+TakesFirst r given taken outcomes next = FirstSingly outcomeAt nextAfter r given taken outcomes next
 
 -- The outcomes and the last reader of calls made singly: each byte by itself, and each finish.
-pub record AsSingly (r : LineReader) (calls : List Call) (outcomes : List Outcome) (last : LineReader) : Type 0 where
-  pub outcomes-are : outcomes ≡ run outcomeAt nextAfter r calls
-  pub reader-is : last ≡ leftAfter nextAfter r calls
+abbrev pub AsSingly : LineReader → (calls : List Call) → List Outcome → (last : LineReader) → Type 0
+AsSingly r calls outcomes last = Singly outcomeAt nextAfter r calls outcomes last

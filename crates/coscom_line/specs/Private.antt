@@ -10,10 +10,11 @@ use Rattle.lists.specs.Choice.{pick, within}
 use Rattle.lists.specs.Machine.{leftAfter}
 use Rattle.answer.specs.Answer.{result, refused}
 use Rattle.framing.specs.Reference.{plain}
+use Rattle.framing.specs.Chunk.{laterBy}
 use Rattle.coscom.specs.Flags.{startFlag, stopFlag}
 use Rattle.coscom_line.specs.Outcome.{Summary, silent, tells, summaryOf, outcomeOf, capacity, padded}
 use Rattle.coscom_line.specs.Reader.{readerOf, ReaderTurn, roleStep}
-use Rattle.coscom_line.specs.Chunk.{laterBy, feedOf}
+use Rattle.coscom_line.specs.Chunk.{feedOf}
 use Rattle.coscom_line.specs.declared.LineReader.{LineReader}
 use Rattle.coscom_line.specs.declared.Mode.the-variants.{Inside, Overlong}
 
@@ -28,9 +29,13 @@ withByte bytes len b =
 abbrev pub endsRun : ℕ → Bool
 endsRun b = within startFlag stopFlag b
 
+-- A reader after a byte that is no flag.
+abbrev pub afterByte : LineReader → ℕ → LineReader
+afterByte r b = roleStep plain r b .next
+
 -- A reader after the bytes of a run, fed singly.
 abbrev pub afterRun : LineReader → List ℕ → LineReader
-afterRun r run = leftAfter (λ r b. roleStep plain r b .next) r run
+afterRun r run = leftAfter afterByte r run
 
 -- The bytes of s from an index on give one reader what those from a later index on give the other, both counted from
 -- the beginning of s.

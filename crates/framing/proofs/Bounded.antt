@@ -13,6 +13,7 @@ use lib.Seq.{take-suc-set, length-take-le}
 use borrow.Author.Tests.{ltb-true, ltb-false}
 use Rattle.lists.specs.Choice.{pick}
 use Rattle.lists.specs.Machine.{Turn, run, Answered}
+use Rattle.lists.proofs.Cases.{by-bool}
 use Rattle.lists.proofs.Machines.{ran-run}
 use Rattle.framing.specs.Reference.{Call, byte, finish, Role, starts, stops, plain, FlagFree, Candidate, none}
 use Rattle.framing.specs.Reference.{opened, Protocol, byteAnswer, byteAfter, endAnswer, answerTo, candidateAfter}
@@ -72,6 +73,27 @@ module _ {K A : Type 0} (P : Protocol A) (B : Bounds K A) (suits : Suits P B) wh
   kept-at outside bytes len e = e
   kept-at (inside kind) bytes len e = suits .kept kind len bytes e
   kept-at overlong bytes len e = e
+
+  -- ---- the array's length
+
+  grown-kept : (m : BoundedMode K) (bytes : List ℕ) (len b : ℕ) → length bytes ≡ B .capacity
+      → length (grownIn P B m bytes len b .bytes) ≡ B .capacity
+  grown-kept outside bytes len b h = h
+  grown-kept (inside kind) bytes len b h =
+      by-bool (ltb len (B .capacity)) (λ y. simp (y, length-set bytes len b) h) (λ n. simp n h)
+  grown-kept overlong bytes len b h = h
+
+  byte-kept : (r : BoundedReader K) (b : ℕ) → length (r .bytes) ≡ B .capacity → (ρ : Role)
+      → length (byteTurn P B ρ r b .next .bytes) ≡ B .capacity
+  byte-kept r b h starts = h
+  byte-kept r b h stops = kept-at (r .mode) (r .bytes) (r .len) h
+  byte-kept r b h plain = grown-kept (r .mode) (r .bytes) (r .len) b h
+
+  -- Every call keeps it.
+  pub bounded-kept : (r : BoundedReader K) (c : Call) → length (r .bytes) ≡ B .capacity
+      → length (boundedTurn P B r c .next .bytes) ≡ B .capacity
+  bounded-kept r (byte b) h = byte-kept r b h (P .role b)
+  bounded-kept r finish h = h
 
   -- ---- any other byte
 
@@ -190,3 +212,46 @@ module _ {K A : Type 0} (P : Protocol A) (B : Bounds K A) (suits : Suits P B) wh
         (λ calls answers k. ran-run called (λ s c. boundedTurn P B s c .answer)
         (λ s c. boundedTurn P B s c .next) seen each (k .ran) .0
         ∙ from-new (k .start) (k .made) calls)
+
+-- ---- what every answer has, and what every call keeps
+
+module _ {K A : Type 0} (P : Protocol A) (B : Bounds K A) where
+  -- What nothing, the truncation, the answer to an over-long candidate and every judgement have, every answer has.
+  module _ (T : A → Type 0) (quiet : T (P .nothing)) (cut : T (P .truncated)) (long : T (B .long))
+      (judges : (kind : K) (body : List ℕ) → T (B .judge kind body)) where
+    at-truncation : (m : BoundedMode K) → T (truncatedIn P B m)
+    at-truncation outside = quiet
+    at-truncation (inside kind) = cut
+    at-truncation overlong = cut
+
+    at-termination : (m : BoundedMode K) (bytes : List ℕ) (len : ℕ) → T (terminatedIn P B m bytes len)
+    at-termination outside bytes len = quiet
+    at-termination (inside kind) bytes len = judges kind (take len bytes)
+    at-termination overlong bytes len = long
+
+    at-byte : (r : BoundedReader K) (b : ℕ) (ρ : Role) → T (byteTurn P B ρ r b .answer)
+    at-byte r b starts = at-truncation (r .mode)
+    at-byte r b stops = at-termination (r .mode) (r .bytes) (r .len)
+    at-byte r b plain = quiet
+
+    pub bounded-answer : (r : BoundedReader K) (c : Call) → T (boundedTurn P B r c .answer)
+    bounded-answer r (byte b) = at-byte r b (P .role b)
+    bounded-answer r finish = at-truncation (r .mode)
+
+  -- A length below a limit above the capacity stays below it.
+  pub bounded-len : (limit : ℕ) → B .capacity < limit → (r : BoundedReader K) (c : Call) → r .len < limit
+      → boundedTurn P B r c .next .len < limit
+  bounded-len limit room r (byte b) h = of-byte (P .role b)
+    where
+      grown : (m : BoundedMode K) → grownIn P B m (r .bytes) (r .len) b .len < limit
+      grown outside = h
+      grown (inside kind) =
+          by-bool (ltb (r .len) (B .capacity)) (λ y. simp y (omega (arith, room, ltb-true (r .len) (B .capacity) y)))
+          (λ n. simp n (omega (arith, room)))
+      grown overlong = h
+
+      of-byte : (ρ : Role) → byteTurn P B ρ r b .next .len < limit
+      of-byte starts = omega (arith, room)
+      of-byte stops = omega (arith, room)
+      of-byte plain = grown (r .mode)
+  bounded-len limit room r finish h = omega (arith, room)

@@ -35,6 +35,20 @@ pub left-append : {S C : Type 0} (next : S → C → S) (s : S) (calls rest : Li
 left-append next s [] rest = refl
 left-append next s (c ∷ calls) rest = left-append next (next s c) calls rest
 
+-- What every call keeps, calls in a row keep.
+pub left-keeps : {S C : Type 0} (next : S → C → S) (R : S → Type 0) → ((s : S) (c : C) → R s → R (next s c)) → (s : S)
+    (calls : List C) → R s → R (leftAfter next s calls)
+left-keeps next R each s [] k = k
+left-keeps next R each s (c ∷ calls) k = left-keeps next R each (next s c) calls (each s c k)
+
+-- What every answer has where R is kept, all answers of a run have.
+pub run-every : {S C A : Type 0} (answer : S → C → A) (next : S → C → S) (R : S → Type 0) (P : A → Type 0)
+    → ((s : S) (c : C) → R s → R (next s c) × P (answer s c)) → (s : S) (calls : List C) → R s
+    → Every P (run answer next s calls)
+run-every answer next R P each s [] k = tt
+run-every answer next R P each s (c ∷ calls) k =
+    (each s c k .1, run-every answer next R P each (next s c) calls (each s c k .0))
+
 -- Answers told in another way.
 pub run-told : {S C A B : Type 0} (tell : A → B) (answer : S → C → A) (next : S → C → S) (s : S) (calls : List C)
     → run (λ s c. tell (answer s c)) next s calls ≡ map tell (run answer next s calls)

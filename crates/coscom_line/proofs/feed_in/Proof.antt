@@ -4,7 +4,8 @@ use Prim.Native.Nat.{ℕ}
 use lib.Seq.{length-take-le}
 use Rattle.lists.proofs.Lists.{take-lesser}
 use Rattle.coscom_line.specs.Reader.{lentReader}
-use Rattle.coscom_line.specs.Chunk.{feedOf, chunkLimit, ChunkStepIs}
+use Rattle.framing.specs.Chunk.{chunkLimit}
+use Rattle.coscom_line.specs.Chunk.{feedOf, ChunkStepIs}
 use borrow.Author.Needs.{needs}
 use Rattle.coscom_line.proofs.feed_in.Statement.{statement}
 use Rattle.coscom_line.proofs.feed_in.Tie as tie

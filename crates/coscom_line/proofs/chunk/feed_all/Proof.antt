@@ -4,8 +4,10 @@ use lib.ListN.{length, drop}
 use Prim.Native.Nat.{_≤_, _-_}
 use borrow.Author.Needs.{needs}
 use Rattle.coscom_line.specs.Reader.{lentReader}
-use Rattle.coscom_line.specs.Chunk.{laterBy, feedOf}
-use Rattle.coscom_line.proofs.FeedLaws.{plus-zero, goes-on, answers, ends}
+use Rattle.framing.specs.Chunk.{laterBy}
+use Rattle.framing.proofs.Chunk.{plus-zero}
+use Rattle.coscom_line.specs.Chunk.{feedOf}
+use Rattle.coscom_line.proofs.FeedLaws.{goes-on, answers, ends}
 use Rattle.coscom_line.proofs.chunk.feed_all.Statement.{statement}
 use Rattle.coscom_line.proofs.chunk.feed_all.Tie as tie
 

@@ -5,8 +5,10 @@ use Prim.Native.Nat.{_-_}
 use Rattle.coscom_line.specs.Reader.{lentReader, readerOf}
 use Rattle.coscom_line.specs.Private.{afterRun}
 use Rattle.coscom_line.specs.declared.Mode.{Mode}
+use Rattle.framing.proofs.Chunk.{run-inside}
+use Rattle.coscom_line.specs.Private.{endsRun}
 use Rattle.coscom_line.proofs.ReaderLaws.{isHeld}
-use Rattle.coscom_line.proofs.RunLaws.{stays, run-inside, run-reaches, unheld-run}
+use Rattle.coscom_line.proofs.RunLaws.{stays, run-reaches, unheld-run}
 use borrow.Author.Needs.{needs}
 use Rattle.coscom_line.proofs.runs.consume.Statement.{statement}
 use Rattle.coscom_line.proofs.runs.consume.Tie as tie
@@ -33,7 +35,7 @@ part-hold-end : tie.Need-part-hold-end
 part-hold-end c =
     let e = c .before .before .before .before in
     let p = e .before .before in
-    run-inside (p .args .input .now) (p .args .from) _ (omega (arith, p .pre)) (e .run-end .ensures)
+    run-inside endsRun (p .args .input .now) (p .args .from) _ (omega (arith, p .pre)) (e .run-end .ensures)
 
 hold-requires : tie.Need-hold-requires
 hold-requires c κs = search needs

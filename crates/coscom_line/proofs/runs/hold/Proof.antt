@@ -3,7 +3,8 @@ use native.Mathlib.Omega.{arith}
 use lib.ListN.{length}
 use lib.Seq.{length-take-le}
 use Rattle.coscom_line.specs.Outcome.{capacity}
-use Rattle.coscom_line.proofs.RunLaws.{kept-all, kept-first, full-run}
+use Rattle.framing.proofs.Growth.{kept-all, kept-first, full-run}
+use Rattle.coscom_line.proofs.RunLaws.{candidate-grows}
 use borrow.Author.Needs.{needs}
 use Rattle.coscom_line.proofs.runs.hold.Statement.{statement}
 use Rattle.coscom_line.proofs.runs.hold.Tie as tie
@@ -22,7 +23,7 @@ returns c =
     let i = c .before .before in
     let p = i .before .before .before in
     let a : length (p .args .bytes .now) ≡ capacity = search needs in
-    kept-all (p .args .run .now) (p .args .bytes .now) _ (p .args .len) a (omega (arith, i .before .if1 .taken))
+    kept-all candidate-grows (p .args .run .now) (p .args .bytes .now) _ (p .args .len) a (omega (arith, i .before .if1 .taken))
     (omega (arith, i .before .if1 .taken, i .if2 .taken))
     (c .copy .ensures)
 
@@ -37,14 +38,14 @@ returns-2 c =
     let i = c .before .before .before in
     let p = i .before .before .before in
     let a : length (p .args .bytes .now) ≡ capacity = search needs in
-    kept-first (p .args .run .now) (p .args .bytes .now) _ (p .args .len) a (omega (arith, i .before .if1 .taken))
+    kept-first candidate-grows (p .args .run .now) (p .args .bytes .now) _ (p .args .len) a (omega (arith, i .before .if1 .taken))
     (omega (arith, i .if2 .left))
     (c .copy2 .ensures)
 
 returns-3 : tie.Need-returns-3
 returns-3 c =
     let p = c .before .before in
-    full-run (p .args .run .now) (p .args .bytes .now) (p .args .len) (c .if1 .left) (p .pre)
+    full-run candidate-grows (p .args .run .now) (p .args .bytes .now) (p .args .len) (c .if1 .left) (p .pre)
 
 pub hold-spec : {M : Type 1} → statement M
 hold-spec =
