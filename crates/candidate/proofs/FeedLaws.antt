@@ -1,65 +1,31 @@
 -- Laws of bytes fed up to the first that is answered: one byte more, and no byte left.
-use mathlib.Core.Path.{_≡_, refl, sym, ap, ap₂, _∙_}
+use mathlib.Core.Path.{_≡_, sym, ap, ap₂, _∙_}
 use mathlib.Core.Bool.{Bool, true, false}
 use mathlib.Core.List.{List, [], _∷_, _++_}
 use native.Mathlib.Numerals.{add-one}
 use native.Mathlib.Omega.{arith}
-use lib.ListN.{length, take, drop, getD, drop-of-length-le}
-use lib.Seq.{drop-cons, take-suc, length-take-le}
+use lib.ListN.{length, take, drop, getD}
+use lib.Seq.{take-suc, length-take-le}
 use Prim.Native.Nat.{ℕ, _+_, _-_, _≤_, _<_}
 use Rattle.lists.specs.Choice.{pick, Every}
 use Rattle.framing.specs.Reference.{starts}
 use Rattle.framing.specs.Counting.{startAfter}
 use Rattle.framing.proofs.Counting.{start-append, start-none, start-last}
+use Rattle.framing.specs.Chunk.{fedTurn, laterBy}
+use Rattle.framing.proofs.Chunk.{not-answered, answered, none-left}
 use Rattle.frame.specs.Flags.{roleOf}
 use Rattle.candidate.specs.Outcome.{nothing, toldMeans, summaryOf}
-use Rattle.candidate.specs.Holder.{holder, HolderTurn, stepHeld, HeldStepIs}
-use Rattle.candidate.specs.Feed.{says, isAnswer, FedTurn, fedTurn, laterBy, feedHeld, lastStart, HeldChunkIs, Opens}
-use Rattle.candidate.specs.Holder.{Holder}
+use Rattle.candidate.specs.Holder.{Holder, holder, stepHeld, turnHeld, HeldStepIs}
+use Rattle.candidate.specs.Feed.{says, isAnswer, FedHeld, feedHeld, lastStart, HeldChunkIs, Opens}
 use Rattle.candidate.specs.declared.Held.{Held}
 use Rattle.candidate.specs.declared.HeldStep.{HeldStep}
 use Rattle.candidate.specs.declared.HeldChunk.{HeldChunk}
 use Rattle.candidate.specs.declared.Told.the-variants.{Nothing}
 
--- ---- counting
-
-pub plus-zero : (f : FedTurn) → f ≡ laterBy 0 f
-plus-zero f = let e : f .taken ≡ 0 + f .taken = omega arith in ap (fedTurn (f .answer) (f .next)) e
-
-pub plus-plus : (i j k : ℕ) (f : FedTurn) → i + j ≡ k → laterBy i (laterBy j f) ≡ laterBy k f
-plus-plus i j k f e = let q : i + (j + f .taken) ≡ k + f .taken = omega arith in ap (fedTurn (f .answer) (f .next)) q
-
--- ---- one byte
-
--- what a byte's turn and the bytes after it give
-abbrev pub fromTurn : HolderTurn → List ℕ → FedTurn
-fromTurn t bs = pick (isAnswer (t .answer)) (fedTurn (t .answer) (t .next) 1) (laterBy 1 (feedHeld (t .next) bs))
-
-module _ (r : Holder) (s : List ℕ) (i : ℕ) (below : i < length s) where
-  first : feedHeld r (drop i s) ≡ fromTurn (stepHeld r (getD s i 0)) (drop (i + 1) s)
-  unfolding feedHeld
-  first = ap (feedHeld r) (drop-cons s i 0 below) ∙ ap (λ (n : ℕ). feedHeld r (getD s i 0 ∷ drop n s)) (sym (add-one i))
-
-  abbrev at : Bool → FedTurn
-  at t =
-      pick t (fedTurn (stepHeld r (getD s i 0) .answer) (stepHeld r (getD s i 0) .next) 1)
-      (laterBy 1 (feedHeld (stepHeld r (getD s i 0) .next) (drop (i + 1) s)))
-
-  not-answered : isAnswer (stepHeld r (getD s i 0) .answer) ≡ false
-      → laterBy i (feedHeld r (drop i s)) ≡ laterBy (i + 1) (feedHeld (stepHeld r (getD s i 0) .next) (drop (i + 1) s))
-  not-answered e =
-      ap (laterBy i) (first ∙ ap at e)
-      ∙ plus-plus i 1 (i + 1) (feedHeld (stepHeld r (getD s i 0) .next) (drop (i + 1) s)) refl
-
-  answered : isAnswer (stepHeld r (getD s i 0) .answer) ≡ true
-      → laterBy i (feedHeld r (drop i s)) ≡ fedTurn (stepHeld r (getD s i 0) .answer) (stepHeld r (getD s i 0) .next)
-      (i + 1)
-  answered e = ap (laterBy i) (first ∙ ap at e)
-
 -- ---- where the start flags stand
 
 -- by whether something is told, and how many bytes were taken
-opens-at : (s : List ℕ) (r : HeldChunk) (f : FedTurn) (n : ℕ) (q : Bool) → isAnswer (f .answer) ≡ q → f .taken ≡ n
+opens-at : (s : List ℕ) (r : HeldChunk) (f : FedHeld) (n : ℕ) (q : Bool) → isAnswer (f .answer) ≡ q → f .taken ≡ n
     → r .began ≡ lastStart (take (pick q (n - 1) n) s) → r .opened ≡ lastStart (take n s) → Opens s r f
 opens-at s r f n q a t e o = record {
   began-is = e ∙ sym (ap₂ (λ (x : Bool) (m : ℕ). lastStart (take (pick x (m - 1) m) s)) a t);
@@ -76,18 +42,18 @@ start-more s i below =
     ∙ ap (startAfter (roleOf (getD s i 0)) (lastStart (take i s))) n
 
 -- an answer, where the last start flag before its byte and after it are these
-pub opens-answered : (s : List ℕ) (r : HeldChunk) (f : FedTurn) (n : ℕ) → isAnswer (f .answer) ≡ true → f .taken ≡ n
+pub opens-answered : (s : List ℕ) (r : HeldChunk) (f : FedHeld) (n : ℕ) → isAnswer (f .answer) ≡ true → f .taken ≡ n
     → r .began ≡ lastStart (take (n - 1) s) → r .opened ≡ lastStart (take n s) → Opens s r f
 opens-answered s r f n a t e o = opens-at s r f n true a t e o
 
 -- a turn of a loop over the bytes s, where f is what all of them give
-module _ (f : FedTurn) (r₀ : Holder) (s : List ℕ) (i : ℕ) (below : i < length s)
+module _ (f : FedHeld) (r₀ : Holder) (s : List ℕ) (i : ℕ) (below : i < length s)
     (so-far : f ≡ laterBy i (feedHeld r₀ (drop i s))) (bytes : List ℕ) (m : HeldStep)
     (moves : HeldStepIs bytes m (stepHeld r₀ (getD s i 0))) where
   pub goes-on : says (toldMeans (m .told)) ≡ false
       → f ≡ laterBy (i + 1) (feedHeld (holder bytes (m .held)) (drop (i + 1) s))
   goes-on e =
-      so-far ∙ not-answered r₀ s i below (ap says (sym (moves .told-is)) ∙ e)
+      so-far ∙ not-answered nothing isAnswer turnHeld r₀ s i below (ap says (sym (moves .told-is)) ∙ e)
       ∙ ap (λ (u : Holder). laterBy (i + 1) (feedHeld u (drop (i + 1) s))) (sym (moves .next-is))
 
   pub answers : says (toldMeans (m .told)) ≡ true → (began opened : ℕ) → began ≡ lastStart (take i s)
@@ -96,17 +62,17 @@ module _ (f : FedTurn) (r₀ : Holder) (s : List ℕ) (i : ℕ) (below : i < len
       → HeldChunkIs bytes r f × Opens s r f
   answers e began opened fe oe r is =
       let q : f ≡ fedTurn (stepHeld r₀ (getD s i 0) .answer) (stepHeld r₀ (getD s i 0) .next) (i + 1) =
-      so-far ∙ answered r₀ s i below (ap says (sym (moves .told-is)) ∙ e) in
+      so-far ∙ answered nothing isAnswer turnHeld r₀ s i below (ap says (sym (moves .told-is)) ∙ e) in
       let z : i ≡ i + 1 - 1 = omega arith in (
         record {
           told-is = ap (λ (g : HeldChunk). toldMeans (g .told)) is ∙ moves .told-is
-              ∙ ap (λ (g : FedTurn). summaryOf (g .answer)) (sym q);
+              ∙ ap (λ (g : FedHeld). summaryOf (g .answer)) (sym q);
           next-is = ap (λ (g : HeldChunk). holder bytes (g .held)) is ∙ moves .next-is
-              ∙ ap (λ (g : FedTurn). g .next) (sym q);
-          taken-is = ap (λ (g : HeldChunk). g .taken) is ∙ ap (λ (g : FedTurn). g .taken) (sym q);
+              ∙ ap (λ (g : FedHeld). g .next) (sym q);
+          taken-is = ap (λ (g : HeldChunk). g .taken) is ∙ ap (λ (g : FedHeld). g .taken) (sym q);
         },
-        opens-answered s r f (i + 1) (ap (λ (g : FedTurn). isAnswer (g .answer)) q ∙ ap says (sym (moves .told-is)) ∙ e)
-            (ap (λ (g : FedTurn). g .taken) q)
+        opens-answered s r f (i + 1) (ap (λ (g : FedHeld). isAnswer (g .answer)) q ∙ ap says (sym (moves .told-is)) ∙ e)
+            (ap (λ (g : FedHeld). g .taken) q)
             (ap (λ (g : HeldChunk). g .began) is ∙ fe ∙ ap (λ (n : ℕ). lastStart (take n s)) z)
             (ap (λ (g : HeldChunk). g .opened) is ∙ oe
             ∙ ap (λ (n : ℕ). startAfter (roleOf (getD s i 0)) n (i + 1)) fe ∙ sym (start-more s i below)),
@@ -121,21 +87,18 @@ pub last-start-none : (s : List ℕ) → Every (λ (b : ℕ). roleOf b ≡ start
 last-start-none s n = start-none roleOf 0 1 s n
 
 -- no byte is left
-pub ends : (f : FedTurn) (bytes : List ℕ) (held : Held) (s : List ℕ) (i : ℕ) → length s ≤ i
+pub ends : (f : FedHeld) (bytes : List ℕ) (held : Held) (s : List ℕ) (i : ℕ) → length s ≤ i
     → f ≡ laterBy i (feedHeld (holder bytes held) (drop i s)) → (opened : ℕ) → opened ≡ lastStart (take i s)
     → (r : HeldChunk) → r ≡ record { told = Nothing; held = held; taken = i; began = opened; opened = opened }
     → HeldChunkIs bytes r f × Opens s r f
-unfolding feedHeld
 ends f bytes held s i h so-far opened oe r is =
-    let z : i + 0 ≡ i = omega arith in
-    let none = ap (λ (l : List ℕ). laterBy i (feedHeld (holder bytes held) l)) (drop-of-length-le s {i = i} h) in
     let q : f ≡ fedTurn nothing (holder bytes held) i =
-    so-far ∙ none ∙ ap (fedTurn nothing (holder bytes held)) z in (
+    so-far ∙ none-left nothing isAnswer turnHeld (holder bytes held) s i h in (
       record {
-        told-is = ap (λ (g : HeldChunk). toldMeans (g .told)) is ∙ ap (λ (g : FedTurn). summaryOf (g .answer)) (sym q);
-        next-is = ap (λ (g : HeldChunk). holder bytes (g .held)) is ∙ ap (λ (g : FedTurn). g .next) (sym q);
-        taken-is = ap (λ (g : HeldChunk). g .taken) is ∙ ap (λ (g : FedTurn). g .taken) (sym q);
+        told-is = ap (λ (g : HeldChunk). toldMeans (g .told)) is ∙ ap (λ (g : FedHeld). summaryOf (g .answer)) (sym q);
+        next-is = ap (λ (g : HeldChunk). holder bytes (g .held)) is ∙ ap (λ (g : FedHeld). g .next) (sym q);
+        taken-is = ap (λ (g : HeldChunk). g .taken) is ∙ ap (λ (g : FedHeld). g .taken) (sym q);
       },
-      opens-at s r f i false (ap (λ (g : FedTurn). isAnswer (g .answer)) q) (ap (λ (g : FedTurn). g .taken) q)
+      opens-at s r f i false (ap (λ (g : FedHeld). isAnswer (g .answer)) q) (ap (λ (g : FedHeld). g .taken) q)
           (ap (λ (g : HeldChunk). g .began) is ∙ oe) (ap (λ (g : HeldChunk). g .opened) is ∙ oe),
     )

@@ -1,12 +1,11 @@
 -- The enum that a call answers with and the array that it leaves tell the whole outcome.
 use mathlib.Core.Path.{_≡_, refl, ap}
-use mathlib.Core.Bool.{Bool, true, false}
-use mathlib.Core.List.{List, [], _∷_}
+use mathlib.Core.List.{List}
 use Prim.Native.Nat.{ℕ}
 use lib.ListN.{take}
-use Rattle.lists.specs.Choice.{pick}
 use Rattle.framing.specs.Reference.{Call, byte, finish, Role, starts, stops, plain}
 use Rattle.framing.specs.Bounded.{BoundedMode, outside, inside, overlong, truncatedIn, terminatedIn, leftByStop}
+use Rattle.framing.proofs.Chunk.{fed-has}
 use Rattle.frame.specs.Flags.{roleOf, candidateOf}
 use Rattle.frame.specs.Verdict.{verdict}
 use Rattle.frame.specs.Origin.{admit}
@@ -14,10 +13,10 @@ use Rattle.frame.specs.Answers.{judgeAnswer, frameRead}
 use Rattle.frame.specs.declared.Origin.{Origin}
 use Rattle.frame.specs.declared.Kind.{Kind}
 use Rattle.frame.proofs.ContentsLaws.{left-whole}
-use Rattle.candidate.specs.Outcome.{judged, summaryOf, outcomeOf}
+use Rattle.candidate.specs.Outcome.{nothing, judged, summaryOf, outcomeOf}
 use Rattle.candidate.specs.Rowing.{rowing, rowingBounds}
-use Rattle.candidate.specs.Holder.{Holder, HolderTurn, originHeld, modeSeen, roleStep, stepHeld, turnHeld}
-use Rattle.candidate.specs.Feed.{isAnswer, FedTurn, fedTurn, laterBy, feedHeld}
+use Rattle.candidate.specs.Holder.{Holder, HolderTurn, originHeld, modeSeen, roleStep, turnHeld}
+use Rattle.candidate.specs.Feed.{isAnswer, feedHeld}
 
 -- A frame's contents are the first bytes of the array.
 abbrev pub Whole : HolderTurn → Type 0
@@ -54,16 +53,6 @@ call-whole r finish = truncated-whole (originHeld r) (modeSeen (r .held .mode)) 
 -- The same of bytes up to the first that is answered.
 pub fed-whole : (r : Holder) (s : List ℕ)
     → outcomeOf (summaryOf (feedHeld r s .answer)) (feedHeld r s .next .bytes) ≡ feedHeld r s .answer
-unfolding feedHeld
-fed-whole r [] = refl
-fed-whole r (b ∷ s) =
-    by-answer (isAnswer (stepHeld r b .answer)) (stepHeld r b) (byte-whole r b (roleOf b)) (feedHeld (stepHeld r b .next) s)
-    (fed-whole (stepHeld r b .next) s)
-  where
-    by-answer : (q : Bool) (t : HolderTurn) → Whole t → (f : FedTurn)
-        → outcomeOf (summaryOf (f .answer)) (f .next .bytes) ≡ f .answer
-        → outcomeOf (summaryOf (pick q (fedTurn (t .answer) (t .next) 1) (laterBy 1 f) .answer))
-        (pick q (fedTurn (t .answer) (t .next) 1) (laterBy 1 f) .next .bytes)
-        ≡ pick q (fedTurn (t .answer) (t .next) 1) (laterBy 1 f) .answer
-    by-answer true t h f k = h
-    by-answer false t h f k = k
+fed-whole r s =
+    fed-has nothing isAnswer turnHeld (λ u. Unit {0}) (λ o u. outcomeOf (summaryOf o) (u .bytes) ≡ o) (λ u k. refl)
+    (λ u b k. (tt, call-whole u (byte b))) r s tt

@@ -19,6 +19,9 @@ use Rattle.answer.specs.Answer.{Answer, result, refused}
 use Rattle.answer.specs.Draft.{draftOut}
 use Rattle.framing.specs.Counting.{startIn}
 use Rattle.framing.proofs.Counting.{start-append, start-opens}
+use Rattle.framing.specs.Chunk.{fedTurn, laterBy, fedBy}
+use Rattle.framing.proofs.Chunk.{fed-run}
+use Rattle.framing.proofs.Growth.{held-run}
 use Rattle.frame.specs.Flags.{startFlag, stopFlag, isStart, isFlag, candidateOf, roleOf}
 use Rattle.frame.specs.Frame.{Frame, standard, extended, contentsOf}
 use Rattle.frame.specs.Verdict.{Verdict, verdict, bodyOf}
@@ -34,18 +37,17 @@ use Rattle.frame.proofs.ContentsLaws.{admitted-shrinks}
 use Rattle.frame.proofs.OriginLaws.{admit-refused}
 use Rattle.frame.proofs.LeadingLaws.{leadingKind, leadingBody, leadingRest, leads, leading-clear}
 use Rattle.frame.proofs.LeadingLaws.{leading-count, leading-wire, leading-some, verdict-none}
-use Rattle.candidate.specs.Outcome.{judged, capacity, toldMeans, summaryOf}
-use Rattle.candidate.specs.Holder.{holder, holderOf, modeIn}
-use Rattle.candidate.specs.Feed.{isAnswer, FedTurn, fedTurn, laterBy, feedHeld, lastStart, HeldChunkIs, Opens}
-use Rattle.candidate.specs.Private.{isHeld, wholeCount, leadingIn, contentsCount, leftByWhole, JudgedWhole, Judges}
-use Rattle.candidate.specs.Holder.{Holder}
+use Rattle.candidate.specs.Outcome.{nothing, judged, capacity, toldMeans, summaryOf}
+use Rattle.candidate.specs.Holder.{Holder, holder, holderOf, modeIn, turnHeld}
+use Rattle.candidate.specs.Feed.{isAnswer, FedHeld, feedHeld, lastStart, HeldChunkIs, Opens}
+use Rattle.candidate.specs.Private.{isHeld, afterByte, wholeCount, leadingIn, contentsCount, leftByWhole, JudgedWhole, Judges}
 use Rattle.candidate.specs.declared.Held.{Held}
 use Rattle.candidate.specs.declared.Told.{Told}
 use Rattle.candidate.specs.declared.HeldChunk.{HeldChunk}
 use Rattle.candidate.specs.declared.whole.Judged.{Judged}
 use Rattle.candidate.specs.declared.Mode.{Mode}
 use Rattle.candidate.specs.declared.Mode.the-variants.{Outside, InStandard, InExtended, Overlong}
-use Rattle.candidate.proofs.RunLaws.{feed-run, held-run}
+use Rattle.candidate.proofs.RunLaws.{quiet-byte, candidate-grows}
 use Rattle.candidate.proofs.FeedLaws.{opens-answered}
 
 -- ---- a slice that is read into the array
@@ -158,19 +160,19 @@ module _ (o : Origin) (bytes : List ℕ) (array : length bytes ≡ capacity) (le
       → feedHeld (holderOf o held (0 + length body) (modeIn (inside kind))) (stopFlag ∷ rest)
       ≡ fedTurn (judged (admit o (verdict (candidateOf kind (take (0 + length body) held)))))
       (holderOf o (leftIn (admit o (verdict (candidateOf kind (take (0 + length body) held)))) held) 0 Outside) 1
-  unfolding feedHeld
+  unfolding fedBy
   at-stop Standard = refl
   at-stop Extended = refl
 
   at-start : (kind : Kind) (s : List ℕ)
       → feedHeld (holderOf o bytes len Outside) (startFlag kind ∷ s)
       ≡ laterBy 1 (feedHeld (holderOf o bytes 0 (modeIn (inside kind))) s)
-  unfolding feedHeld
+  unfolding fedBy
   at-start Standard s = refl
   at-start Extended s = refl
 
   -- the turn that judges the candidate
-  abbrev judgedTurn : List ℕ → ℕ → FedTurn
+  abbrev judgedTurn : List ℕ → ℕ → FedHeld
   judgedTurn wire taken =
       fedTurn (judged (admit o (verdict wire))) (holderOf o (leftIn (admit o (verdict wire)) held) 0 Outside) taken
 
@@ -181,9 +183,9 @@ module _ (o : Origin) (bytes : List ℕ) (array : length bytes ≡ capacity) (le
       let m = modeIn (inside kind) in
       let n : 1 + (length body + 1) ≡ length body + 2 = omega arith in
       at-start kind (body ++ stopFlag ∷ rest)
-      ∙ ap (laterBy 1) (feed-run body (stopFlag ∷ rest) (holderOf o bytes 0 m) clear
+      ∙ ap (laterBy 1) (fed-run nothing isAnswer turnHeld isFlag afterByte quiet-byte body (stopFlag ∷ rest) (holderOf o bytes 0 m) clear
       ∙ ap (λ (u : Holder). laterBy (length body) (feedHeld u (stopFlag ∷ rest)))
-      (held-run o m (kind-held kind) body bytes 0 array (omega arith))
+      (held-run (candidate-grows o m (kind-held kind)) body bytes 0 array (omega arith))
       ∙ ap (laterBy (length body)) (at-stop kind))
       ∙ ap₂ (λ (l : List ℕ) (k : ℕ). judgedTurn (candidateOf kind l) k) held-first n
 
@@ -378,7 +380,7 @@ module _ (mode : Mode) (s : List ℕ) (at taken : ℕ) (count : taken ≡ leadin
       by-mode Overlong k = absurd (omega arith)
 
   -- a turn of a loop over the bytes s, where f is what all of them give
-  pub whole-answers : (f : FedTurn) (bytes : List ℕ) (held : Held) → held .mode ≡ mode → 0 < taken
+  pub whole-answers : (f : FedHeld) (bytes : List ℕ) (held : Held) → held .mode ≡ mode → 0 < taken
       → f ≡ laterBy at (feedHeld (holder bytes held) (drop at s))
       → (left : List ℕ) (told : Told)
       → JudgedWhole (held .origin) bytes (take taken (take (length s - at) (drop at s))) left told
@@ -413,13 +415,13 @@ module _ (mode : Mode) (s : List ℕ) (at taken : ℕ) (count : taken ≡ leadin
       let before : at + taken - 1 ≡ at + (leadingCount rest - 1) = omega arith in (
         record {
           told-is = ap (λ (x : HeldChunk). toldMeans (x .told)) is ∙ j .told-is
-              ∙ ap (λ (g : FedTurn). summaryOf (g .answer)) (sym q);
+              ∙ ap (λ (g : FedHeld). summaryOf (g .answer)) (sym q);
           next-is = ap₂ (λ (l : List ℕ) (x : HeldChunk). holder l (x .held)) (j .left-is) is
-              ∙ ap (λ (g : FedTurn). g .next) (sym q);
-          taken-is = ap (λ (x : HeldChunk). x .taken) is ∙ ap (λ (g : FedTurn). g .taken) (sym q);
+              ∙ ap (λ (g : FedHeld). g .next) (sym q);
+          taken-is = ap (λ (x : HeldChunk). x .taken) is ∙ ap (λ (g : FedHeld). g .taken) (sym q);
         },
-        opens-answered s r f (at + taken) (ap (λ (g : FedTurn). isAnswer (g .answer)) q)
-            (ap (λ (g : FedTurn). g .taken) q)
+        opens-answered s r f (at + taken) (ap (λ (g : FedHeld). isAnswer (g .answer)) q)
+            (ap (λ (g : FedHeld). g .taken) q)
             (ap (λ (g : HeldChunk). g .began) is ∙ sym (ap (λ (k : ℕ). lastStart (take k s)) before
             ∙ last-past s at (leadingCount rest - 1) ∙ starts .0 ∙ place))
             (ap (λ (g : HeldChunk). g .opened) is ∙ sym (ap (λ (k : ℕ). lastStart (take (at + k) s)) n
@@ -427,7 +429,7 @@ module _ (mode : Mode) (s : List ℕ) (at taken : ℕ) (count : taken ≡ leadin
       )
 
 -- a call that leaves the array as it was
-pub unmoved : (f : FedTurn) (bytes left : List ℕ) (held : Held) (l : List ℕ) (at : ℕ) → left ≡ bytes
+pub unmoved : (f : FedHeld) (bytes left : List ℕ) (held : Held) (l : List ℕ) (at : ℕ) → left ≡ bytes
     → f ≡ laterBy at (feedHeld (holder bytes held) l) → f ≡ laterBy at (feedHeld (holder left held) l)
 unmoved f bytes left held l at e so-far =
     so-far ∙ ap (λ (b : List ℕ). laterBy at (feedHeld (holder b held) l)) (sym e)

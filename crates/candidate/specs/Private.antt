@@ -9,6 +9,7 @@ use Rattle.lists.specs.Choice.{pick}
 use Rattle.lists.specs.Splice.{splice}
 use Rattle.lists.specs.Machine.{leftAfter}
 use Rattle.framing.specs.Reference.{plain}
+use Rattle.framing.specs.Chunk.{laterBy}
 use Rattle.answer.specs.Answer.{Answer, result, refused}
 use Rattle.frame.specs.Leading.{leadingCount}
 use Rattle.frame.specs.Verdict.{verdict, bodyOf}
@@ -17,7 +18,7 @@ use Rattle.frame.specs.declared.Origin.{Origin}
 use Rattle.frame.specs.Answers.{FrameOutline, standardOutline, extendedOutline, judgeAnswer, leftIn}
 use Rattle.candidate.specs.Outcome.{capacity, tells, toldMeans}
 use Prim.Native.Nat.{ℕ, _+_, _≤_, _<_}
-use Rattle.candidate.specs.Feed.{laterBy, feedHeld, lastStart}
+use Rattle.candidate.specs.Feed.{feedHeld, lastStart}
 use Rattle.candidate.specs.Holder.{Holder, originHeld, holderOf, roleStep}
 use Rattle.candidate.specs.declared.Told.{Told}
 use Rattle.candidate.specs.declared.whole.Judged.{Judged}
@@ -38,9 +39,13 @@ isHeld InStandard = true
 isHeld InExtended = true
 isHeld Overlong = false
 
+-- A holder after a byte that is no flag.
+abbrev pub afterByte : Holder → ℕ → Holder
+afterByte r b = roleStep plain r b .next
+
 -- A holder after the bytes of a run, fed singly.
 abbrev pub afterRun : Holder → List ℕ → Holder
-afterRun r run = leftAfter (λ r b. roleStep plain r b .next) r run
+afterRun r run = leftAfter afterByte r run
 
 -- The bytes of s from an index on give one holder what those from a later index on give the other, both counted from
 -- the beginning of s, and no start flag stands between the two.

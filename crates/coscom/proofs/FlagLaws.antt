@@ -8,7 +8,7 @@ use lib.Dec.{eqb}
 use borrow.Author.Tests.{eqb-true, eqb-false}
 use Rattle.lists.specs.Choice.{pick, within, noneOf}
 use Rattle.lists.proofs.Cases.{by-bool}
-use Rattle.lists.proofs.Tests.{within-yes, within-true, none-stronger}
+use Rattle.lists.proofs.Tests.{within-yes, within-true, none-stronger, none-every, every-none}
 use Rattle.framing.specs.Reference.{starts, stops, plain, FlagFree}
 use Rattle.coscom.specs.Flags.{startFlag, stopFlag, roleOf, isFlag, flagless}
 
@@ -65,15 +65,10 @@ outside-no-flag b e =
 -- ---- lists without a flag
 
 pub flagless-free : (s : List ℕ) → flagless s ≡ true → FlagFree roleOf s
-unfolding noneOf
-flagless-free [] h = tt
-flagless-free (b ∷ s) h =
-    by-bool (isFlag b) (λ y. absurd (true≢false (sym h ∙ simp y))) (λ n. (no-flag b n, flagless-free s (simp n at h)))
+flagless-free s h = none-every isFlag (λ (b : ℕ). roleOf b ≡ plain) no-flag s h
 
 pub free-flagless : (s : List ℕ) → FlagFree roleOf s → flagless s ≡ true
-unfolding noneOf
-free-flagless [] h = refl
-free-flagless (b ∷ s) h = simp (plain-no-flag b (h .0)) (free-flagless s (h .1))
+free-flagless s h = every-none isFlag (λ (b : ℕ). roleOf b ≡ plain) plain-no-flag s h
 
 -- bytes outside of 01 to 17
 pub clear-flagless : (s : List ℕ) → noneOf (within startFlag stopFlag) s ≡ true → flagless s ≡ true

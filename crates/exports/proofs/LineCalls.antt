@@ -18,6 +18,7 @@ use Rattle.framing.specs.LocatedDemand3.{bytesSinceFinish, Within, Capped, Loca
 use Rattle.framing.specs.LocatedTable.{LocatedLaws}
 use Rattle.framing.proofs.Located.{located-demand3-of}
 use Rattle.framing.proofs.LocatedTable.{located-laws}
+use Rattle.framing.specs.Chunk.{cutChunk}
 use Rattle.answer.specs.Answer.{refused}
 use Rattle.frame.specs.Flags.{stopFlag}
 use Rattle.frame.specs.Frame.{standard}
@@ -28,7 +29,6 @@ use Rattle.candidate.specs.Outcome.{Outcome, judged, Summary, summaryOf, capaci
 use Rattle.line.specs.Rowing.{mostBytes, full, locatedRowing, outcomeFrom, UnnamedAt}
 use Rattle.line.specs.Answers.{locatedOutcome}
 use Rattle.line.specs.Reader.{outcomeAt, nextAfter, ClosedAt, AsNew}
-use Rattle.line.specs.Feed.{cutChunk}
 use Rattle.line.specs.Chunks.{standsFor, toldBytes, TakenToAnswer, TakesFirst, AsSingly}
 use Rattle.line.specs.declared.LineReader.{LineReader}
 use Rattle.line.proofs.ValueLaws.{call-whole}

@@ -8,12 +8,14 @@ use Rattle.lists.specs.Choice.{pick}
 use Rattle.answer.specs.Answer.{result, refused}
 use Rattle.framing.specs.Located.{answerIn}
 use Rattle.framing.specs.Reference.{Call, byte, finish}
+use Rattle.framing.proofs.Chunk.{fed-answer}
 use Rattle.frame.specs.Verdict.{verdict}
 use Rattle.frame.specs.Origin.{admit}
 use Rattle.frame.specs.Answers.{standardOutline, extendedOutline, outlineOf, judgeAnswer}
-use Rattle.candidate.specs.Outcome.{Outcome, Summary, silent, tells, summaryOf}
+use Rattle.candidate.specs.Outcome.{Outcome, nothing, Summary, silent, tells, summaryOf}
+use Rattle.candidate.specs.Feed.{isAnswer}
 use Rattle.candidate.specs.Holder.{Holder, holder, originHeld, finishHeld, turnHeld}
-use Rattle.candidate.proofs.OutcomeLaws.{every-outcome, fed-outcome}
+use Rattle.candidate.proofs.OutcomeLaws.{every-outcome}
 use Rattle.line.specs.Reader.{finishOf}
 use Rattle.line.specs.Feed.{chunkOf}
 use Rattle.line.specs.declared.LineReader.{LineReader}
@@ -49,7 +51,7 @@ pub feed-numbered : (r : LineReader) (s : List ℕ) → NumberedLine (summaryOf 
 unfolding judgeAnswer
 feed-numbered r s =
     chunk-answer r s (λ o. NumberedLine (summaryOf o)) tt (λ e. omega arith)
-    (fed-outcome (λ o. NumberedLine (summaryOf o)) tt (λ h b. outcome-numbered h (byte b)))
+    (fed-answer nothing isAnswer turnHeld (λ o. NumberedLine (summaryOf o)) tt (λ h b. outcome-numbered h (byte b)))
 
 pub finish-numbered : (r : LineReader) → NumberedLine (summaryOf (answerIn (finishOf r .answer)))
 finish-numbered r =

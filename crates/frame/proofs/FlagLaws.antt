@@ -2,13 +2,13 @@
 use Prim.Native.Nat.{ℕ, _≤_}
 use mathlib.Core.Path.{_≡_, refl, sym, ap, _∙_}
 use mathlib.Core.Bool.{Bool, true, false, true≢false}
-use mathlib.Core.List.{List, [], _∷_}
+use mathlib.Core.List.{List}
 use native.Mathlib.Omega.{arith}
 use lib.Dec.{eqb}
 use borrow.Author.Tests.{eqb-true, eqb-false}
 use Rattle.lists.specs.Choice.{pick, within, noneOf}
 use Rattle.lists.proofs.Cases.{by-bool}
-use Rattle.lists.proofs.Tests.{within-true, within-yes, none-stronger}
+use Rattle.lists.proofs.Tests.{within-true, within-yes, none-stronger, none-every, every-none}
 use Rattle.framing.specs.Reference.{Role, starts, stops, plain, FlagFree}
 use Rattle.frame.specs.Flags.{startFlag, stopFlag, roleOf, kindOf, isStart, isFlag, flagless}
 use Rattle.frame.specs.declared.Kind.{Kind}
@@ -105,12 +105,7 @@ plain-no-flag b e = role-tests b .1 ∙ ap isFlagRole e
 -- ---- lists without a flag
 
 pub flagless-free : (s : List ℕ) → flagless s ≡ true → FlagFree roleOf s
-unfolding noneOf
-flagless-free [] h = tt
-flagless-free (b ∷ s) h =
-    by-bool (isFlag b) (λ y. absurd (true≢false (sym h ∙ simp y))) (λ n. (no-flag b n, flagless-free s (simp n at h)))
+flagless-free s h = none-every isFlag (λ (b : ℕ). roleOf b ≡ plain) no-flag s h
 
 pub free-flagless : (s : List ℕ) → FlagFree roleOf s → flagless s ≡ true
-unfolding noneOf
-free-flagless [] h = refl
-free-flagless (b ∷ s) h = simp (plain-no-flag b (h .0)) (free-flagless s (h .1))
+free-flagless s h = every-none isFlag (λ (b : ℕ). roleOf b ≡ plain) plain-no-flag s h

@@ -146,6 +146,57 @@ module _ {S A : Type 0} (nothing : A) (isAnswer : A → Bool) (turnOf : S → Ca
   abbrev fed : S → List ℕ → FedTurn S A
   fed s bytes = fedBy nothing isAnswer turnOf s bytes
 
+  -- ---- how far a chunk is taken
+
+  module _ (silent : isAnswer nothing ≡ false) where
+    pub fed-extent : (s : S) (bytes : List ℕ) → Extent isAnswer bytes (fed s bytes)
+    unfolding fedBy
+    fed-extent s [] = record {
+      within = omega arith;
+      some = λ e. absurd (true≢false (sym e ∙ silent));
+      all = λ e. refl;
+    }
+    fed-extent s (b ∷ bytes) =
+        let t = turnOf s (byte b) in
+        let k = fed-extent (t .next) bytes in
+        by-bool (isAnswer (t .answer))
+        (λ y. simp y (record {
+          within = omega arith;
+          some = λ e. omega arith;
+          all = λ e. absurd (true≢false (sym y ∙ e));
+        }))
+        (λ n. simp n (record {
+          within = omega (arith, k .within);
+          some = λ e. omega arith;
+          all = λ e. omega (arith, k .all e);
+        }))
+
+    module _ (quiet : (a : A) → isAnswer a ≡ false → a ≡ nothing) where
+      -- an answer takes a byte
+      pub taken-answered : (s : S) (bytes : List ℕ) → fed s bytes .taken ≡ 0 → fed s bytes .answer ≡ nothing
+      taken-answered s bytes e =
+          by-bool (isAnswer (fed s bytes .answer))
+          (λ y. absurd (omega (arith, e, fed-extent s bytes .some y)))
+          (quiet (fed s bytes .answer))
+
+      -- The bytes that a chunk takes are answered, and leave the state, as they do singly.
+      pub fed-singly : (s : S) (bytes : List ℕ) → TakenSingly turnOf nothing s bytes (fed s bytes)
+      unfolding fedBy
+      fed-singly s [] = record { outcomes-are = refl; reader-is = refl }
+      fed-singly s (b ∷ bytes) =
+          let t = turnOf s (byte b) in
+          singly-more turnOf nothing s b bytes (fed (t .next) bytes) (isAnswer (t .answer)) (quiet (t .answer))
+          (taken-answered (t .next) bytes) (fed-singly (t .next) bytes)
+
+      -- The same of a chunk that is cut to its first 65,536 bytes.
+      pub chunk-singly : (s : S) (given : List ℕ)
+          → FirstSingly (answerAt turnOf) (nextAfter turnOf) s (feed given) (fed s (cutChunk given) .taken)
+          (lastAnswered nothing (fed s (cutChunk given) .taken) (fed s (cutChunk given) .answer))
+          (fed s (cutChunk given) .next)
+      chunk-singly s given =
+          cut-singly turnOf nothing s given (fed s (cutChunk given)) (fed-extent s (cutChunk given) .within)
+          (fed-singly s (cutChunk given))
+
   -- ---- one byte
 
   -- What a byte's turn and the bytes after it give.
@@ -210,59 +261,6 @@ module _ {S A : Type 0} (nothing : A) (isAnswer : A → Bool) (turnOf : S → Ca
   pub fed-next : (R : S → Type 0) → ((s : S) (b : ℕ) → R s → R (turnOf s (byte b) .next)) → (s : S) (bytes : List ℕ)
       → R s → R (fed s bytes .next)
   fed-next R each s bytes k = fed-has R (λ a u. R u) (λ u h. h) (λ u b h. (each u b h, each u b h)) s bytes k
-
-  -- ---- how far a chunk is taken
-
-  module _ (silent : isAnswer nothing ≡ false) where
-    pub fed-extent : (s : S) (bytes : List ℕ) → Extent isAnswer bytes (fed s bytes)
-    unfolding fedBy
-    fed-extent s [] = record {
-      within = omega arith;
-      some = λ e. absurd (true≢false (sym e ∙ silent));
-      all = λ e. refl;
-    }
-    fed-extent s (b ∷ bytes) =
-        let t = turnOf s (byte b) in
-        by-answer (isAnswer (t .answer)) t refl (fed (t .next) bytes) (fed-extent (t .next) bytes)
-      where
-        by-answer : (q : Bool) (t : Turn S A) → isAnswer (t .answer) ≡ q → (f : FedTurn S A) → Extent isAnswer bytes f
-            → Extent isAnswer (b ∷ bytes) (pick q (fedTurn (t .answer) (t .next) 1) (laterBy 1 f))
-        by-answer true t e f k = record {
-          within = omega arith;
-          some = λ y. omega arith;
-          all = λ n. absurd (true≢false (sym e ∙ n));
-        }
-        by-answer false t e f k = record {
-          within = omega (arith, k .within);
-          some = λ y. omega arith;
-          all = λ n. omega (arith, k .all n);
-        }
-
-    module _ (quiet : (a : A) → isAnswer a ≡ false → a ≡ nothing) where
-      -- an answer takes a byte
-      pub taken-answered : (s : S) (bytes : List ℕ) → fed s bytes .taken ≡ 0 → fed s bytes .answer ≡ nothing
-      taken-answered s bytes e =
-          by-bool (isAnswer (fed s bytes .answer))
-          (λ y. absurd (omega (arith, e, fed-extent s bytes .some y)))
-          (quiet (fed s bytes .answer))
-
-      -- The bytes that a chunk takes are answered, and leave the state, as they do singly.
-      pub fed-singly : (s : S) (bytes : List ℕ) → TakenSingly turnOf nothing s bytes (fed s bytes)
-      unfolding fedBy
-      fed-singly s [] = record { outcomes-are = refl; reader-is = refl }
-      fed-singly s (b ∷ bytes) =
-          let t = turnOf s (byte b) in
-          singly-more turnOf nothing s b bytes (fed (t .next) bytes) (isAnswer (t .answer)) (quiet (t .answer))
-          (taken-answered (t .next) bytes) (fed-singly (t .next) bytes)
-
-      -- The same of a chunk that is cut to its first 65,536 bytes.
-      pub chunk-singly : (s : S) (given : List ℕ)
-          → FirstSingly (answerAt turnOf) (nextAfter turnOf) s (feed given) (fed s (cutChunk given) .taken)
-          (lastAnswered nothing (fed s (cutChunk given) .taken) (fed s (cutChunk given) .answer))
-          (fed s (cutChunk given) .next)
-      chunk-singly s given =
-          cut-singly turnOf nothing s given (fed s (cutChunk given)) (fed-extent s (cutChunk given) .within)
-          (fed-singly s (cutChunk given))
 
   -- ---- runs
 

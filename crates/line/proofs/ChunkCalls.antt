@@ -22,6 +22,7 @@ use Rattle.framing.specs.Located.{Located, answerIn, positionIn}
 use Rattle.framing.specs.Counting.{startIn}
 use Rattle.framing.specs.LocatedDemand3.{LocatedDemand3}
 use Rattle.framing.proofs.Located.{located-demand3-of}
+use Rattle.framing.specs.Chunk.{cutChunk}
 use Rattle.frame.specs.Flags.{roleOf}
 use Rattle.frame.specs.declared.Origin.{Origin}
 use Rattle.candidate.specs.Outcome.{Outcome, toldMeans, summaryOf}
@@ -32,7 +33,7 @@ use Rattle.candidate.proofs.ValueLaws.{fed-whole}
 use Rattle.line.specs.Rowing.{mostBytes, locatedRowing}
 use Rattle.line.specs.Answers.{locatedOutcome, ValueAnswer, valueOutcome}
 use Rattle.line.specs.Reader.{lentReader, newReader, outcomeAt, nextAfter, AsNew}
-use Rattle.line.specs.Feed.{ChunkTurn, feedOf, cutChunk, chunkOf, ChunkIs, ChunkAnswerIs}
+use Rattle.line.specs.Feed.{ChunkTurn, feedOf, chunkOf, ChunkIs, ChunkAnswerIs}
 use Rattle.line.specs.Chunks.{standsFor, toldBytes, TakenToAnswer, AsSingly, TakesFirst}
 use Rattle.line.specs.declared.LineReader.{LineReader}
 use Rattle.line.specs.declared.State.{State}

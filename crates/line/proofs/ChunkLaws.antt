@@ -1,32 +1,32 @@
 -- The bytes that a chunk takes are answered, and leave the reader, as they do singly, and 16 comes exactly where the
 -- reader is full.
-use mathlib.Core.Path.{_≡_, refl, sym, ap, ap₂, _∙_, subst}
+use mathlib.Core.Path.{_≡_, refl, sym, ap, _∙_, subst}
 use mathlib.Core.Bool.{Bool, true, false, true≢false}
 use mathlib.Core.Logic.{_⊎_, inl, inr}
 use mathlib.Core.List.{List, [], _∷_}
 use native.Mathlib.Omega.{arith}
-use Prim.Native.Nat.{ℕ, zero, suc, _+_, _-_, _≤_, _<_}
+use Prim.Native.Nat.{ℕ, zero, suc, _-_, _≤_, _<_}
 use lib.Dec.{ltb}
-use lib.ListN.{length, take, length-map}
-use lib.Seq.{take-take}
+use lib.ListN.{length, take}
 use borrow.Author.Tests.{ltb-true, ltb-false}
 use Rattle.lists.specs.Choice.{pick}
-use Rattle.lists.specs.Machine.{run, leftAfter}
 use Rattle.lists.proofs.Cases.{by-bool}
-use Rattle.lists.proofs.Lists.{take-bounds, take-map}
+use Rattle.lists.proofs.Lists.{take-bounds}
 use Rattle.framing.specs.Reference.{Call, byte, finish}
 use Rattle.framing.specs.Demand3.{feed}
 use Rattle.framing.specs.Located.{Located, unlocated, located, answerIn}
 use Rattle.framing.specs.Counting.{startIn, locate}
+use Rattle.framing.specs.Chunk.{fedTurn, laterBy, chunkLimit, cutChunk}
+use Rattle.framing.proofs.Chunk.{fed-answer, TakenSingly, singly-more, cut-singly}
 use Rattle.frame.specs.Flags.{roleOf}
 use Rattle.candidate.specs.Outcome.{Outcome, nothing, judged}
 use Rattle.candidate.specs.Holder.{holder, turnHeld}
 use Rattle.candidate.specs.Feed.{isAnswer, feedHeld, unanswered}
-use Rattle.candidate.proofs.OutcomeLaws.{OwnNumber, OwnOutcome, own-outcome, fed-outcome, fed-extent}
+use Rattle.candidate.proofs.OutcomeLaws.{OwnNumber, OwnOutcome, own-outcome, fed-extent}
 use Rattle.line.specs.Rowing.{mostBytes, full}
-use Rattle.line.specs.Reader.{ReaderTurn, stepOf, turnOf, outcomeAt, nextAfter}
-use Rattle.line.specs.Feed.{ChunkTurn, chunkTurn, noTurn, laterBy, feedOf, chunkLimit, cutChunk, chunkOf}
-use Rattle.line.specs.Chunks.{standsFor, byByte, toldBytes, TakenToAnswer, TakesFirst, AsSingly}
+use Rattle.line.specs.Reader.{ReaderTurn, stepOf, turnOf}
+use Rattle.line.specs.Feed.{ChunkTurn, noTurn, feedOf, chunkOf}
+use Rattle.line.specs.Chunks.{standsFor, byByte, toldBytes, TakenToAnswer, TakesFirst}
 use Rattle.line.specs.Chunks.{FullExactly}
 use Rattle.line.specs.declared.LineReader.{LineReader}
 use Rattle.line.proofs.StepLaws.{answer-located, step-taken, step-full, by-count}
@@ -57,7 +57,7 @@ fed-not-full : (r : LineReader) (s : List ℕ) → answerIn (feedOf r s .answer)
 fed-not-full r s e =
     let h = holder (r .bytes) (r .state .held) in
     located-not-full _ _
-    (fed-outcome OwnOutcome (λ n q. let z : _≡_ {A = ℕ} 0 1 = cc in absurd (omega arith))
+    (fed-answer nothing isAnswer turnHeld OwnOutcome (λ n q. let z : _≡_ {A = ℕ} 0 1 = cc in absurd (omega arith))
     (λ h b. own-outcome h (byte b)) h (take (mostBytes - r .state .count) s))
     (sym (ap (λ (f : ChunkTurn). answerIn (f .answer)) (feed-held r s)) ∙ e)
 
@@ -88,19 +88,9 @@ quiet-none r (b ∷ s) e =
     (λ n. ap (λ (f : ChunkTurn). f .answer) (fed-full r b s (ltb-false (r .state .count) mostBytes n)))
   where
     by-answer : (q : Bool) (t : ReaderTurn)
-        → pick q (chunkTurn (t .answer) (t .next) 1) (laterBy 1 (feedOf (t .next) s)) .taken ≡ 0 → ⊥
+        → pick q (fedTurn (t .answer) (t .next) 1) (laterBy 1 (feedOf (t .next) s)) .taken ≡ 0 → ⊥
     by-answer true t k = omega arith
     by-answer false t k = omega arith
-
--- what a chunk gives
-abbrev Singly : LineReader → List ℕ → ChunkTurn → Type 0
-Singly r s f = AsSingly r (feed (take (f .taken) s)) (byByte (f .taken) (f .answer)) (f .next)
-
--- a byte that is not answered before a chunk
-byte-more : (n : ℕ) (a : Located Outcome) → (n ≡ 0 → a ≡ unlocated nothing)
-    → byByte (suc n) a ≡ unlocated nothing ∷ byByte n a
-byte-more zero a h = ap (λ (x : Located Outcome). x ∷ []) (h refl)
-byte-more (suc n) a h = refl
 
 -- one outcome that is not an answer is nothing
 not-told : (r : LineReader) (b : ℕ) → r .state .count < mostBytes → isAnswer (answerIn (stepOf r b .answer)) ≡ false
@@ -116,37 +106,26 @@ not-told r b h e =
     by-outcome nothing k = refl
     by-outcome (judged v) k = absurd (true≢false k)
 
-pub chunk-singly : (r : LineReader) (s : List ℕ) → Singly r s (feedOf r s)
+pub chunk-singly : (r : LineReader) (s : List ℕ) → TakenSingly turnOf (unlocated nothing) r s (feedOf r s)
 chunk-singly r [] =
-    subst (Singly r []) (sym (fed-none r)) (record { outcomes-are = refl; reader-is = refl })
+    subst (TakenSingly turnOf (unlocated nothing) r []) (sym (fed-none r)) (record { outcomes-are = refl; reader-is = refl })
 chunk-singly r (b ∷ s) =
     by-bool (ltb (r .state .count) mostBytes)
     (λ y. let h = ltb-true (r .state .count) mostBytes y in
-    subst (Singly r (b ∷ s)) (sym (fed-taken r b s h))
-    (by-answer (isAnswer (answerIn (stepOf r b .answer))) refl h (feedOf (stepOf r b .next) s)
-    (quiet-none (stepOf r b .next) s) (chunk-singly (stepOf r b .next) s)))
-    (λ n. subst (Singly r (b ∷ s)) (sym (fed-full r b s (ltb-false (r .state .count) mostBytes n)))
+    subst (TakenSingly turnOf (unlocated nothing) r (b ∷ s)) (sym (fed-taken r b s h))
+    (singly-more turnOf (unlocated nothing) r b s (feedOf (stepOf r b .next) s)
+    (isAnswer (answerIn (stepOf r b .answer))) (not-told r b h) (quiet-none (stepOf r b .next) s)
+    (chunk-singly (stepOf r b .next) s)))
+    (λ n. subst (TakenSingly turnOf (unlocated nothing) r (b ∷ s))
+    (sym (fed-full r b s (ltb-false (r .state .count) mostBytes n)))
     (record { outcomes-are = refl; reader-is = refl }))
-  where
-    by-answer : (q : Bool) → isAnswer (answerIn (stepOf r b .answer)) ≡ q → r .state .count < mostBytes
-        → (f : ChunkTurn) → (f .taken ≡ 0 → f .answer ≡ unlocated nothing) → Singly (stepOf r b .next) s f
-        → Singly r (b ∷ s) (pick q (chunkTurn (stepOf r b .answer) (stepOf r b .next) 1) (laterBy 1 f))
-    by-answer true e h f z k = record { outcomes-are = refl; reader-is = refl }
-    by-answer false e h f z k =
-        let one : suc (f .taken) ≡ 1 + f .taken = omega arith in
-        subst (λ (n : ℕ). Singly r (b ∷ s) (chunkTurn (f .answer) (f .next) n)) one (record {
-          outcomes-are = byte-more (f .taken) (f .answer) z
-              ∙ ap₂ (λ (x : Located Outcome) (l : List (Located Outcome)). x ∷ l) (sym (not-told r b h e))
-              (k .outcomes-are);
-          reader-is = k .reader-is;
-        })
 
 -- ---- a chunk, cut to its first 65,536 bytes
 
 -- what is known of a call on a chunk, by whether the reader can take its first byte
 module _ (r : LineReader) (given : List ℕ) (P : ChunkTurn → Type 0)
     (none : length given ≡ 0 → P (noTurn r))
-    (refuses : 0 < length given → mostBytes ≤ r .state .count → P (chunkTurn (located 0 full) r 0))
+    (refuses : 0 < length given → mostBytes ≤ r .state .count → P (fedTurn (located 0 full) r 0))
     (takes : r .state .count < mostBytes → P (feedOf r (cutChunk given))) where
   pub by-first : P (chunkOf r given)
   by-first =
@@ -175,7 +154,7 @@ Stands r given f =
     TakesFirst r (feed given) (standsFor (f .taken) (f .answer)) (toldBytes (f .taken) (f .answer)) (f .next)
 
 first-refused : (r : LineReader) (given : List ℕ) → 0 < length given → mostBytes ≤ r .state .count
-    → Stands r given (chunkTurn (located 0 full) r 0)
+    → Stands r given (fedTurn (located 0 full) r 0)
 first-refused r [] h k = absurd (omega arith)
 first-refused r (b ∷ s) h k =
     let e = step-full r b k in (
@@ -187,18 +166,10 @@ first-refused r (b ∷ s) h k =
 first-taken : (r : LineReader) (given : List ℕ) → Stands r given (feedOf r (cutChunk given))
 first-taken r given =
     let f = feedOf r (cutChunk given) in
-    let k = chunk-singly r (cutChunk given) in
     let n : standsFor (f .taken) (f .answer) ≡ f .taken =
     stands-taken (f .taken) (f .answer) (quiet-none r (cutChunk given)) in
-    let w : f .taken ≤ length (cutChunk given) = taken-within r (cutChunk given) in
-    let first : feed (take (f .taken) (cutChunk given)) ≡ take (f .taken) (feed given) =
-    ap feed (take-take (f .taken) chunkLimit given (omega (arith, take-bounds chunkLimit given .0)))
-    ∙ sym (take-map byte (f .taken) given) in
-    subst (λ (m : ℕ). TakesFirst r (feed given) m (byByte m (f .answer)) (f .next)) (sym n) (
-      omega (arith, take-bounds chunkLimit given .1, length-map given byte),
-      k .outcomes-are ∙ ap (run outcomeAt nextAfter r) first,
-      k .reader-is ∙ ap (leftAfter nextAfter r) first,
-    )
+    subst (λ (m : ℕ). TakesFirst r (feed given) m (byByte m (f .answer)) (f .next)) (sym n)
+    (cut-singly turnOf (unlocated nothing) r given f (taken-within r (cutChunk given)) (chunk-singly r (cutChunk given)))
   where
     taken-within : (r : LineReader) (s : List ℕ) → feedOf r s .taken ≤ length s
     taken-within r s =

@@ -1,29 +1,25 @@
 -- The reader that calls leave, in any form: after a finish it is as new, after the stop flag as new but for the count. It
 -- keeps its origin, and never answers 1.
 use mathlib.Core.Path.{_≡_, refl, sym, ap, _∙_, subst}
-use mathlib.Core.Bool.{Bool, true, false}
 use mathlib.Core.Logic.{inl, inr}
 use mathlib.Core.List.{List, [], _∷_, _++_}
 use native.Mathlib.Omega.{arith}
 use Prim.Native.Nat.{ℕ, _+_, _≤_, _<_}
-use lib.Dec.{ltb}
-use lib.ListN.{length, length-set}
+use lib.ListN.{length}
 use Rattle.lists.specs.Choice.{Every}
 use Rattle.lists.specs.Machine.{run, leftAfter, RanBy}
-use Rattle.lists.proofs.Cases.{by-bool}
-use Rattle.lists.proofs.Machines.{left-append}
-use Rattle.framing.specs.Reference.{Call, byte, finish, Role, starts, stops, plain}
+use Rattle.lists.proofs.Machines.{left-append, left-keeps, run-every}
+use Rattle.framing.specs.Reference.{Call, byte, finish}
+use Rattle.framing.specs.Bounded.{BoundedReader}
+use Rattle.framing.proofs.Bounded.{bounded-kept}
 use Rattle.framing.specs.Located.{Located, answerIn}
 use Rattle.framing.specs.LocatedDemand3.{bytesSinceFinish}
-use Rattle.frame.specs.Flags.{stopFlag, roleOf}
-use Rattle.frame.specs.declared.Origin.{Origin}
-use Rattle.frame.specs.declared.Kind.the-variants.{Standard, Extended}
+use Rattle.frame.specs.Flags.{stopFlag}
+use Rattle.frame.specs.declared.Kind.{Kind}
 use Rattle.candidate.specs.Outcome.{Outcome, capacity, Not1}
-use Rattle.candidate.specs.Holder.{Holder, holder, holderOf, roleStep, nextHeld, turnHeld}
-use Rattle.candidate.specs.declared.Mode.{Mode}
-use Rattle.candidate.specs.declared.Mode.the-variants.{Outside, InStandard, InExtended, Overlong}
-use Rattle.candidate.specs.Private.{isHeld}
-use Rattle.candidate.proofs.HolderLaws.{held-byte, unheld-byte}
+use Rattle.candidate.specs.Rowing.{rowing, rowingBounds}
+use Rattle.candidate.specs.Holder.{Holder, holder, originHeld, seen, nextHeld, turnHeld}
+use Rattle.candidate.proofs.HolderLaws.{call-seen}
 use Rattle.candidate.proofs.HolderLaws.{origin-kept as held-origin}
 use Rattle.candidate.proofs.Follows.{rowing-suits}
 use Rattle.candidate.proofs.OutcomeLaws.{OwnNumber, OwnOutcome, own-outcome}
@@ -45,8 +41,8 @@ origin-kept r (byte b) =
 origin-kept r finish = held-origin (holder (r .bytes) (r .state .held)) finish
 
 pub left-origin : (r : LineReader) (calls : List Call) → originOf (leftAfter nextAfter r calls) ≡ originOf r
-left-origin r [] = refl
-left-origin r (c ∷ calls) = left-origin (nextAfter r c) calls ∙ origin-kept r c
+left-origin r calls =
+    left-keeps nextAfter (λ (u : LineReader). originOf u ≡ originOf r) (λ u c k. origin-kept u c ∙ k) r calls refl
 
 -- ---- what holds of every outcome of a reader
 
@@ -63,8 +59,9 @@ module _ (P : Outcome → Type 0) (sort : LineReader → Type 0) (refused : P fu
   -- Holds of every outcome of such a reader, whatever its other fields are.
   pub every-run : (r : LineReader) → sort r → (calls : List Call)
       → Every (λ (a : Located Outcome). P (answerIn a)) (run outcomeAt nextAfter r calls)
-  every-run r s [] = tt
-  every-run r s (c ∷ calls) = (each-outcome r c s, every-run (nextAfter r c) (kept r c s) calls)
+  every-run r s calls =
+      run-every outcomeAt nextAfter sort (λ (a : Located Outcome). P (answerIn a))
+      (λ u c k. (kept u c k, each-outcome u c k)) r calls s
 
 -- ---- never 1
 
@@ -92,41 +89,24 @@ calls-never-1 {r} {last} {calls} k =
 
 -- ---- as new
 
-stop-kept : (o : Origin) (mode : Mode) (bytes : List ℕ) (len : ℕ) → length bytes ≡ capacity
-    → length (nextHeld (holderOf o bytes len mode) (byte stopFlag) .bytes) ≡ capacity
-stop-kept o Outside bytes len h = h
-stop-kept o InStandard bytes len h = rowing-suits o .kept Standard len bytes h
-stop-kept o InExtended bytes len h = rowing-suits o .kept Extended len bytes h
-stop-kept o Overlong bytes len h = h
+-- every call on what holds the candidate keeps the array's length
+held-kept : (r : Holder) (c : Call) → length (r .bytes) ≡ capacity → length (nextHeld r c .bytes) ≡ capacity
+held-kept r c h =
+    let o = originHeld r in
+    ap (λ (u : BoundedReader Kind). length (u .bytes)) (call-seen o r c refl .1)
+    ∙ bounded-kept (rowing o) (rowingBounds o) (rowing-suits o) (seen r) c h
 
--- a byte of a role keeps the array's length
-byte-kept : (o : Origin) (bytes : List ℕ) (len b : ℕ) → length bytes ≡ capacity → (mode : Mode) (ρ : Role)
-    → length (roleStep ρ (holderOf o bytes len mode) b .next .bytes) ≡ capacity
-byte-kept o bytes len b h mode starts = h
-byte-kept o bytes len b h Outside stops = h
-byte-kept o bytes len b h InStandard stops = rowing-suits o .kept Standard len bytes h
-byte-kept o bytes len b h InExtended stops = rowing-suits o .kept Extended len bytes h
-byte-kept o bytes len b h Overlong stops = h
-byte-kept o bytes len b h mode plain =
-    by-held (isHeld mode) refl
-  where
-    by-held : (q : Bool) → isHeld mode ≡ q → length (roleStep plain (holderOf o bytes len mode) b .next .bytes) ≡ capacity
-    by-held true e =
-        ap (λ (r : Holder). length (r .bytes)) (held-byte o mode bytes len b e)
-        ∙ by-bool (ltb len capacity) (λ y. simp (y, length-set bytes len b) h) (λ n. simp n h)
-    by-held false e = ap (λ (r : Holder). length (r .bytes)) (unheld-byte o mode bytes len b e) ∙ h
+abbrev HasArray : LineReader → Type 0
+HasArray r = length (r .bytes) ≡ capacity
 
-call-kept : (r : LineReader) (c : Call) → length (r .bytes) ≡ capacity → length (nextAfter r c .bytes) ≡ capacity
+call-kept : (r : LineReader) (c : Call) → HasArray r → HasArray (nextAfter r c)
 call-kept r finish h = h
 call-kept r (byte b) h =
-    let s = r .state .held in
-    by-count r b (λ (t : ReaderTurn). length (t .next .bytes) ≡ capacity)
-    (λ l. byte-kept (s .origin) (r .bytes) (s .len) b h (s .mode) (roleOf b)) (λ l. h)
+    by-count r b (λ (t : ReaderTurn). HasArray (t .next))
+    (λ l. held-kept (holder (r .bytes) (r .state .held)) (byte b) h) (λ l. h)
 
-left-kept : (r : LineReader) (calls : List Call) → length (r .bytes) ≡ capacity
-    → length (leftAfter nextAfter r calls .bytes) ≡ capacity
-left-kept r [] h = h
-left-kept r (c ∷ calls) h = left-kept (nextAfter r c) calls (call-kept r c h)
+left-kept : (r : LineReader) (calls : List Call) → HasArray r → HasArray (leftAfter nextAfter r calls)
+left-kept r calls h = left-keeps nextAfter HasArray call-kept r calls h
 
 -- of what is answered as single calls are
 module _ (r last : LineReader) (calls : List Call) (outcomes : List (Located Outcome)) (h : length (r .bytes) ≡ capacity)
@@ -142,7 +122,6 @@ module _ (r last : LineReader) (calls : List Call) (outcomes : List (Located Out
         → ClosedAt (bytesSinceFinish (r .state .count) calls + 1) (originOf r) last
     left-closed k l room =
         let u = leftAfter nextAfter r calls in
-        let s = u .state .held in
         let n : u .state .count ≡ bytesSinceFinish (r .state .count) calls =
         left-count r l calls .0 (omega (arith, room)) in
         subst (ClosedAt (bytesSinceFinish (r .state .count) calls + 1) (originOf r))
@@ -150,7 +129,7 @@ module _ (r last : LineReader) (calls : List Call) (outcomes : List (Located Out
         (subst (λ (t : ReaderTurn). ClosedAt (bytesSinceFinish (r .state .count) calls + 1) (originOf r) (t .next))
         (sym (step-taken u stopFlag (omega (arith, n, room))))
         (record {
-          array = stop-kept (s .origin) (s .mode) (u .bytes) (s .len) (left-kept r calls h);
+          array = held-kept (holder (u .bytes) (u .state .held)) (byte stopFlag) (left-kept r calls h);
           outside-is = refl;
           origin-is = left-origin r calls;
           count-is = ap (λ (m : ℕ). m + 1) n;

@@ -8,17 +8,18 @@ use lib.ListN.{take}
 use Rattle.lists.proofs.Lists.{take-bounds}
 use Rattle.framing.specs.Located.{answerIn}
 use Rattle.framing.proofs.Counting.{start-within}
+use Rattle.framing.specs.Chunk.{cutChunk}
 use Rattle.frame.specs.Flags.{roleOf}
 use Rattle.frame.specs.Answers.{judgeAnswer}
 use Rattle.candidate.specs.Outcome.{Outcome, nothing, summaryOf, ContentsFit}
 use Rattle.candidate.specs.Holder.{Holder, holder, finishHeld}
-use Rattle.candidate.specs.Feed.{FedTurn, feedHeld}
+use Rattle.candidate.specs.Feed.{FedHeld, feedHeld}
 use Rattle.candidate.proofs.OutcomeLaws.{fed-extent}
 use Rattle.candidate.proofs.FeedBounds.{feed-within, feed-len, feed-origin}
 use Rattle.candidate.proofs.FeedBounds.{finish-within as held-finish-within}
 use Rattle.line.specs.Rowing.{mostBytes, full}
 use Rattle.line.specs.Reader.{originOf, finishOf}
-use Rattle.line.specs.Feed.{ChunkTurn, cutChunk, chunkOf}
+use Rattle.line.specs.Feed.{ChunkTurn, chunkOf}
 use Rattle.line.specs.declared.LineReader.{LineReader}
 use Rattle.line.proofs.StepLaws.{answer-located}
 use Rattle.line.proofs.FeedLaws.{feed-held}
@@ -29,7 +30,7 @@ module _ (r : LineReader) (s : List ℕ) where
   abbrev part : List ℕ
   part = take (mostBytes - r .state .count) (cutChunk s)
 
-  abbrev fed : FedTurn
+  abbrev fed : FedHeld
   fed = feedHeld (holder (r .bytes) (r .state .held)) part
 
   -- What is answered is nothing, 16, or the answer of what holds the candidate.

@@ -17,17 +17,17 @@ use Rattle.framing.proofs.Counting.{start-within}
 use Rattle.framing.specs.Reference.{Role, starts, stops, plain}
 use Rattle.framing.specs.Located.{located, answerIn}
 use Rattle.framing.specs.Counting.{startAfter, startIn, locate}
+use Rattle.framing.specs.Chunk.{fedTurn, laterBy, fedBy, chunkLimit, cutChunk}
 use Rattle.frame.specs.Flags.{roleOf}
 use Rattle.candidate.specs.Outcome.{Outcome, nothing, judged, toldMeans, summaryOf}
 use Rattle.candidate.specs.Holder.{Holder, holder, stepHeld}
-use Rattle.candidate.specs.Feed.{isAnswer, FedTurn, fedTurn, feedHeld, unanswered, lastStart, HeldChunkIs, Opens}
-use Rattle.candidate.specs.Feed.{laterBy as heldLater}
+use Rattle.candidate.specs.Feed.{isAnswer, FedHeld, feedHeld, unanswered, lastStart, HeldChunkIs, Opens}
 use Rattle.candidate.specs.declared.HeldChunk.{HeldChunk}
 use Rattle.candidate.proofs.OutcomeLaws.{fed-extent}
 use Rattle.line.specs.Rowing.{mostBytes, full}
 use Rattle.line.specs.Reader.{reader, lentReader, ReaderTurn, stepOf}
-use Rattle.line.specs.Feed.{ChunkTurn, chunkTurn, noTurn, laterBy, feedOf}
-use Rattle.line.specs.Feed.{chunkLimit, cutChunk, chunkOf, ChunkStepIs}
+use Rattle.line.specs.Feed.{ChunkTurn, noTurn, feedOf}
+use Rattle.line.specs.Feed.{chunkOf, ChunkStepIs}
 use Rattle.line.specs.Private.{toldAt, placeAt, Advances}
 use Rattle.line.specs.declared.LineReader.{LineReader}
 use Rattle.line.specs.declared.State.{State}
@@ -39,7 +39,7 @@ use Rattle.line.proofs.StepLaws.{answer-located, position-located, step
 -- what a byte's turn and the bytes after it give
 abbrev pub fromTurn : ReaderTurn → List ℕ → ChunkTurn
 fromTurn t s =
-    pick (isAnswer (answerIn (t .answer))) (chunkTurn (t .answer) (t .next) 1) (laterBy 1 (feedOf (t .next) s))
+    pick (isAnswer (answerIn (t .answer))) (fedTurn (t .answer) (t .next) 1) (laterBy 1 (feedOf (t .next) s))
 
 pub fed-none : (r : LineReader) → feedOf r [] ≡ noTurn r
 unfolding feedOf
@@ -64,23 +64,23 @@ chunk-none r [] e = refl
 chunk-none r (b ∷ s) e = absurd (omega arith)
 
 pub chunk-full : (r : LineReader) (s : List ℕ) → 0 < length s → mostBytes ≤ r .state .count
-    → chunkOf r s ≡ chunkTurn (located 0 full) r 0
+    → chunkOf r s ≡ fedTurn (located 0 full) r 0
 chunk-full r [] h k = absurd (omega arith)
 chunk-full r (b ∷ s) h k =
-    ap (λ (room : Bool). pick room (feedOf r (cutChunk (b ∷ s))) (chunkTurn (located 0 full) r 0))
+    ap (λ (room : Bool). pick room (feedOf r (cutChunk (b ∷ s))) (fedTurn (located 0 full) r 0))
     (le-ltb (r .state .count) mostBytes k)
 
 pub chunk-taken : (r : LineReader) (s : List ℕ) → r .state .count < mostBytes → chunkOf r s ≡ feedOf r (cutChunk s)
 chunk-taken r [] h = sym (fed-none r)
 chunk-taken r (b ∷ s) h =
-    ap (λ (room : Bool). pick room (feedOf r (cutChunk (b ∷ s))) (chunkTurn (located 0 full) r 0))
+    ap (λ (room : Bool). pick room (feedOf r (cutChunk (b ∷ s))) (fedTurn (located 0 full) r 0))
     (lt-ltb (r .state .count) mostBytes h)
 
 -- ---- bytes that can be counted
 
 -- one byte more before others
-unanswered-more : (f : FedTurn) → (isAnswer (f .answer) ≡ true → 1 ≤ f .taken)
-    → unanswered (heldLater 1 f) ≡ suc (unanswered f)
+unanswered-more : (f : FedHeld) → (isAnswer (f .answer) ≡ true → 1 ≤ f .taken)
+    → unanswered (laterBy 1 f) ≡ suc (unanswered f)
 unanswered-more f h = by-answer (isAnswer (f .answer)) h
   where
     by-answer : (q : Bool) → (q ≡ true → 1 ≤ f .taken)
@@ -89,9 +89,9 @@ unanswered-more f h = by-answer (isAnswer (f .answer)) h
     by-answer false k = omega arith
 
 -- what holds the candidate, with the count beside it
-abbrev fromHeld : LineReader → List ℕ → FedTurn → ChunkTurn
+abbrev fromHeld : LineReader → List ℕ → FedHeld → ChunkTurn
 fromHeld r s f =
-    chunkTurn (locate isAnswer (startIn roleOf (r .state .start) (r .state .count) (take (unanswered f) s)) (f .answer))
+    fedTurn (locate isAnswer (startIn roleOf (r .state .start) (r .state .count) (take (unanswered f) s)) (f .answer))
     (reader (f .next .bytes) (f .next .held) (startIn roleOf (r .state .start) (r .state .count) (take (f .taken) s))
     (r .state .count + f .taken)) (f .taken)
 
@@ -102,23 +102,23 @@ untaken r s =
     ap (λ (n : ℕ). noTurn (reader (r .bytes) (r .state .held) (r .state .start) n)) z
 
 -- one byte more that is not answered
-held-more : (r : LineReader) (b : ℕ) (s : List ℕ) (h : Holder) (f : FedTurn)
+held-more : (r : LineReader) (b : ℕ) (s : List ℕ) (h : Holder) (f : FedHeld)
     → (isAnswer (f .answer) ≡ true → 1 ≤ f .taken)
     → laterBy 1 (fromHeld
     (reader (h .bytes) (h .held) (startAfter (roleOf b) (r .state .start) (r .state .count)) (r .state .count + 1)) s f)
-    ≡ fromHeld r (b ∷ s) (heldLater 1 f)
+    ≡ fromHeld r (b ∷ s) (laterBy 1 f)
 held-more r b s h f some =
     let start = r .state .start in
     let count = r .state .count in
     let next = startAfter (roleOf b) start count in
-    let u : unanswered (heldLater 1 f) ≡ suc (unanswered f) = unanswered-more f some in
+    let u : unanswered (laterBy 1 f) ≡ suc (unanswered f) = unanswered-more f some in
     let t : 1 + f .taken ≡ suc (f .taken) = omega arith in
     let c : count + 1 + f .taken ≡ count + (1 + f .taken) = omega arith in
-    ap₂ (λ (x y : ℕ). chunkTurn (locate isAnswer x (f .answer))
+    ap₂ (λ (x y : ℕ). fedTurn (locate isAnswer x (f .answer))
     (reader (f .next .bytes) (f .next .held) y (count + 1 + f .taken)) (1 + f .taken))
     (ap (λ (n : ℕ). startIn roleOf start count (take n (b ∷ s))) (sym u))
     (ap (λ (n : ℕ). startIn roleOf start count (take n (b ∷ s))) (sym t))
-    ∙ ap (λ (n : ℕ). chunkTurn (locate isAnswer (startIn roleOf start count (take (unanswered (heldLater 1 f)) (b ∷ s)))
+    ∙ ap (λ (n : ℕ). fedTurn (locate isAnswer (startIn roleOf start count (take (unanswered (laterBy 1 f)) (b ∷ s)))
     (f .answer))
     (reader (f .next .bytes) (f .next .held) (startIn roleOf start count (take (1 + f .taken) (b ∷ s))) n) (1 + f .taken))
     c
@@ -132,7 +132,7 @@ nextOf r b next =
 by-outcome : (r : LineReader) (b : ℕ) (s part : List ℕ) (o : Outcome) (next : Holder)
     → feedOf (nextOf r b next) s ≡ fromHeld (nextOf r b next) s (feedHeld next part)
     → fromTurn (turn (locate isAnswer (r .state .start) o) (nextOf r b next)) s
-    ≡ fromHeld r (b ∷ s) (pick (isAnswer o) (fedTurn o next 1) (heldLater 1 (feedHeld next part)))
+    ≡ fromHeld r (b ∷ s) (pick (isAnswer o) (fedTurn o next 1) (laterBy 1 (feedHeld next part)))
 by-outcome r b s part nothing next e =
     ap (laterBy 1) e ∙ held-more r b s next (feedHeld next part) (fed-extent next part .some)
 by-outcome r b s part (judged v) next e = refl
@@ -141,7 +141,7 @@ by-outcome r b s part (judged v) next e = refl
 pub feed-held : (r : LineReader) (s : List ℕ)
     → feedOf r s
     ≡ fromHeld r s (feedHeld (holder (r .bytes) (r .state .held)) (take (mostBytes - r .state .count) s))
-unfolding feedHeld
+unfolding fedBy
 feed-held r [] =
     fed-none r ∙ untaken r []
     ∙ ap (λ (l : List ℕ). fromHeld r [] (feedHeld (holder (r .bytes) (r .state .held)) l))
@@ -165,7 +165,7 @@ feed-held r (b ∷ s) = by-bool (ltb (r .state .count) mostBytes)
 
 -- ---- as the code takes them
 
-unanswered-within : (f : FedTurn) → unanswered f ≤ f .taken
+unanswered-within : (f : FedHeld) → unanswered f ≤ f .taken
 unanswered-within f = by-answer (isAnswer (f .answer))
   where
     by-answer : (q : Bool) → pick q (f .taken - 1) (f .taken) ≤ f .taken
@@ -219,10 +219,10 @@ module _ (bytes left : List ℕ) (state : State) (s : List ℕ) (n : ℕ) (room 
     (part : take n s ≡ take (mostBytes - state .count) (cutChunk s)) (fed : HeldChunk)
     (taken : HeldChunkIs left fed (feedHeld (holder bytes (state .held)) (take n s)))
     (opens : Opens (take n s) fed (feedHeld (holder bytes (state .held)) (take n s))) where
-  abbrev given : FedTurn
+  abbrev given : FedHeld
   given = feedHeld (holder bytes (state .held)) (take n s)
 
-  abbrev counted : FedTurn
+  abbrev counted : FedHeld
   counted = feedHeld (holder bytes (state .held)) (take (mostBytes - state .count) (cutChunk s))
 
   same : given ≡ counted
@@ -274,14 +274,14 @@ module _ (bytes left : List ℕ) (state : State) (s : List ℕ) (n : ℕ) (room 
       let opened = start-at (given .taken) (fed .opened) (omega arith) (opens .opened-is) in
       let position = startIn roleOf (state .start) (state .count) (take (unanswered counted) (cutChunk s)) in
       let told : toldMeans (fed .told) ≡ summaryOf (counted .answer) =
-      taken .told-is ∙ ap (λ (f : FedTurn). summaryOf (f .answer)) same in
+      taken .told-is ∙ ap (λ (f : FedHeld). summaryOf (f .answer)) same in
       let at : placeAt (state .start) (state .count) (fed .began) ≡ position =
-      began ∙ ap (λ (f : FedTurn). startIn roleOf (state .start) (state .count) (take (unanswered f) (cutChunk s))) same in
+      began ∙ ap (λ (f : FedHeld). startIn roleOf (state .start) (state .count) (take (unanswered f) (cutChunk s))) same in
       let start : placeAt (state .start) (state .count) (fed .opened)
       ≡ startIn roleOf (state .start) (state .count) (take (counted .taken) (cutChunk s)) =
-      opened ∙ ap (λ (f : FedTurn). startIn roleOf (state .start) (state .count) (take (f .taken) (cutChunk s))) same in
-      let next : holder left (fed .held) ≡ counted .next = taken .next-is ∙ ap (λ (f : FedTurn). f .next) same in
-      let many : fed .taken ≡ counted .taken = taken .taken-is ∙ ap (λ (f : FedTurn). f .taken) same in
+      opened ∙ ap (λ (f : FedHeld). startIn roleOf (state .start) (state .count) (take (f .taken) (cutChunk s))) same in
+      let next : holder left (fed .held) ≡ counted .next = taken .next-is ∙ ap (λ (f : FedHeld). f .next) same in
+      let many : fed .taken ≡ counted .taken = taken .taken-is ∙ ap (λ (f : FedHeld). f .taken) same in
       subst (ChunkStepIs left r) (sym chunk-is) (record {
         told-is = ap toldMeans (k .told-is) ∙ told ∙ ap summaryOf (sym (answer-located (counted .answer) position));
         position-is = k .position-is ∙ ap₂ toldAt told at ∙ sym (position-located (counted .answer) position);

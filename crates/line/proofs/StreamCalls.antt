@@ -12,10 +12,10 @@ use Rattle.framing.specs.Demand3.{feed}
 use Rattle.framing.specs.Located.{Located, unlocated, located}
 use Rattle.framing.specs.LocatedDemand3.{Within}
 use Rattle.framing.proofs.Located.{within-now}
+use Rattle.framing.specs.Chunk.{cutChunk}
 use Rattle.candidate.specs.Outcome.{Outcome}
 use Rattle.line.specs.Rowing.{mostBytes}
 use Rattle.line.specs.Reader.{ReaderTurn, nextAfter}
-use Rattle.line.specs.Feed.{cutChunk}
 use Rattle.line.specs.Chunks.{standsFor, toldBytes, TakenToAnswer, TakesFirst, AsSingly}
 use Rattle.line.specs.declared.LineReader.{LineReader}
 use Rattle.line.proofs.StepLaws.{step-taken}

@@ -1,12 +1,12 @@
 -- Bytes given to a line reader in chunks, beside the same bytes fed singly.
 use mathlib.Core.Path.{_≡_}
-use mathlib.Core.List.{List, [], _∷_}
+use mathlib.Core.List.{List}
 use Prim.Native.Nat.{ℕ, zero, suc, _-_, _≤_}
 use lib.ListN.{length, take}
 use Rattle.lists.specs.Choice.{Exactly}
-use Rattle.lists.specs.Machine.{run, leftAfter}
 use Rattle.framing.specs.Reference.{Call, byte, finish}
 use Rattle.framing.specs.Located.{Located, unlocated, located, answerIn}
+use Rattle.framing.specs.Chunk.{lastAnswered, FirstSingly, Singly}
 use Rattle.answer.specs.Answer.{result}
 use Rattle.frame.specs.Frame.{Frame, wireOf}
 use Rattle.candidate.specs.Outcome.{Outcome, nothing, judged}
@@ -36,9 +36,7 @@ standsFor (suc n) a = suc n
 
 -- Their outcomes: nothing for each but the last, and the chunk's outcome for the last.
 abbrev pub byByte : ℕ → Located Outcome → List (Located Outcome)
-byByte zero a = []
-byByte (suc zero) a = a ∷ []
-byByte (suc (suc n)) a = unlocated nothing ∷ byByte (suc n) a
+byByte n a = lastAnswered (unlocated nothing) n a
 
 -- What the bytes that a chunk took, and its answer, are to a caller: an answer where no byte was taken stands by itself,
 -- so that none is left out.
@@ -52,15 +50,11 @@ toldAlone f = byByte (length (wireOf f)) (located 0 (judged (result f)))
 
 -- A call was given several, and the first of them, so many, have the outcomes and leave the reader that they do singly.
 abbrev pub TakesFirst : LineReader → (given : List Call) → (taken : ℕ) → List (Located Outcome) → LineReader → Type 0
-TakesFirst r given taken outcomes next =
-    (taken ≤ length given) × (outcomes ≡ run outcomeAt nextAfter r (take taken given))
-    × (next ≡ leftAfter nextAfter r (take taken given))
+TakesFirst r given taken outcomes next = FirstSingly outcomeAt nextAfter r given taken outcomes next
 
 -- The outcomes and the last reader of calls made singly: each byte by itself, and each finish.
-pub record AsSingly (r : LineReader) (calls : List Call) (outcomes : List (Located Outcome)) (last : LineReader)
-    : Type 0 where
-  pub outcomes-are : outcomes ≡ run outcomeAt nextAfter r calls
-  pub reader-is : last ≡ leftAfter nextAfter r calls
+abbrev pub AsSingly : LineReader → (calls : List Call) → List (Located Outcome) → (last : LineReader) → Type 0
+AsSingly r calls outcomes last = Singly outcomeAt nextAfter r calls outcomes last
 
 -- ---- a full reader
 

@@ -1,11 +1,11 @@
 -- The call that takes a chunk: document 02, No. 4 and No. 7.
 use mathlib.Core.Path.{_≡_}
 use mathlib.Core.List.{List, [], _∷_}
-use Prim.Native.Nat.{ℕ, _+_}
+use Prim.Native.Nat.{ℕ}
 use lib.Dec.{ltb}
-use lib.ListN.{take}
 use Rattle.lists.specs.Choice.{pick}
 use Rattle.framing.specs.Located.{Located, unlocated, located, answerIn, positionIn}
+use Rattle.framing.specs.Chunk.{FedTurn, fedTurn, laterBy, cutChunk}
 use Rattle.candidate.specs.Outcome.{Outcome, nothing, toldMeans, summaryOf}
 use Rattle.candidate.specs.Feed.{isAnswer}
 use Rattle.candidate.specs.declared.Told.{Told}
@@ -16,46 +16,28 @@ use Rattle.line.specs.declared.ChunkStep.{ChunkStep}
 use Rattle.line.specs.declared.ChunkAnswer.{ChunkAnswer}
 
 -- An outcome with its position, the reader afterwards, and how many bytes were taken.
-pub record ChunkTurn : Type 0 where
-  pub answer : Located Outcome
-  pub next : LineReader
-  pub taken : ℕ
-
-abbrev pub chunkTurn : Located Outcome → LineReader → ℕ → ChunkTurn
-chunkTurn a r n = record { answer = a; next = r; taken = n }
+abbrev pub ChunkTurn : Type 0
+ChunkTurn = FedTurn LineReader (Located Outcome)
 
 -- No byte is taken, and nothing is told.
 abbrev pub noTurn : LineReader → ChunkTurn
-noTurn r = chunkTurn (unlocated nothing) r 0
-
--- What a chunk gives, where i bytes that were not answered come before it.
-abbrev pub laterBy : ℕ → ChunkTurn → ChunkTurn
-laterBy i f = chunkTurn (f .answer) (f .next) (i + f .taken)
+noTurn r = fedTurn (unlocated nothing) r 0
 
 -- The bytes fed singly, up to the first that is answered, or before the first that the reader can't take.
 unfoldable pub feedOf : LineReader → List ℕ → ChunkTurn
 feedOf r [] = noTurn r
 feedOf r (b ∷ bs) =
     pick (ltb (r .state .count) mostBytes)
-    (pick (isAnswer (answerIn (stepOf r b .answer))) (chunkTurn (stepOf r b .answer) (stepOf r b .next) 1)
+    (pick (isAnswer (answerIn (stepOf r b .answer))) (fedTurn (stepOf r b .answer) (stepOf r b .next) 1)
     (laterBy 1 (feedOf (stepOf r b .next) bs)))
     (noTurn r)
 
--- ---- a chunk
-
--- The most bytes of a chunk that a call takes.
-abbrev pub chunkLimit : ℕ
-chunkLimit = 65536
-
--- A chunk of more bytes is cut to its first ones.
-abbrev pub cutChunk : List ℕ → List ℕ
-cutChunk s = take chunkLimit s
-
--- What a call on a chunk gives. It is answered 16 only where the reader can't take its first byte.
+-- What a call on a chunk gives. Of more than 65,536 bytes it takes no more than so many. It is answered 16 only where
+-- the reader can't take its first byte.
 abbrev pub chunkOf : LineReader → List ℕ → ChunkTurn
 chunkOf r [] = noTurn r
 chunkOf r (b ∷ bs) =
-    pick (ltb (r .state .count) mostBytes) (feedOf r (cutChunk (b ∷ bs))) (chunkTurn (located 0 full) r 0)
+    pick (ltb (r .state .count) mostBytes) (feedOf r (cutChunk (b ∷ bs))) (fedTurn (located 0 full) r 0)
 
 -- ---- what a function returns
 

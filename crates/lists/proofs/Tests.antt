@@ -10,7 +10,7 @@ use lib.Dec.{leb, eqb}
 use lib.ListN.{length, getD, take, drop, drop-of-length-le}
 use lib.Seq.{take-suc, drop-cons}
 use borrow.Author.Tests.{leb-true, le-leb}
-use Rattle.lists.specs.Choice.{pick, within, noneOf, countOf}
+use Rattle.lists.specs.Choice.{pick, within, noneOf, countOf, Every}
 use Rattle.lists.proofs.Cases.{by-bool, both-true}
 use Rattle.lists.proofs.Lists.{last-apart}
 
@@ -123,6 +123,18 @@ module _ (p : ℕ → Bool) where
       (λ y. absurd (true≢false (sym h ∙ simp y)))
       (λ n. let rest = none-stronger q more s (simp n at h) in
       by-bool (q x) (λ y. absurd (true≢false (sym (more x y) ∙ n))) (λ m. simp m rest))
+
+  -- Where none passes, every element has what those have that don't pass, and the other way round.
+  pub none-every : (P : ℕ → Type 0) → ((x : ℕ) → p x ≡ false → P x) → (s : List ℕ) → noneOf p s ≡ true → Every P s
+  unfolding noneOf
+  none-every P each [] h = tt
+  none-every P each (x ∷ s) h =
+      by-bool (p x) (λ y. absurd (true≢false (sym h ∙ simp y))) (λ n. (each x n, none-every P each s (simp n at h)))
+
+  pub every-none : (P : ℕ → Type 0) → ((x : ℕ) → P x → p x ≡ false) → (s : List ℕ) → Every P s → noneOf p s ≡ true
+  unfolding noneOf
+  every-none P each [] h = refl
+  every-none P each (x ∷ s) h = simp (each x (h .0)) (every-none P each s (h .1))
 
 -- what such a loop has gathered at its end
 pub mark-all : (t : Bool) → eqb (pick t 0 1) 0 ≡ t

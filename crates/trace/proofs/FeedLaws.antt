@@ -11,12 +11,13 @@ use borrow.Author.Tests.{le-ltb, ltb-true, ltb-false, eqb-false, ne-eqb}
 use Rattle.lists.specs.Choice.{pick, countBefore}
 use Rattle.lists.proofs.Cases.{by-bool}
 use Rattle.framing.specs.Located.{Located, unlocated, located, answerIn, positionIn}
+use Rattle.framing.specs.Chunk.{fedTurn, laterBy, chunkLimit, cutChunk}
 use Rattle.frame.specs.Flags.{roleOf}
 use Rattle.candidate.specs.Outcome.{Outcome, nothing, judged, toldMeans}
 use Rattle.candidate.specs.Feed.{isAnswer}
 use Rattle.line.specs.Rowing.{mostBytes, full}
 use Rattle.line.specs.Answers.{locatedOutcome}
-use Rattle.line.specs.Feed.{ChunkTurn, chunkTurn, noTurn, laterBy, feedOf, chunkLimit, cutChunk, chunkOf, ChunkStepIs}
+use Rattle.line.specs.Feed.{ChunkTurn, noTurn, feedOf, chunkOf, ChunkStepIs}
 use Rattle.line.specs.Reader.{ReaderTurn, lentReader, stepOf}
 use Rattle.line.specs.declared.ChunkStep.{ChunkStep}
 use Rattle.line.specs.declared.LineReader.{LineReader}
@@ -174,7 +175,7 @@ module _ (s : Listing) (b : ℕ) (bytes : List ℕ) (h : CountsFit s) (room : s 
 
   first-leads : (f : ChunkTurn) (q : Bool) → isAnswer (answerIn (stepOf (s .reader) b .answer)) ≡ q
       → LeadsTo (quiet s b) bytes f
-      → LeadsTo s (b ∷ bytes) (pick q (chunkTurn (stepOf (s .reader) b .answer) (stepOf (s .reader) b .next) 1)
+      → LeadsTo s (b ∷ bytes) (pick q (fedTurn (stepOf (s .reader) b .answer) (stepOf (s .reader) b .next) 1)
       (laterBy 1 f))
   unfolding nextOf textOf
   first-leads f true e l =
@@ -223,7 +224,7 @@ feed-some r (b ∷ bytes) room h =
     (by-answer (isAnswer (answerIn (stepOf r b .answer))) (feedOf (stepOf r b .next) bytes))
   where
     by-answer : (q : Bool) (f : ChunkTurn)
-        → 0 < pick q (chunkTurn (stepOf r b .answer) (stepOf r b .next) 1) (laterBy 1 f) .taken
+        → 0 < pick q (fedTurn (stepOf r b .answer) (stepOf r b .next) 1) (laterBy 1 f) .taken
     by-answer true f = omega arith
     by-answer false f = omega arith
 
@@ -252,7 +253,7 @@ Passes s rest f =
 
 -- a byte that the reader refuses
 full-passes : (s : Listing) (b : ℕ) (bytes : List ℕ) → mostBytes ≤ s .reader .state .count
-    → Passes s (b ∷ bytes) (chunkTurn (located 0 full) (s .reader) 0)
+    → Passes s (b ∷ bytes) (fedTurn (located 0 full) (s .reader) 0)
 unfolding nextOf textOf countBefore
 full-passes s b bytes h =
     let none : 0 ≡ mostBytes - s .reader .state .count = omega arith in

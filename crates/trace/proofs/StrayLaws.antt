@@ -19,19 +19,20 @@ use Rattle.framing.specs.Reference.{Role, starts, stops, plain}
 use Rattle.framing.specs.Located.{unlocated, answerIn, positionIn}
 use Rattle.framing.specs.Bounded.{terminatedIn}
 use Rattle.framing.specs.Counting.{counter, startAfter, locate}
+use Rattle.framing.proofs.Chunk.{plus-plus}
+use Rattle.framing.specs.Chunk.{fedTurn, laterBy, fedBy, chunkLimit, cutChunk}
 use Rattle.frame.proofs.FlagLaws.{isStarts, role-tests}
 use Rattle.frame.specs.Flags.{roleOf, isStart}
 use Rattle.frame.specs.declared.Origin.{Origin}
 use Rattle.candidate.specs.Outcome.{nothing, summaryOf}
 use Rattle.candidate.specs.Rowing.{rowing, rowingBounds}
 use Rattle.candidate.specs.Holder.{Holder, holder, holderOf, modeSeen, roleStep, stepHeld}
-use Rattle.candidate.specs.Feed.{isAnswer, FedTurn, fedTurn, feedHeld}
-use Rattle.candidate.specs.Feed.{laterBy as heldLater}
+use Rattle.candidate.specs.Feed.{isAnswer, FedHeld, feedHeld}
 use Rattle.candidate.specs.declared.Mode.{Mode}
 use Rattle.candidate.specs.declared.Mode.the-variants.{Outside, InStandard, InExtended, Overlong}
 use Rattle.line.specs.Rowing.{mostBytes}
 use Rattle.line.specs.Reader.{reader, lentReader, heldOf, ReaderTurn, turnFrom, stepOf}
-use Rattle.line.specs.Feed.{ChunkTurn, chunkTurn, noTurn, laterBy, feedOf, chunkLimit, cutChunk, chunkOf, ChunkStepIs}
+use Rattle.line.specs.Feed.{ChunkTurn, noTurn, feedOf, chunkOf, ChunkStepIs}
 use Rattle.line.proofs.StepLaws.{step-taken}
 use Rattle.line.proofs.FeedLaws.{fromTurn, fed-none, fed-taken, fed-full, chunk-none, chunk-taken, feed-held}
 use Rattle.candidate.proofs.OutcomeLaws.{fed-extent}
@@ -96,17 +97,17 @@ stop-answers h b ρ k e =
 held-strays : (h : Holder) (bytes : List ℕ)
     → strays (isOpen (h .held .mode)) (take (feedHeld h bytes .taken) bytes)
     ≡ strayCount (isOpen (h .held .mode)) bytes
-unfolding feedHeld
+unfolding fedBy
 held-strays h [] = none-stray (isOpen (h .held .mode))
 held-strays h (b ∷ bytes) =
     by-answer (isAnswer (stepHeld h b .answer)) refl (feedHeld (stepHeld h b .next) bytes)
     (held-strays (stepHeld h b .next) bytes)
   where
-    by-answer : (q : Bool) → isAnswer (stepHeld h b .answer) ≡ q → (f : FedTurn)
+    by-answer : (q : Bool) → isAnswer (stepHeld h b .answer) ≡ q → (f : FedHeld)
         → strays (isOpen (stepHeld h b .next .held .mode)) (take (f .taken) bytes)
         ≡ strayCount (isOpen (stepHeld h b .next .held .mode)) bytes
         → strays (isOpen (h .held .mode))
-        (take (pick q (fedTurn (stepHeld h b .answer) (stepHeld h b .next) 1) (heldLater 1 f) .taken) (b ∷ bytes))
+        (take (pick q (fedTurn (stepHeld h b .answer) (stepHeld h b .next) 1) (laterBy 1 f) .taken) (b ∷ bytes))
         ≡ strayCount (isOpen (h .held .mode)) (b ∷ bytes)
     by-answer true e f k =
         at-answer (roleOf b) (isOpen (h .held .mode)) (b ∷ bytes)
@@ -168,11 +169,6 @@ strays-fit : (o : Bool) (bytes : List ℕ) → strayCount o bytes ≤ length byt
 strays-fit true bytes = omega arith
 strays-fit false bytes = before-fits isStart bytes
 
-later-later : (i j k : ℕ) (f : ChunkTurn) → i + j ≡ k → laterBy i (laterBy j f) ≡ laterBy k f
-later-later i j k f e =
-    let z : i + (j + f .taken) ≡ k + f .taken = omega (arith, e) in
-    ap (λ (n : ℕ). chunkTurn (f .answer) (f .next) n) z
-
 -- a reader after bytes that are counted and not fed
 abbrev countedAfter : LineReader → ℕ → LineReader
 countedAfter r n = lentReader (r .bytes) (countedOn (r .state) n)
@@ -183,7 +179,7 @@ none-passed r rest n e =
     let f = feedOf r rest in
     let x : f .taken ≡ 0 + f .taken = omega arith in
     let z : r .state .count ≡ r .state .count + 0 = omega arith in
-    rw e (ap (λ (k : ℕ). chunkTurn (f .answer) (f .next) k) x
+    rw e (ap (λ (k : ℕ). fedTurn (f .answer) (f .next) k) x
     ∙ ap (λ (k : ℕ). laterBy 0 (feedOf (reader (r .bytes) (r .state .held) (r .state .start) k) rest)) z)
 
 module _ (o : Origin) (bytes : List ℕ) (start : ℕ) where
@@ -226,7 +222,7 @@ module _ (o : Origin) (bytes : List ℕ) (start : ℕ) where
       fed-taken (outside count) b s (omega arith)
       ∙ ap (λ (t : ReaderTurn). fromTurn t s) (stray-counted count b (omega arith) y)
       ∙ ap (laterBy 1) (strays-passed (count + 1) s (omega arith))
-      ∙ later-later 1 n (1 + n) (feedOf (outside (count + 1 + n)) (drop n s)) refl
+      ∙ plus-plus 1 n (1 + n) (feedOf (outside (count + 1 + n)) (drop n s)) refl
       ∙ ap₂ (λ (k i : ℕ). laterBy (1 + n) (feedOf (outside k) (drop i (b ∷ s)))) c (sym m) in
       simp y q)
 
@@ -240,7 +236,7 @@ clipped r (b ∷ s) = by-bool (ltb (r .state .count) mostBytes)
     let c : next .state .count ≡ r .state .count + 1 = count-is r b h in
     let m : suc (mostBytes - next .state .count) ≡ mostBytes - r .state .count = omega (arith, c) in
     fed-taken r b s h
-    ∙ ap (λ (f : ChunkTurn). pick (isAnswer (answerIn (stepOf r b .answer))) (chunkTurn (stepOf r b .answer) next 1)
+    ∙ ap (λ (f : ChunkTurn). pick (isAnswer (answerIn (stepOf r b .answer))) (fedTurn (stepOf r b .answer) next 1)
     (laterBy 1 f)) (clipped next s)
     ∙ sym (fed-taken r b (take (mostBytes - next .state .count) s) h)
     ∙ ap (λ (k : ℕ). feedOf r (take k (b ∷ s))) m)

@@ -7,10 +7,10 @@ use Prim.Native.Nat.{ℕ, _+_, _-_, _<_, _≤_}
 use lib.ListN.{length, take, drop}
 use lib.Dec.{eqb}
 use Rattle.lists.specs.Choice.{pick, countBefore}
+use Rattle.framing.specs.Chunk.{cutChunk}
 use Rattle.text.specs.Writing.{Wrote, lineRoom}
 use Rattle.line.specs.Rowing.{mostBytes}
 use Rattle.line.specs.Reader.{lentReader}
-use Rattle.line.specs.Feed.{cutChunk}
 use Rattle.line.specs.declared.State.{State}
 use Rattle.trace.specs.Machine.{listingAfter, texts, takenOf}
 use Rattle.trace.specs.declared.Listing.{Listing}

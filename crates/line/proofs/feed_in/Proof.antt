@@ -4,11 +4,11 @@ use Prim.Native.Nat.{_-_, _≤_}
 use lib.ListN.{length, take}
 use lib.Seq.{length-take-le}
 use Rattle.line.specs.Rowing.{mostBytes}
-use Rattle.line.specs.Feed.{cutChunk}
 use Rattle.line.proofs.FeedLaws.{part-cut, part-fits, chunk-advances}
 use borrow.Author.Needs.{needs}
 use Rattle.line.proofs.feed_in.Statement.{statement}
 use Rattle.line.proofs.feed_in.Tie as tie
+use Rattle.framing.specs.Chunk.{cutChunk}
 
 sub-room : tie.Need-sub-room
 sub-room c = search needs

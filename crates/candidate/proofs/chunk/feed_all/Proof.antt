@@ -3,12 +3,14 @@ use native.Mathlib.Omega.{arith}
 use lib.ListN.{length, take, drop, getD}
 use Prim.Native.Nat.{ℕ, _+_, _≤_, _-_}
 use Rattle.framing.specs.Counting.{startAfter}
+use Rattle.framing.specs.Chunk.{laterBy}
+use Rattle.framing.proofs.Chunk.{plus-zero}
 use Rattle.frame.specs.Flags.{roleOf}
 use borrow.Author.Needs.{needs}
 use Rattle.candidate.specs.declared.Held.{Held}
 use Rattle.candidate.specs.Holder.{holder}
-use Rattle.candidate.specs.Feed.{laterBy, feedHeld, lastStart}
-use Rattle.candidate.proofs.FeedLaws.{plus-zero, start-more, goes-on, answers, ends}
+use Rattle.candidate.specs.Feed.{feedHeld, lastStart}
+use Rattle.candidate.proofs.FeedLaws.{start-more, goes-on, answers, ends}
 use Rattle.candidate.proofs.WholeLaws.{whole-inside, whole-answers, unmoved}
 use Rattle.candidate.proofs.chunk.feed_all.Statement.{statement}
 use Rattle.candidate.proofs.chunk.feed_all.Tie as tie

@@ -2,8 +2,10 @@ use mathlib.Core.Path.{sym, _∙_}
 use native.Mathlib.Omega.{arith}
 use lib.ListN.{take, drop}
 use Prim.Native.Nat.{_-_}
+use Rattle.framing.proofs.Chunk.{run-inside}
+use Rattle.frame.specs.Flags.{isFlag}
 use Rattle.candidate.specs.Holder.{holder}
-use Rattle.candidate.proofs.RunLaws.{stays, run-inside, run-reaches, unheld-run}
+use Rattle.candidate.proofs.RunLaws.{stays, run-reaches, unheld-run}
 use borrow.Author.Needs.{needs}
 use Rattle.candidate.proofs.runs.consume.Statement.{statement}
 use Rattle.candidate.proofs.runs.consume.Tie as tie
@@ -27,7 +29,7 @@ part-hold-end : tie.Need-part-hold-end
 part-hold-end c =
     let e = c .before .before .before .before in
     let p = e .before .before in
-    run-inside (p .args .input .now) (p .args .from) _ (omega (arith, p .pre)) (e .run-end .ensures)
+    run-inside isFlag (p .args .input .now) (p .args .from) _ (omega (arith, p .pre)) (e .run-end .ensures)
 
 hold-requires : tie.Need-hold-requires
 hold-requires c κs = search needs

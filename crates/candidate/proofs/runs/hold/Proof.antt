@@ -5,7 +5,8 @@ use lib.ListN.{length}
 use lib.Seq.{length-take-le}
 use Rattle.candidate.specs.Outcome.{capacity}
 use Rattle.candidate.specs.Holder.{holderOf}
-use Rattle.candidate.proofs.RunLaws.{kept-all, kept-first, full-run}
+use Rattle.framing.proofs.Growth.{kept-all, kept-first, full-run}
+use Rattle.candidate.proofs.RunLaws.{candidate-grows}
 use borrow.Author.Needs.{needs}
 use Rattle.candidate.proofs.runs.hold.Statement.{statement}
 use Rattle.candidate.proofs.runs.hold.Tie as tie
@@ -26,7 +27,7 @@ returns c =
     let p = i .before .before .before in
     let a : length (p .args .bytes .now) ≡ capacity = search needs in
     ap (λ (n : ℕ). holderOf (p .args .origin) (k .copy-short .last .1 .0) n (p .args .mode)) (c .held-with .ensures)
-    ∙ kept-all (p .args .origin) (p .args .mode) (p .pre .0) (p .args .run .now) (p .args .bytes .now) _ (p .args .len) a
+    ∙ kept-all (candidate-grows (p .args .origin) (p .args .mode) (p .pre .0)) (p .args .run .now) (p .args .bytes .now) _ (p .args .len) a
     (i .before .if1 .taken) (i .if2 .taken) (k .copy-short .ensures)
 
 slice-aggregate-copy-short : tie.Need-slice-aggregate-copy-short
@@ -40,13 +41,13 @@ returns-2 c =
     let i = c .before .before .before in
     let p = i .before .before .before in
     let a : length (p .args .bytes .now) ≡ capacity = search needs in
-    kept-first (p .args .origin) (p .args .mode) (p .pre .0) (p .args .run .now) (p .args .bytes .now) _ (p .args .len) a
+    kept-first (candidate-grows (p .args .origin) (p .args .mode) (p .pre .0)) (p .args .run .now) (p .args .bytes .now) _ (p .args .len) a
     (i .before .if1 .taken) (i .if2 .left) (c .copy-short2 .ensures)
 
 returns-3 : tie.Need-returns-3
 returns-3 c =
     let p = c .before .before in
-    full-run (p .args .origin) (p .args .mode) (p .pre .0) (p .args .run .now) (p .args .bytes .now) (p .args .len) (c .if1 .left)
+    full-run (candidate-grows (p .args .origin) (p .args .mode) (p .pre .0)) (p .args .run .now) (p .args .bytes .now) (p .args .len) (c .if1 .left)
     (p .pre .1)
 
 pub hold-spec : {M : Type 1} → statement M

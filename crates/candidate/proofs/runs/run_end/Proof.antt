@@ -1,5 +1,6 @@
 use native.Mathlib.Omega.{arith}
-use Rattle.candidate.proofs.RunLaws.{search-ends, run-inside}
+use Rattle.framing.proofs.Chunk.{search-ends, run-inside}
+use Rattle.frame.specs.Flags.{isFlag}
 use borrow.Author.Needs.{needs}
 use Rattle.candidate.proofs.runs.run_end.Statement.{statement}
 use Rattle.candidate.proofs.runs.run_end.Tie as tie
@@ -20,11 +21,11 @@ add-result : tie.Need-add-result
 add-result c =
     let p = c .before .before .before in
     let s = p .args .input .now in
-    let e = search-ends s (p .args .from) _ (c .count-before .ensures) in
-    record { fits = omega (arith, run-inside s (p .args .from) _ (omega (arith, p .pre)) e) }
+    let e = search-ends isFlag s (p .args .from) _ (c .count-before .ensures) in
+    record { fits = omega (arith, run-inside isFlag s (p .args .from) _ (omega (arith, p .pre)) e) }
 
 returns : tie.Need-returns
-returns c = search-ends _ _ _ (c .count-before .ensures)
+returns c = search-ends isFlag _ _ _ (c .count-before .ensures)
 
 pub run-end-spec : {M : Type 1} → statement M
 run-end-spec =
