@@ -1,4 +1,4 @@
--- Laws of bytes fed up to the first that is answered: one byte more, and no byte left.
+-- A turn of the loop over a chunk's bytes, its end, and where the start flags stand.
 use mathlib.Core.Path.{_≡_, sym, ap, ap₂, _∙_}
 use mathlib.Core.Bool.{Bool, true, false}
 use mathlib.Core.List.{List, [], _∷_, _++_}
@@ -12,7 +12,7 @@ use Rattle.framing.specs.Reference.{starts}
 use Rattle.framing.specs.Counting.{startAfter}
 use Rattle.framing.proofs.Counting.{start-append, start-none, start-last}
 use Rattle.framing.specs.Chunk.{fedTurn, laterBy}
-use Rattle.framing.proofs.Chunk.{not-answered, answered, none-left}
+use Rattle.framing.proofs.Chunk.{not-answered, answered, no-byte-left}
 use Rattle.frame.specs.Flags.{roleOf}
 use Rattle.candidate.specs.Outcome.{nothing, toldMeans, summaryOf}
 use Rattle.candidate.specs.Holder.{Holder, holder, stepHeld, turnHeld, HeldStepIs}
@@ -93,7 +93,7 @@ pub ends : (f : FedHeld) (bytes : List ℕ) (held : Held) (s : List ℕ) (i : �
     → HeldChunkIs bytes r f × Opens s r f
 ends f bytes held s i h so-far opened oe r is =
     let q : f ≡ fedTurn nothing (holder bytes held) i =
-    so-far ∙ none-left nothing isAnswer turnHeld (holder bytes held) s i h in (
+    so-far ∙ no-byte-left nothing isAnswer turnHeld (holder bytes held) s i h in (
       record {
         told-is = ap (λ (g : HeldChunk). toldMeans (g .told)) is ∙ ap (λ (g : FedHeld). summaryOf (g .answer)) (sym q);
         next-is = ap (λ (g : HeldChunk). holder bytes (g .held)) is ∙ ap (λ (g : FedHeld). g .next) (sym q);

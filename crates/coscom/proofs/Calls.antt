@@ -52,8 +52,7 @@ call-reads (read-slice r κs wire out out′ e) = e
 -- What a call wrote stands first in its output: the packet's bytes, at most 256, and each is allowed at its place.
 pub call-wire : {p : Packet} {out last : List ℕ} {n : ℕ} → CalledWrite p out (result n) last
     → (take n last ≡ wireOf p) × (length (wireOf p) ≤ 256) × Proper p
-call-wire {p} {out} {last} {n} k =
-    trip.written-wire p out (result n) last n (table.written-by-table p out (result n) last .0 (call-writes k)) refl
+call-wire {p} {out} {last} {n} k = trip.written-wire p out last n (call-writes k)
 
 -- ---- demand 1: the tables
 

@@ -132,14 +132,18 @@ module _ (w out : List ℕ) (a : Answer PacketOutline) (last : List ℕ) (r : Re
         (v .0, told-exactly (v .0) (omega (arith, unit-short w (v .0) k, room)) .1 k)),
   )
 
--- The bytes of a packet that was written stand first in the output.
-pub written-wire : (p : Packet) (out : List ℕ) (a : Answer ℕ) (last : List ℕ) (n : ℕ) → WriteJudged p out a last
-    → a ≡ result n → (take n last ≡ wireOf p) × (length (wireOf p) ≤ 256) × Proper p
-written-wire p out a last n (overLimit l) e = let z : _≡_ {A = ℕ} 0 1 = cc in absurd (omega arith)
-written-wire p out a last n (notProper l k) e = let z : _≡_ {A = ℕ} 0 1 = cc in absurd (omega arith)
-written-wire p out a last n (noRoomToWrite l k h) e = let z : _≡_ {A = ℕ} 0 1 = cc in absurd (omega arith)
-written-wire p out a last n (written l k h) e =
-    let q : length (wireOf p) ≡ n = cc in (take-at (wireOf p) (drop (length (wireOf p)) out) n q, l, k)
+-- The bytes of a packet that was written stand first in the output: at most 256, and each is allowed at its place.
+pub written-wire : (p : Packet) (out last : List ℕ) (n : ℕ) → Writes (packetDraft p) out (result n) last
+    → (take n last ≡ wireOf p) × (length (wireOf p) ≤ 256) × Proper p
+written-wire p out last n r = by-table (result n) last (written-by-table p out (result n) last .0 r) refl
+  where
+    by-table : (a : Answer ℕ) (last : List ℕ) → WriteJudged p out a last → a ≡ result n
+        → (take n last ≡ wireOf p) × (length (wireOf p) ≤ 256) × Proper p
+    by-table a last (overLimit l) e = let z : _≡_ {A = ℕ} 0 1 = cc in absurd (omega arith)
+    by-table a last (notProper l k) e = let z : _≡_ {A = ℕ} 0 1 = cc in absurd (omega arith)
+    by-table a last (noRoomToWrite l k h) e = let z : _≡_ {A = ℕ} 0 1 = cc in absurd (omega arith)
+    by-table a last (written l k h) e =
+        let q : length (wireOf p) ≡ n = cc in (take-at (wireOf p) (drop (length (wireOf p)) out) n q, l, k)
 
 -- A packet that was written is read back: a call that reads the bytes that were written, with room for the data unit,
 -- answers its header and the number of its bytes, and puts the data unit first in its output.
@@ -148,7 +152,7 @@ pub written-reads-back : (p : Packet) (out last : List ℕ) (n : ℕ) (into : Li
     → length (p .unit) ≤ length into
     → (a ≡ result (outlineOf p)) × (left ≡ p .unit ++ drop (length (p .unit)) into)
 written-reads-back p out last n into a left r q room =
-    let w = written-wire p out (result n) last n (written-by-table p out (result n) last .0 r) refl in
+    let w = written-wire p out last n r in
     let v : verdict (take n last) ≡ result p = ap verdict (w .0) ∙ reads-back p (w .2) (w .1) in
     reads-exactly (take n last) into a (result (outlineOf p)) left _ q .1
     (fits (accepted-exactly (take n last) p .0 v) room)

@@ -32,9 +32,9 @@ const BODY_LIMIT: usize = 254;
 pub(crate) const HEADER_LEN: usize = 3;
 
 // The start flag and the header, which stand before the data unit on the wire.
-const HEAD_LEN: usize = 4;
+const BEFORE_UNIT: usize = 4;
 
-// The fewest bytes between the flags: the header's and the checksum's two.
+// The fewest bytes between the flags: the header's three and the checksum's two.
 const FEWEST: usize = 5;
 
 // The answer to reading: the header and the number of bytes of the data unit, or why it was refused.
@@ -67,8 +67,8 @@ pub fn write_packet(letter: u8, tens: u8, ones: u8, unit: &[u8], out: &mut [u8])
     }
     let sum = check::checksum_of(letter, tens, ones, unit);
     put_head(letter, tens, ones, out);
-    lists::copy(unit, out, HEAD_LEN);
-    put_tail(sum, out, unit.len() + HEAD_LEN);
+    lists::copy(unit, out, BEFORE_UNIT);
+    put_tail(sum, out, unit.len() + BEFORE_UNIT);
     Written::Length(n)
 }
 
@@ -143,8 +143,8 @@ fn judge_first(s: &mut [u8], len: usize) -> Read
     }
 }
 
-// The verdict on what stands between the two flags. Refusals 6, 2, 4, 22 and 5. No byte of a packet is a flag, so only
-// what is no packet is looked through for one.
+// The verdict on what stands between the two flags. Refusals 6, 2, 4, 22 and 5. No byte between a packet's flags is a
+// flag, so only what is no packet is looked through for one.
 fn examine(body: &[u8]) -> Read
     ensures { λ r. ⌜ readMeans r ≡ judgeAnswer (verdict (candidateOf (now (body .entry)))) ⌝ }
 {

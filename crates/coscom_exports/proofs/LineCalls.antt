@@ -13,16 +13,16 @@ use Rattle.lists.specs.Machine.{RanBy, Through, AnsweredBy}
 use Rattle.lists.proofs.Machines.{ran-by-run, through-known}
 use Rattle.framing.specs.Reference.{Call, byte, finish, Reference}
 use Rattle.framing.specs.Demand3.{feed, Demand3}
+use Rattle.framing.specs.Chunk.{cutChunk}
+use Rattle.framing.proofs.Chunk.{singly-agree}
 use Rattle.framing.proofs.Restart.{demand3-of}
 use Rattle.answer.specs.Answer.{result}
 use Rattle.coscom.specs.Flags.{stopFlag}
 use Rattle.coscom.specs.Packet.{Packet}
-use Rattle.coscom.proofs.Table.{written-by-table}
 use Rattle.coscom.proofs.RoundTrip.{written-wire}
 use Rattle.coscom_line.specs.Outcome.{Outcome, outcomeOf, capacity, Not1}
-use Rattle.coscom_line.specs.Reader.{coscom, outcomeAt, nextAfter, AsNew}
-use Rattle.framing.specs.Chunk.{cutChunk}
-use Rattle.coscom_line.specs.Chunk.{TakenToAnswer, byByte, TakesFirst, AsSingly, toldAlone}
+use Rattle.coscom_line.specs.Reader.{coscom, turnOf, outcomeAt, nextAfter, AsNew}
+use Rattle.coscom_line.specs.Chunk.{TakenToAnswer, toldBytes, TakesFirst, AsSingly, toldAlone}
 use Rattle.coscom_line.proofs.ValueLaws.{call-whole, fed-whole}
 use Rattle.coscom_line.proofs.ChunkLaws.{takes-to-answer, takes-first}
 use Rattle.coscom_line.proofs.Follows.{as-new-follows}
@@ -58,7 +58,7 @@ pub data ExportedEnd : LentLine → Outcome → LentLine → Type 0 where
 -- the array and the state that it left.
 pub data ExportedLine : LentLine → List Call → ℕ → List Outcome → LentLine → Type 0 where
   feeds : {l l′ : LentLine} {given : List ℕ} {taken : ℕ} {o : Outcome} → ExportedFed l given taken o l′
-      → ExportedLine l (feed given) taken (byByte taken o) l′
+      → ExportedLine l (feed given) taken (toldBytes taken o) l′
   ends : {l l′ : LentLine} {o : Outcome} → ExportedEnd l o l′ → ExportedLine l (finish ∷ []) 1 (o ∷ []) l′
 
 -- what the contract of a call that feeds tells
@@ -102,7 +102,7 @@ pub exported-singly : {l last : LentLine} {calls : List Call} {outcomes : List O
     → RanBy ExportedLine l calls outcomes last → AsSingly (readerOf l) calls outcomes (readerOf last)
 exported-singly t =
     let k = ran-by-run ExportedLine outcomeAt nextAfter readerOf exported-takes t in
-    record { outcomes-are = k .0; reader-is = k .1 }
+    record { answers-are = k .0; state-is = k .1 }
 
 each-takes : (l l′ : LentLine) (given later : List Call) (taken : ℕ) (outcomes : List Outcome)
     → ExportedLine l given taken outcomes l′ → Unit {0}
@@ -115,21 +115,21 @@ pub exported-stream : {l last : LentLine} {stream : List Call} {outcomes : List 
 exported-stream t =
     exported-singly (through-known ExportedLine ExportedLine (λ l calls. Unit {0}) each-takes t tt)
 
--- So two ways of cutting one stream give the same outcomes, and leave the same reader.
+-- Two ways of cutting one stream give the same outcomes, and leave the same reader. The numbers may differ where the
+-- first one has the mode 3, which no call leaves and a row of no calls keeps.
 pub exported-stream-alike : {l last last′ : LentLine} {stream : List Call} {outcomes outcomes′ : List Outcome}
     → Through ExportedLine l stream outcomes last → Through ExportedLine l stream outcomes′ last′
     → (outcomes ≡ outcomes′) × (readerOf last ≡ readerOf last′)
-exported-stream-alike t u =
-    let a = exported-stream t in
-    let b = exported-stream u in
-    (a .outcomes-are ∙ sym (b .outcomes-are), a .reader-is ∙ sym (b .reader-is))
+exported-stream-alike {l} {last} {last′} {stream} {outcomes} {outcomes′} t u =
+    singly-agree turnOf (readerOf l) stream outcomes outcomes′ (readerOf last) (readerOf last′) (exported-stream t)
+    (exported-stream u)
 
 -- Demand 3, whole, from any array of 254 bytes and a number that is outside of a candidate.
 pub exported-demand-3 : Demand3 coscom (AnsweredBy ExportedLine (λ l. AsNew (readerOf l)))
 exported-demand-3 =
     demand3-of coscom (AnsweredBy ExportedLine (λ l. AsNew (readerOf l)))
     (λ calls outcomes k.
-    exported-singly (k .ran) .outcomes-are ∙ as-new-follows (readerOf (k .start)) (k .made) .same calls)
+    exported-singly (k .ran) .answers-are ∙ as-new-follows (readerOf (k .start)) (k .made) .same calls)
 
 -- 254 zeros and the number 0 are such a reader.
 pub new-line : AsNew (readerOf newLine)
@@ -143,7 +143,7 @@ pub exported-written-told : {p : Packet} {out last : List ℕ} {n : ℕ} {outcom
     → ExportedWrite p out (result n) last
     → AnsweredBy ExportedLine (λ l. AsNew (readerOf l)) (feed (take n last)) outcomes → outcomes ≡ toldAlone p
 exported-written-told {p} {out} {last} {n} {outcomes} k t =
-    let w = written-wire p out (result n) last n (written-by-table p out (result n) last .0 (exported-writes k)) refl in
+    let w = written-wire p out last n (exported-writes k) in
     exported-demand-3 .same (feed (take n last)) outcomes t
     ∙ ap (λ (s : List ℕ). Reference coscom (feed s)) (w .0) ∙ reference-told-packet p (w .2) (w .1)
 
@@ -151,7 +151,7 @@ exported-written-told {p} {out} {last} {n} {outcomes} k t =
 pub exported-never-1 : {l last : LentLine} {calls : List Call} {outcomes : List Outcome}
     → RanBy ExportedLine l calls outcomes last → Every Not1 outcomes
 exported-never-1 {l} {last} {calls} k =
-    subst (Every Not1) (sym (exported-singly k .outcomes-are)) (run-never-1 (readerOf l) calls)
+    subst (Every Not1) (sym (exported-singly k .answers-are)) (run-never-1 (readerOf l) calls)
 
 -- The array and the number that any calls leave, the last a finish or the stop flag, are as new.
 module _ (l last : LentLine) (calls : List Call) (outcomes : List Outcome) (h : length (l .bytes) ≡ capacity) where

@@ -1,6 +1,6 @@
 -- Demand 3 of the functions themselves: any calls, known by nothing but what the contracts tell a caller, are answered
 -- as the reference decoder answers.
-use mathlib.Core.Path.{_≡_, ap, _∙_}
+use mathlib.Core.Path.{_≡_, sym, ap, _∙_, subst}
 use mathlib.Core.List.{List, map}
 use Prim.Native.Nat.{ℕ}
 use contract.Lifetimes.{Lfts}
@@ -32,6 +32,9 @@ use Rattle.coscom_line.proofs.finish_in.Reads as finish-in-reads
 -- A reader that `new` returned.
 abbrev pub New : LineReader → Type 0
 New r = new-reads.Learnt tt tt r tt
+
+pub made-as-new : {r : LineReader} → New r → AsNew r
+made-as-new k = subst AsNew (sym k) new-as-new
 
 -- A call on a reader, its whole answer and the reader that it left, known by what the function's contract tells a
 -- caller.

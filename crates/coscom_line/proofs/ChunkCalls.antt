@@ -13,9 +13,10 @@ use Rattle.framing.specs.Reference.{Call}
 use Rattle.framing.specs.Demand3.{feed, Demand3}
 use Rattle.framing.proofs.Restart.{demand3-of}
 use Rattle.coscom_line.specs.Outcome.{Outcome, toldMeans, summaryOf, outcomeOf, ValueAnswer, valueOutcome}
-use Rattle.coscom_line.specs.Reader.{coscom, lentReader, outcomeAt, nextAfter, AsNew}
+use Rattle.coscom_line.specs.Reader.{coscom, lentReader, turnOf, outcomeAt, nextAfter, AsNew}
 use Rattle.framing.specs.Chunk.{cutChunk}
-use Rattle.coscom_line.specs.Chunk.{chunkOf, ChunkIs, TakenToAnswer, byByte}
+use Rattle.framing.proofs.Chunk.{singly-agree}
+use Rattle.coscom_line.specs.Chunk.{chunkOf, ChunkIs, TakenToAnswer, toldBytes}
 use Rattle.coscom_line.specs.Chunk.{TakesFirst, AsSingly}
 use Rattle.coscom_line.specs.declared.Told.{Told}
 use Rattle.coscom_line.specs.declared.State.{State}
@@ -63,9 +64,9 @@ chunk-to-answer {r} {u} {given} {taken} {o} k =
     let e = fed-is r u given taken o k in takes-to-answer r given taken o (e .0) (e .1)
 
 -- The bytes that it took are answered, and leave the reader, as they do singly: nothing but the last of them is
--- answered, and that one with the call's outcome.
+-- answered, and that one with the call's outcome. Where it took none it told nothing.
 pub chunk-takes : {r u : LineReader} {given : List ℕ} {taken : ℕ} {o : Outcome} → FedOn r given taken o u
-    → TakesFirst r (feed given) taken (byByte taken o) u
+    → TakesFirst r (feed given) taken (toldBytes taken o) u
 chunk-takes {r} {u} {given} {taken} {o} k =
     let e = fed-is r u given taken o k in takes-first r given taken o (e .0) (e .1) u (e .2)
 
@@ -76,7 +77,7 @@ pub data CalledOn : LineReader → List Call → ℕ → List Outcome → LineRe
       → CalledOn r (c ∷ []) 1 (valueOutcome a ∷ []) u
   single-in : {r u : LineReader} {c : Call} {o : Outcome} → CalledLent r c o u → CalledOn r (c ∷ []) 1 (o ∷ []) u
   chunk : {r u : LineReader} {given : List ℕ} {taken : ℕ} {o : Outcome} → FedOn r given taken o u
-      → CalledOn r (feed given) taken (byByte taken o) u
+      → CalledOn r (feed given) taken (toldBytes taken o) u
 
 call-takes : (r u : LineReader) (given : List Call) (taken : ℕ) (outcomes : List Outcome)
     → CalledOn r given taken outcomes u → TakesFirst r given taken outcomes u
@@ -99,7 +100,7 @@ pub chunks-singly : {r last : LineReader} {calls : List Call} {outcomes : List O
     → RanBy CalledOn r calls outcomes last → AsSingly r calls outcomes last
 chunks-singly t =
     let k = ran-by-run CalledOn outcomeAt nextAfter (λ r. r) call-takes t in
-    record { outcomes-are = k .0; reader-is = k .1 }
+    record { answers-are = k .0; state-is = k .1 }
 
 -- The same of two rows of calls on one reader, of which one makes each call singly.
 pub chunks-alike : {r last last′ : LineReader} {calls : List Call} {outcomes outcomes′ : List Outcome}
@@ -108,13 +109,13 @@ pub chunks-alike : {r last last′ : LineReader} {calls : List Call} {outcomes o
 chunks-alike t u =
     let k = chunks-singly t in
     let s = ran-run CalledLent outcomeAt nextAfter (λ r. r) lent-turns u in
-    (k .outcomes-are ∙ sym (s .0), k .reader-is ∙ sym (s .1))
+    (k .answers-are ∙ sym (s .0), k .state-is ∙ sym (s .1))
 
 -- Demand 3 of all of these calls, whole.
 pub chunks-demand-3 : Demand3 coscom (AnsweredBy CalledOn AsNew)
 chunks-demand-3 =
     demand3-of coscom (AnsweredBy CalledOn AsNew)
-    (λ calls outcomes k. chunks-singly (k .ran) .outcomes-are ∙ as-new-follows (k .start) (k .made) .same calls)
+    (λ calls outcomes k. chunks-singly (k .ran) .answers-are ∙ as-new-follows (k .start) (k .made) .same calls)
 
 -- ---- a stream
 
@@ -135,7 +136,5 @@ stream-singly t = chunks-singly (through-known CalledOn CalledOn (λ r calls. Un
 pub stream-alike : {r last last′ : LineReader} {stream : List Call} {outcomes outcomes′ : List Outcome}
     → Through CalledOn r stream outcomes last → Through CalledOn r stream outcomes′ last′
     → (outcomes ≡ outcomes′) × (last ≡ last′)
-stream-alike t u =
-    let k = stream-singly t in
-    let l = stream-singly u in
-    (k .outcomes-are ∙ sym (l .outcomes-are), k .reader-is ∙ sym (l .reader-is))
+stream-alike {r} {last} {last′} {stream} {outcomes} {outcomes′} t u =
+    singly-agree turnOf r stream outcomes outcomes′ last last′ (stream-singly t) (stream-singly u)

@@ -61,7 +61,7 @@ run-never-1 r calls = run-every outcomeAt nextAfter (λ u. Unit {0}) Not1 (λ u 
 -- No call of a row, in whichever form and on whichever reader, is answered 1.
 pub calls-never-1 : {r last : LineReader} {calls : List Call} {outcomes : List Outcome}
     → RanBy CalledOn r calls outcomes last → Every Not1 outcomes
-calls-never-1 {r} {last} {calls} k = subst (Every Not1) (sym (chunks-singly k .outcomes-are)) (run-never-1 r calls)
+calls-never-1 {r} {last} {calls} k = subst (Every Not1) (sym (chunks-singly k .answers-are)) (run-never-1 r calls)
 
 -- ---- as new
 
@@ -77,7 +77,7 @@ module _ (r last : LineReader) (calls : List Call) (outcomes : List Outcome) (h 
       → AsSingly r (calls ++ c ∷ []) outcomes last → AsNew last
   closed-by c e k =
       let u = leftAfter nextAfter r calls in
-      subst AsNew (sym (k .reader-is ∙ left-append nextAfter r calls (c ∷ [])))
+      subst AsNew (sym (k .state-is ∙ left-append nextAfter r calls (c ∷ [])))
       (record { array = call-kept u c (left-keeps nextAfter HasArray call-kept r calls h); outside-is = e })
 
   -- The reader that calls leave which are answered as singly, the last a finish or the stop flag, is as new, whatever

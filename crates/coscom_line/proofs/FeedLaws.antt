@@ -1,11 +1,11 @@
--- Laws of bytes fed up to the first that is answered: one byte more, and no byte left.
+-- A turn of the loop over a chunk's bytes, and its end.
 use mathlib.Core.Path.{_≡_, sym, ap, _∙_}
 use mathlib.Core.Bool.{true, false}
 use mathlib.Core.List.{List}
 use lib.ListN.{length, drop, getD}
 use Prim.Native.Nat.{ℕ, _+_, _≤_, _<_}
 use Rattle.framing.specs.Chunk.{fedTurn, laterBy}
-use Rattle.framing.proofs.Chunk.{not-answered, answered, none-left}
+use Rattle.framing.proofs.Chunk.{not-answered, answered, no-byte-left}
 use Rattle.coscom_line.specs.Outcome.{nothing, toldMeans, summaryOf, says, isAnswer}
 use Rattle.coscom_line.specs.Reader.{lentReader, turnOf, stepOf, LentStepIs}
 use Rattle.coscom_line.specs.Chunk.{ChunkTurn, feedOf, ChunkStepIs}
@@ -45,7 +45,7 @@ pub ends : (f : ChunkTurn) (bytes : List ℕ) (state : State) (s : List ℕ) (i 
     → r ≡ record { told = Nothing; state = state; taken = i } → ChunkStepIs bytes r f
 ends f bytes state s i h so-far r is =
     let q : f ≡ fedTurn nothing (lentReader bytes state) i =
-    so-far ∙ none-left nothing isAnswer turnOf (lentReader bytes state) s i h in
+    so-far ∙ no-byte-left nothing isAnswer turnOf (lentReader bytes state) s i h in
     record {
       told-is = ap (λ (g : ChunkStep). toldMeans (g .told)) is ∙ ap (λ (g : ChunkTurn). summaryOf (g .answer)) (sym q);
       next-is = ap (λ (g : ChunkStep). lentReader bytes (g .state)) is ∙ ap (λ (g : ChunkTurn). g .next) (sym q);

@@ -1,5 +1,5 @@
--- What every outcome of a line reader has, and what it leaves as its length: proved once for the bytes of a chunk and the
--- end of input.
+-- What every outcome of a line reader has, by the byte, at the end of input and by the chunk, and the length that a chunk
+-- leaves.
 use mathlib.Core.List.{List}
 use Prim.Native.Nat.{ℕ, _<_}
 use Rattle.answer.specs.Answer.{refused}
@@ -24,7 +24,7 @@ module _ (P : Outcome → Type 0) (none : P nothing) (cut : P (judged (refused 6
   pub chunk-outcome : (r : LineReader) (s : List ℕ) → P (chunkOf r s .answer)
   chunk-outcome r s = fed-answer nothing isAnswer turnOf P none (λ u b. every-outcome u (byte b)) r (cutChunk s)
 
--- A chunk leaves a length below every bound that is over 254 and was kept before it.
+-- A length below a limit above 254 stays below it.
 pub chunk-len : (limit : ℕ) → capacity < limit → (r : LineReader) (s : List ℕ) → r .state .len < limit
     → chunkOf r s .next .state .len < limit
 chunk-len limit room r s h =

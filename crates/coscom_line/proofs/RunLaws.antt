@@ -1,4 +1,4 @@
--- Laws of a run of bytes that are no flags: where it ends, and the reader after it.
+-- Laws of a run of bytes that are no flags: none of them is answered, and the reader after it.
 use mathlib.Core.Path.{_≡_, refl, sym, ap, _∙_}
 use mathlib.Core.Bool.{false}
 use mathlib.Core.List.{List}

@@ -1,5 +1,5 @@
--- The bytes of a packet that may be written, and what a call wrote, are told by a reader that is as new as that packet
--- and nothing else.
+-- A reader that is as new tells the bytes of a packet that may be written, and what a call wrote, as that packet and
+-- nothing else.
 use mathlib.Core.Path.{_≡_, refl, sym, ap, _∙_, subst}
 use mathlib.Core.List.{List}
 use Prim.Native.Nat.{ℕ, _≤_}
@@ -35,7 +35,7 @@ module _ (p : Packet) (proper : Proper p) (short : length (wireOf p) ≤ 256) wh
       → outcomes ≡ toldAlone p
   written-told {outcomes} k = chunks-demand-3 .same (feed (wireOf p)) outcomes k ∙ reference-told-packet
 
--- What a call wrote, given to a reader that is as new in whichever calls, is told as that packet and nothing else.
+-- What a call wrote, given in whichever calls to a reader that is as new, is told as that packet and nothing else.
 pub call-written-told : {p : Packet} {out last : List ℕ} {n : ℕ} {outcomes : List Outcome}
     → CalledWrite p out (result n) last → AnsweredBy CalledOn AsNew (feed (take n last)) outcomes
     → outcomes ≡ toldAlone p

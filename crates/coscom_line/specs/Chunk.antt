@@ -1,14 +1,14 @@
 -- The call that takes a chunk, and the same bytes fed singly: document 02, No. 4.
 use mathlib.Core.Path.{_≡_}
-use mathlib.Core.List.{List}
-use Prim.Native.Nat.{ℕ, _≤_}
+use mathlib.Core.List.{List, [], _∷_}
+use Prim.Native.Nat.{ℕ, zero, suc, _≤_}
 use lib.ListN.{length}
 use Rattle.answer.specs.Answer.{result}
 use Rattle.framing.specs.Reference.{Call}
 use Rattle.framing.specs.Chunk.{FedTurn, fedBy, cutChunk, lastAnswered, FirstSingly, Singly}
 use Rattle.coscom.specs.Packet.{Packet, wireOf}
 use Rattle.coscom_line.specs.Outcome.{Outcome, nothing, judged, toldMeans, summaryOf, isAnswer}
-use Rattle.coscom_line.specs.Reader.{lentReader, turnOf, outcomeAt, nextAfter}
+use Rattle.coscom_line.specs.Reader.{lentReader, turnOf}
 use Rattle.coscom_line.specs.declared.Told.{Told}
 use Rattle.coscom_line.specs.declared.LineReader.{LineReader}
 use Rattle.coscom_line.specs.declared.ChunkStep.{ChunkStep}
@@ -22,7 +22,7 @@ ChunkTurn = FedTurn LineReader Outcome
 abbrev pub feedOf : LineReader → List ℕ → ChunkTurn
 feedOf r s = fedBy nothing isAnswer turnOf r s
 
--- What a call on a chunk gives. Of more than 65,536 bytes it takes no more than so many.
+-- What a call on a chunk gives. One of more than 65,536 bytes is cut to its first 65,536.
 abbrev pub chunkOf : LineReader → List ℕ → ChunkTurn
 chunkOf r s = feedOf r (cutChunk s)
 
@@ -56,15 +56,23 @@ pub record TakenToAnswer (given : List ℕ) (taken : ℕ) (o : Outcome) : Type 0
 abbrev pub byByte : ℕ → Outcome → List Outcome
 byByte n o = lastAnswered nothing n o
 
+-- What the bytes that a chunk took, and its answer, are to a caller: an answer where no byte was taken stands by itself,
+-- so that none is left out.
+abbrev pub toldBytes : (taken : ℕ) → Outcome → List Outcome
+toldBytes zero nothing = []
+toldBytes zero (judged v) = judged v ∷ []
+toldBytes (suc n) o = byByte (suc n) o
+
 -- What the bytes of a packet are answered with where they come first: nothing for each but the last, and the packet for
 -- the last.
 abbrev pub toldAlone : Packet → List Outcome
 toldAlone p = byByte (length (wireOf p)) (judged (result p))
 
--- A call was given several, and the first of them, so many, have the outcomes and leave the reader that they do singly.
+-- A call that was given several took the first `taken` of them; its outcomes, and the reader that it left, are theirs
+-- singly.
 abbrev pub TakesFirst : LineReader → (given : List Call) → (taken : ℕ) → List Outcome → LineReader → Type 0
-TakesFirst r given taken outcomes next = FirstSingly outcomeAt nextAfter r given taken outcomes next
+TakesFirst r given taken outcomes next = FirstSingly turnOf r given taken outcomes next
 
 -- The outcomes and the last reader of calls made singly: each byte by itself, and each finish.
 abbrev pub AsSingly : LineReader → (calls : List Call) → List Outcome → (last : LineReader) → Type 0
-AsSingly r calls outcomes last = Singly outcomeAt nextAfter r calls outcomes last
+AsSingly r calls outcomes last = Singly turnOf r calls outcomes last

@@ -19,6 +19,7 @@ use Rattle.framing.specs.LocatedTable.{LocatedLaws}
 use Rattle.framing.proofs.Located.{located-demand3-of}
 use Rattle.framing.proofs.LocatedTable.{located-laws}
 use Rattle.framing.specs.Chunk.{cutChunk}
+use Rattle.framing.proofs.Chunk.{singly-agree}
 use Rattle.answer.specs.Answer.{refused}
 use Rattle.frame.specs.Flags.{stopFlag}
 use Rattle.frame.specs.Frame.{standard}
@@ -28,7 +29,7 @@ use Rattle.frame.specs.declared.Origin.the-variants.{Live, Trace}
 use Rattle.candidate.specs.Outcome.{Outcome, judged, Summary, summaryOf, capacity, Not1, NotStandard, Not17}
 use Rattle.line.specs.Rowing.{mostBytes, full, locatedRowing, outcomeFrom, UnnamedAt}
 use Rattle.line.specs.Answers.{locatedOutcome}
-use Rattle.line.specs.Reader.{outcomeAt, nextAfter, ClosedAt, AsNew}
+use Rattle.line.specs.Reader.{turnOf, outcomeAt, nextAfter, ClosedAt, AsNew}
 use Rattle.line.specs.Chunks.{standsFor, toldBytes, TakenToAnswer, TakesFirst, AsSingly}
 use Rattle.line.specs.declared.LineReader.{LineReader}
 use Rattle.line.proofs.ValueLaws.{call-whole}
@@ -191,7 +192,7 @@ module _ {o : Origin} where
       → RanBy (ExportedLine o) l calls outcomes last → AsSingly (readerOf o l) calls outcomes (readerOf o last)
   exported-singly t =
       let k = ran-by-run (ExportedLine o) outcomeAt nextAfter (readerOf o) (exported-takes o) t in
-      record { outcomes-are = k .0; reader-is = k .1 }
+      record { answers-are = k .0; state-is = k .1 }
 
   each-counted : (l l′ : LentLine) (given later : List Call) (taken : ℕ) (outcomes : List (Located Outcome))
       → ExportedTaken o l given taken outcomes l′ → Counts (readerOf o l) (given ++ later)
@@ -221,13 +222,12 @@ module _ {o : Origin} where
   pub exported-stream-alike : {l last last′ : LentLine} {stream : List Call} {outcomes outcomes′ : List (Located Outcome)}
       → Counts (readerOf o l) stream → Through (ExportedTaken o) l stream outcomes last
       → Through (ExportedTaken o) l stream outcomes′ last′ → (outcomes ≡ outcomes′) × (last ≡ last′)
-  exported-stream-alike {last = last} {last′ = last′} w t u =
-      let k = exported-stream w t in
-      let m = exported-stream w u in (
-        k .outcomes-are ∙ sym (m .outcomes-are),
+  exported-stream-alike {l} {last} {last′} {stream} {outcomes} {outcomes′} w t u =
+      let k = singly-agree turnOf (readerOf o l) stream outcomes outcomes′ (readerOf o last) (readerOf o last′)
+      (exported-stream w t) (exported-stream w u) in (
+        k .0,
         sym (lent-is o last)
-            ∙ ap (λ (r : LineReader). lentLine (r .bytes) (packedState (r .state)) (packedCounts (r .state)))
-            (k .reader-is ∙ sym (m .reader-is))
+            ∙ ap (λ (r : LineReader). lentLine (r .bytes) (packedState (r .state)) (packedCounts (r .state))) (k .1)
             ∙ lent-is o last′,
       )
 
@@ -237,7 +237,7 @@ pub exported-demand-3 : (o : Origin)
     → LocatedDemand3 (locatedRowing o) (AnsweredBy (ExportedLine o) (λ l. AsNew o (readerOf o l)))
 exported-demand-3 o =
     located-demand3-of (locatedRowing o) (AnsweredBy (ExportedLine o) (λ l. AsNew o (readerOf o l)))
-    (λ calls outcomes k. exported-singly (k .ran) .outcomes-are
+    (λ calls outcomes k. exported-singly (k .ran) .answers-are
     ∙ as-new-follows o (readerOf o (k .start)) (k .made) .same calls)
 
 -- 118 zeros and the numbers 0 and 0 are one, at both origins.
@@ -248,7 +248,7 @@ new-line-as-new o = record { array = refl; outside-is = refl; origin-is = refl; 
 pub exported-live-named : {l last : LentLine} {calls : List Call} {outcomes : List (Located Outcome)}
     → RanBy (ExportedLine Live) l calls outcomes last → Every (λ (a : Located Outcome). NotStandard (answerIn a)) outcomes
 exported-live-named {l} {last} {calls} k =
-    subst (Every (λ (a : Located Outcome). NotStandard (answerIn a))) (sym (exported-singly k .outcomes-are))
+    subst (Every (λ (a : Located Outcome). NotStandard (answerIn a))) (sym (exported-singly k .answers-are))
     (live-run (readerOf Live l) refl calls)
 
 -- The same calls, live and of a trace, on readers that are as new: each outcome of the live ones is that of the trace,
@@ -268,7 +268,7 @@ pub exported-line-17-exactly : {calls : List Call} {outcomes traced : List (Loca
     → EachPair UnnamedAt outcomes traced
 exported-line-17-exactly {calls} {outcomes} {traced} k t =
     each-unnamed outcomes traced (exported-origins-alike k t)
-    (subst (Every (λ (a : Located Outcome). Not17 (answerIn a))) (sym (exported-singly (t .ran) .outcomes-are))
+    (subst (Every (λ (a : Located Outcome). Not17 (answerIn a))) (sym (exported-singly (t .ran) .answers-are))
     (trace-run (readerOf Trace (t .start)) refl calls))
 
 -- Whatever calls came before, the last byte of a whole candidate is answered 17 exactly on the live line, where the
@@ -307,7 +307,7 @@ module _ {o : Origin} where
       → Within mostBytes (bytesSinceFinish 0 calls) stream → Through (ExportedTaken o) m stream outcomes last
       → AsSingly (readerOf o m) stream outcomes (readerOf o last)
   exported-stream-after {l} {m} {last} {calls} {stream} n k w t =
-      exported-stream (left-counting (readerOf o l) (readerOf o m) calls stream (n .count-is) (exported-singly k .reader-is) w) t
+      exported-stream (left-counting (readerOf o l) (readerOf o m) calls stream (n .count-is) (exported-singly k .state-is) w) t
 
   -- The upper half of the second number that any calls leave is how many bytes were fed since the last finish, up to the
   -- limit.
@@ -316,7 +316,7 @@ module _ {o : Origin} where
       → Capped mostBytes (bytesSinceFinish (countOf (l .counts)) calls) (countOf (last .counts))
   exported-count {l} {last} {calls} k h =
       subst (λ (r : LineReader). Capped mostBytes (bytesSinceFinish (countOf (l .counts)) calls) (r .state .count))
-      (sym (exported-singly k .reader-is)) (left-count (readerOf o l) h calls)
+      (sym (exported-singly k .state-is)) (left-count (readerOf o l) h calls)
 
   -- The array and the numbers that any calls leave, the last a finish, are a new reader, and both numbers are 0, whatever
   -- they were before, full or not.
@@ -326,7 +326,7 @@ module _ {o : Origin} where
   exported-left-new l last calls outcomes k h =
       let e : readerOf o last .state ≡ nextAfter (leftAfter nextAfter (readerOf o l) calls) finish .state =
       ap (λ (r : LineReader). r .state)
-      (exported-singly k .reader-is ∙ left-append nextAfter (readerOf o l) calls (finish ∷ [])) in (
+      (exported-singly k .state-is ∙ left-append nextAfter (readerOf o l) calls (finish ∷ [])) in (
         left-new (readerOf o l) (readerOf o last) calls outcomes h (exported-singly k),
         sym (state-packs o (last .state) (last .counts)) ∙ ap packedState e,
         sym (counts-pack o (last .state) (last .counts)) ∙ ap packedCounts e ∙ omega arith,
@@ -345,5 +345,5 @@ module _ {o : Origin} where
   pub exported-never-1 : {l last : LentLine} {calls : List Call} {outcomes : List (Located Outcome)}
       → RanBy (ExportedLine o) l calls outcomes last → Every (λ (a : Located Outcome). Not1 (answerIn a)) outcomes
   exported-never-1 {l} {last} {calls} k =
-      subst (Every (λ (a : Located Outcome). Not1 (answerIn a))) (sym (exported-singly k .outcomes-are))
+      subst (Every (λ (a : Located Outcome). Not1 (answerIn a))) (sym (exported-singly k .answers-are))
       (run-never-1 (readerOf o l) calls)

@@ -74,8 +74,6 @@ module _ {K A : Type 0} (P : Protocol A) (B : Bounds K A) (suits : Suits P B) wh
   kept-at (inside kind) bytes len e = suits .kept kind len bytes e
   kept-at overlong bytes len e = e
 
-  -- ---- the array's length
-
   grown-kept : (m : BoundedMode K) (bytes : List ℕ) (len b : ℕ) → length bytes ≡ B .capacity
       → length (grownIn P B m bytes len b .bytes) ≡ B .capacity
   grown-kept outside bytes len b h = h
@@ -89,7 +87,7 @@ module _ {K A : Type 0} (P : Protocol A) (B : Bounds K A) (suits : Suits P B) wh
   byte-kept r b h stops = kept-at (r .mode) (r .bytes) (r .len) h
   byte-kept r b h plain = grown-kept (r .mode) (r .bytes) (r .len) b h
 
-  -- Every call keeps it.
+  -- Every call keeps the array's length.
   pub bounded-kept : (r : BoundedReader K) (c : Call) → length (r .bytes) ≡ B .capacity
       → length (boundedTurn P B r c .next .bytes) ≡ B .capacity
   bounded-kept r (byte b) h = byte-kept r b h (P .role b)

@@ -16,7 +16,8 @@ use Rattle.lists.proofs.Before.{before-fits, before-clear}
 use Rattle.framing.specs.Reference.{Call, byte, Role, starts, stops, FlagFree, none, opened, Protocol}
 use Rattle.framing.specs.Reference.{byteAnswer, byteAfter, answerTo, candidateAfter, Reference}
 use Rattle.framing.specs.Demand3.{feed}
-use Rattle.framing.specs.Chunk.{FedTurn, fedTurn, laterBy, fedBy, chunkLimit, cutChunk, lastAnswered, FirstSingly, Singly}
+use Rattle.framing.specs.Chunk.{FedTurn, fedTurn, laterBy, fedBy, chunkLimit, cutChunk, lastAnswered, turnAnswer}
+use Rattle.framing.specs.Chunk.{turnNext, FirstSingly, Singly, TakenSingly}
 
 -- ---- counting
 
@@ -28,11 +29,11 @@ module _ {S A : Type 0} where
   plus-plus i j k f e = let q : i + (j + f .taken) ≡ k + f .taken = omega arith in ap (fedTurn (f .answer) (f .next)) q
 
   -- What a chunk's turn has, by whether its first byte is answered, where f is what the bytes after that give.
-  pub by-first : (P : FedTurn S A → Type 0) (t : Turn S A) (f : FedTurn S A) (q : Bool)
+  by-answered : (P : FedTurn S A → Type 0) (t : Turn S A) (f : FedTurn S A) (q : Bool)
       → (q ≡ true → P (fedTurn (t .answer) (t .next) 1)) → (q ≡ false → P (laterBy 1 f))
       → P (pick q (fedTurn (t .answer) (t .next) 1) (laterBy 1 f))
-  by-first P t f true y n = y refl
-  by-first P t f false y n = n refl
+  by-answered P t f true y n = y refl
+  by-answered P t f false y n = n refl
 
 -- No more bytes are taken than there are, with an answer at least one, and with none all.
 pub record Extent {S A : Type 0} (isAnswer : A → Bool) (bytes : List ℕ) (f : FedTurn S A) : Type 0 where
@@ -49,52 +50,57 @@ answered-more {A} nothing zero a h = ap (λ (x : A). x ∷ []) (h refl)
 answered-more nothing (suc n) a h = refl
 
 module _ {S A : Type 0} (turnOf : S → Call → Turn S A) where
-  abbrev answerAt : S → Call → A
-  answerAt s c = turnOf s c .answer
-
-  abbrev nextAfter : S → Call → S
-  nextAfter s c = turnOf s c .next
-
-  -- the bytes that a turn took, fed singly
-  abbrev pub TakenSingly : (nothing : A) → S → List ℕ → FedTurn S A → Type 0
-  TakenSingly nothing s bytes f =
-      Singly answerAt nextAfter s (feed (take (f .taken) bytes)) (lastAnswered nothing (f .taken) (f .answer)) (f .next)
-
   -- One byte more before a chunk, by whether it is answered.
   pub singly-more : (nothing : A) (s : S) (b : ℕ) (bytes : List ℕ) (f : FedTurn S A) (q : Bool)
-      → (q ≡ false → answerAt s (byte b) ≡ nothing) → (f .taken ≡ 0 → f .answer ≡ nothing)
-      → TakenSingly nothing (nextAfter s (byte b)) bytes f
-      → TakenSingly nothing s (b ∷ bytes)
-      (pick q (fedTurn (answerAt s (byte b)) (nextAfter s (byte b)) 1) (laterBy 1 f))
-  singly-more nothing s b bytes f true e z k = record { outcomes-are = refl; reader-is = refl }
+      → (q ≡ false → turnOf s (byte b) .answer ≡ nothing) → (f .taken ≡ 0 → f .answer ≡ nothing)
+      → TakenSingly turnOf nothing (turnOf s (byte b) .next) bytes f
+      → TakenSingly turnOf nothing s (b ∷ bytes)
+      (pick q (fedTurn (turnOf s (byte b) .answer) (turnOf s (byte b) .next) 1) (laterBy 1 f))
+  singly-more nothing s b bytes f true e z k = record { answers-are = refl; state-is = refl }
   singly-more nothing s b bytes f false e z k =
       let one : suc (f .taken) ≡ 1 + f .taken = omega arith in
-      subst (λ (n : ℕ). TakenSingly nothing s (b ∷ bytes) (fedTurn (f .answer) (f .next) n)) one (record {
-        outcomes-are = answered-more nothing (f .taken) (f .answer) z
-            ∙ ap₂ (λ (x : A) (l : List A). x ∷ l) (sym (e refl)) (k .outcomes-are);
-        reader-is = k .reader-is;
+      subst (λ (n : ℕ). TakenSingly turnOf nothing s (b ∷ bytes) (fedTurn (f .answer) (f .next) n)) one (record {
+        answers-are = answered-more nothing (f .taken) (f .answer) z
+            ∙ ap₂ (λ (x : A) (l : List A). x ∷ l) (sym (e refl)) (k .answers-are);
+        state-is = k .state-is;
       })
 
   -- Of a chunk that was cut to its first 65,536 bytes, the bytes taken are the first of the chunk.
   pub cut-singly : (nothing : A) (s : S) (given : List ℕ) (f : FedTurn S A) → f .taken ≤ length (cutChunk given)
-      → TakenSingly nothing s (cutChunk given) f
-      → FirstSingly answerAt nextAfter s (feed given) (f .taken) (lastAnswered nothing (f .taken) (f .answer)) (f .next)
+      → TakenSingly turnOf nothing s (cutChunk given) f
+      → FirstSingly turnOf s (feed given) (f .taken) (lastAnswered nothing (f .taken) (f .answer)) (f .next)
   cut-singly nothing s given f w k =
       let n = f .taken in
       let first : feed (take n (cutChunk given)) ≡ take n (feed given) =
       ap feed (take-take n chunkLimit given (omega (arith, take-bounds chunkLimit given .0)))
       ∙ sym (take-map byte n given) in (
         omega (arith, take-bounds chunkLimit given .1, length-map given byte),
-        k .outcomes-are ∙ ap (run answerAt nextAfter s) first,
-        k .reader-is ∙ ap (leftAfter nextAfter s) first,
+        k .answers-are ∙ ap (run (turnAnswer turnOf) (turnNext turnOf) s) first,
+        k .state-is ∙ ap (leftAfter (turnNext turnOf) s) first,
       )
+
+  -- Two answers to the same calls, each as they are singly, are the same, and so are the states.
+  pub singly-agree : (s : S) (calls : List Call) (answers answers′ : List A) (last last′ : S)
+      → Singly turnOf s calls answers last → Singly turnOf s calls answers′ last′ → (answers ≡ answers′) × (last ≡ last′)
+  singly-agree s calls answers answers′ last last′ k l =
+      (k .answers-are ∙ sym (l .answers-are), k .state-is ∙ sym (l .state-is))
+
+-- ---- a chunk, cut to its first 65,536 bytes
+
+-- It is empty exactly where the chunk is.
+pub cut-some : (s : List ℕ) → 0 < length s → 1 ≤ length (cutChunk s)
+cut-some [] h = absurd (omega arith)
+cut-some (b ∷ s) h = omega arith
+
+pub cut-fits : (s : List ℕ) → 1 ≤ length (cutChunk s) → 1 ≤ length s
+cut-fits s h = omega (arith, take-bounds chunkLimit s .1)
 
 -- ---- a candidate
 
 -- The bytes of a terminated candidate that come first are answered with nothing, but for the last, which is answered as
 -- the candidate is judged.
 module _ {A : Type 0} (P : Protocol A) (flag stop : ℕ) (s : P .role flag ≡ starts) (e : P .role stop ≡ stops) where
-  -- of which the first is not answered
+  -- its answers, with one byte before them that is not answered
   told-more : (b : ℕ) (body : List ℕ) (a : A) → P .nothing ∷ lastAnswered (P .nothing) (length (body ++ stop ∷ [])) a
       ≡ lastAnswered (P .nothing) (length (b ∷ (body ++ stop ∷ []))) a
   told-more b body a =
@@ -173,26 +179,28 @@ module _ {S A : Type 0} (nothing : A) (isAnswer : A → Bool) (turnOf : S → Ca
 
     module _ (quiet : (a : A) → isAnswer a ≡ false → a ≡ nothing) where
       -- an answer takes a byte
-      pub taken-answered : (s : S) (bytes : List ℕ) → fed s bytes .taken ≡ 0 → fed s bytes .answer ≡ nothing
-      taken-answered s bytes e =
+      untaken-silent : (s : S) (bytes : List ℕ) → fed s bytes .taken ≡ 0 → fed s bytes .answer ≡ nothing
+      untaken-silent s bytes e =
           by-bool (isAnswer (fed s bytes .answer))
           (λ y. absurd (omega (arith, e, fed-extent s bytes .some y)))
           (quiet (fed s bytes .answer))
 
       -- The bytes that a chunk takes are answered, and leave the state, as they do singly.
-      pub fed-singly : (s : S) (bytes : List ℕ) → TakenSingly turnOf nothing s bytes (fed s bytes)
+      pub fed-singly : (s : S) (bytes : List ℕ)
+          → TakenSingly turnOf nothing s bytes (fedBy nothing isAnswer turnOf s bytes)
       unfolding fedBy
-      fed-singly s [] = record { outcomes-are = refl; reader-is = refl }
+      fed-singly s [] = record { answers-are = refl; state-is = refl }
       fed-singly s (b ∷ bytes) =
           let t = turnOf s (byte b) in
           singly-more turnOf nothing s b bytes (fed (t .next) bytes) (isAnswer (t .answer)) (quiet (t .answer))
-          (taken-answered (t .next) bytes) (fed-singly (t .next) bytes)
+          (untaken-silent (t .next) bytes) (fed-singly (t .next) bytes)
 
       -- The same of a chunk that is cut to its first 65,536 bytes.
       pub chunk-singly : (s : S) (given : List ℕ)
-          → FirstSingly (answerAt turnOf) (nextAfter turnOf) s (feed given) (fed s (cutChunk given) .taken)
-          (lastAnswered nothing (fed s (cutChunk given) .taken) (fed s (cutChunk given) .answer))
-          (fed s (cutChunk given) .next)
+          → FirstSingly turnOf s (feed given) (fedBy nothing isAnswer turnOf s (cutChunk given) .taken)
+          (lastAnswered nothing (fedBy nothing isAnswer turnOf s (cutChunk given) .taken)
+          (fedBy nothing isAnswer turnOf s (cutChunk given) .answer))
+          (fedBy nothing isAnswer turnOf s (cutChunk given) .next)
       chunk-singly s given =
           cut-singly turnOf nothing s given (fed s (cutChunk given)) (fed-extent s (cutChunk given) .within)
           (fed-singly s (cutChunk given))
@@ -200,10 +208,10 @@ module _ {S A : Type 0} (nothing : A) (isAnswer : A → Bool) (turnOf : S → Ca
   -- ---- one byte
 
   -- What a byte's turn and the bytes after it give.
-  abbrev pub fromTurn : Turn S A → List ℕ → FedTurn S A
+  abbrev fromTurn : Turn S A → List ℕ → FedTurn S A
   fromTurn t bytes = pick (isAnswer (t .answer)) (fedTurn (t .answer) (t .next) 1) (laterBy 1 (fed (t .next) bytes))
 
-  pub fed-byte : (s : S) (b : ℕ) (bytes : List ℕ) → fed s (b ∷ bytes) ≡ fromTurn (turnOf s (byte b)) bytes
+  fed-byte : (s : S) (b : ℕ) (bytes : List ℕ) → fed s (b ∷ bytes) ≡ fromTurn (turnOf s (byte b)) bytes
   unfolding fedBy
   fed-byte s b bytes = refl
 
@@ -230,17 +238,17 @@ module _ {S A : Type 0} (nothing : A) (isAnswer : A → Bool) (turnOf : S → Ca
     answered e = ap (laterBy i) (first ∙ ap by-test e)
 
   -- no byte is left
-  pub none-left : (s : S) (bytes : List ℕ) (i : ℕ) → length bytes ≤ i
+  pub no-byte-left : (s : S) (bytes : List ℕ) (i : ℕ) → length bytes ≤ i
       → laterBy i (fed s (drop i bytes)) ≡ fedTurn nothing s i
   unfolding fedBy
-  none-left s bytes i h =
+  no-byte-left s bytes i h =
       let z : i + 0 ≡ i = omega arith in
       ap (λ (l : List ℕ). laterBy i (fed s l)) (drop-of-length-le bytes {i = i} h) ∙ ap (fedTurn nothing s) z
 
   -- ---- every byte
 
-  -- What nothing has at every state that keeps R, and each byte's answer with the state that it leaves, and that keeps R,
-  -- a chunk's answer has with the state that it leaves.
+  -- Where every byte keeps R: what nothing has with each state of R, and each byte's answer with the state that it
+  -- leaves, a chunk's answer has with the state that it leaves.
   pub fed-has : (R : S → Type 0) (P : A → S → Type 0) → ((s : S) → R s → P nothing s)
       → ((s : S) (b : ℕ) → R s → R (turnOf s (byte b) .next) × P (turnOf s (byte b) .answer) (turnOf s (byte b) .next))
       → (s : S) (bytes : List ℕ) → R s → P (fed s bytes .answer) (fed s bytes .next)
@@ -248,12 +256,12 @@ module _ {S A : Type 0} (nothing : A) (isAnswer : A → Bool) (turnOf : S → Ca
   fed-has R P quiet each s [] k = quiet s k
   fed-has R P quiet each s (b ∷ bytes) k =
       let t = turnOf s (byte b) in
-      by-first (λ f. P (f .answer) (f .next)) t (fed (t .next) bytes) (isAnswer (t .answer)) (λ y. each s b k .1)
+      by-answered (λ f. P (f .answer) (f .next)) t (fed (t .next) bytes) (isAnswer (t .answer)) (λ y. each s b k .1)
       (λ n. fed-has R P quiet each (t .next) bytes (each s b k .0))
 
   -- What nothing has and the answer to every byte, a chunk's answer has.
   pub fed-answer : (P : A → Type 0) → P nothing → ((s : S) (b : ℕ) → P (turnOf s (byte b) .answer))
-      → (s : S) (bytes : List ℕ) → P (fed s bytes .answer)
+      → (s : S) (bytes : List ℕ) → P (fedBy nothing isAnswer turnOf s bytes .answer)
   fed-answer P quiet each s bytes =
       fed-has (λ u. Unit {0}) (λ a u. P a) (λ u k. quiet) (λ u b k. (tt, each u b)) s bytes tt
 

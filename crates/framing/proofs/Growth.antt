@@ -1,5 +1,4 @@
--- A run of bytes that are held one after another in an array, as they are copied there at once: all of them, or as many
--- as there is room for. Over a reader whose open candidate grows, and the reader that is left where there is no room.
+-- Bytes held one by one in an array leave what one copy of them leaves: all of them, or as many as there is room for.
 use mathlib.Core.Path.{_≡_, refl, sym, ap, ap₂, _∙_}
 use mathlib.Core.List.{List, [], _∷_}
 use native.Mathlib.Nat.{add-zero}
@@ -19,7 +18,8 @@ unmoved-run after s stays [] = refl
 unmoved-run {S} after s stays (b ∷ run) =
     unmoved-run after s stays run ∙ ap (λ (u : S). leftAfter after u run) (sym (stays b))
 
--- `holding bytes len`: the first `len` of these bytes are held. `over bytes`: there was no room, and none is held.
+-- A byte is held where there is room for it. Where there is none the candidate is over-long, and stays so.
+-- `holding bytes len`: the first `len` of these bytes are held. `over bytes`: the candidate is over-long.
 pub record Grows {S : Type 0} (capacity : ℕ) (after : S → ℕ → S) (holding : List ℕ → ℕ → S) (over : List ℕ → S)
     : Type 0 where
   pub grows : (bytes : List ℕ) (len b : ℕ) → len < capacity

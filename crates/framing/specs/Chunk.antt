@@ -1,5 +1,5 @@
--- Bytes given to a reader in chunks, beside the same bytes fed singly: document 02, No. 4. Over the reader's state, its
--- answers, the answer that is nothing, and its calls.
+-- Bytes given to a reader in chunks, beside the same bytes fed singly: document 02, No. 4. Over the reader's state and
+-- answers, its calls, the answer that is nothing, and a test for what is an answer.
 use mathlib.Core.Path.{_≡_}
 use mathlib.Core.Bool.{Bool}
 use mathlib.Core.List.{List, [], _∷_}
@@ -8,6 +8,7 @@ use lib.ListN.{length, take}
 use Rattle.lists.specs.Choice.{pick}
 use Rattle.lists.specs.Machine.{Turn, run, leftAfter}
 use Rattle.framing.specs.Reference.{Call, byte}
+use Rattle.framing.specs.Demand3.{feed}
 
 -- An answer, the state afterwards, and how many bytes were taken.
 pub record FedTurn (S A : Type 0) : Type 0 where
@@ -42,20 +43,33 @@ cutChunk s = take chunkLimit s
 
 -- ---- the single calls that a chunk stands for
 
--- The answers of so many calls: nothing for each but the last, and this for the last.
+-- The answers of so many calls: nothing for each but the last, and this for the last. Of no calls there are none,
+-- whatever the answer is.
 abbrev pub lastAnswered : {A : Type 0} → (nothing : A) → ℕ → A → List A
 lastAnswered nothing zero a = []
 lastAnswered nothing (suc zero) a = a ∷ []
 lastAnswered nothing (suc (suc n)) a = nothing ∷ lastAnswered nothing (suc n) a
 
-module _ {S A : Type 0} (answerAt : S → Call → A) (nextAfter : S → Call → S) where
-  -- A call was given several, and the first of them, so many, have the answers and leave the state that they do singly.
+module _ {S A : Type 0} (turnOf : S → Call → Turn S A) where
+  abbrev pub turnAnswer : S → Call → A
+  turnAnswer s c = turnOf s c .answer
+
+  abbrev pub turnNext : S → Call → S
+  turnNext s c = turnOf s c .next
+
+  -- A call that was given several took the first `taken` of them; its answers, and the state that it left, are theirs
+  -- singly.
   abbrev pub FirstSingly : S → (given : List Call) → (taken : ℕ) → List A → S → Type 0
   FirstSingly s given taken answers next =
-      (taken ≤ length given) × (answers ≡ run answerAt nextAfter s (take taken given))
-      × (next ≡ leftAfter nextAfter s (take taken given))
+      (taken ≤ length given) × (answers ≡ run turnAnswer turnNext s (take taken given))
+      × (next ≡ leftAfter turnNext s (take taken given))
 
   -- The answers and the last state of calls made singly: each byte by itself, and each finish.
   pub record Singly (s : S) (calls : List Call) (answers : List A) (last : S) : Type 0 where
-    pub outcomes-are : answers ≡ run answerAt nextAfter s calls
-    pub reader-is : last ≡ leftAfter nextAfter s calls
+    pub answers-are : answers ≡ run turnAnswer turnNext s calls
+    pub state-is : last ≡ leftAfter turnNext s calls
+
+  -- The bytes that a turn took, fed singly.
+  abbrev pub TakenSingly : (nothing : A) → S → List ℕ → FedTurn S A → Type 0
+  TakenSingly nothing s bytes f =
+      Singly s (feed (take (f .taken) bytes)) (lastAnswered nothing (f .taken) (f .answer)) (f .next)

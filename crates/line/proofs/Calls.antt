@@ -24,7 +24,7 @@ use Rattle.line.specs.declared.LineReader.{LineReader}
 use Rattle.line.specs.declared.LentStep.{LentStep}
 use Rattle.line.specs.declared.Stepped.{Stepped}
 use Rattle.line.proofs.ValueLaws.{call-whole, value-outcome}
-use Rattle.line.proofs.Follows.{as-new-follows, reader-follows}
+use Rattle.line.proofs.Follows.{as-new-follows, new-as-new, reader-follows}
 use Rattle.line.proofs.ChunkLaws.{full-exactly}
 use Rattle.line.proofs.LineReader.new.Reads as new-reads
 use Rattle.line.proofs.LineReader.step.Reads as step-reads
@@ -44,6 +44,9 @@ full-kept r u c a e n =
 -- A reader that `new` returned for an origin.
 abbrev pub Made : Origin → LineReader → Type 0
 Made o r = new-reads.Learnt tt (o, tt) r (o, tt)
+
+pub made-as-new : {o : Origin} {r : LineReader} → Made o r → AsNew o r
+made-as-new {o} k = subst (AsNew o) (sym k) (new-as-new o)
 
 -- A call on a reader, its whole answer and the reader that it left, known by what the function's contract tells a
 -- caller.

@@ -174,7 +174,7 @@ pub chunks-singly : {r last : LineReader} {calls : List Call} {outcomes : List (
     → RanBy CalledOn r calls outcomes last → AsSingly r calls outcomes last
 chunks-singly t =
     let k = ran-by-run CalledOn outcomeAt nextAfter (λ r. r) call-takes t in
-    record { outcomes-are = k .0; reader-is = k .1 }
+    record { answers-are = k .0; state-is = k .1 }
 
 -- The same of two rows of calls on one reader, of which one makes each call singly.
 pub chunks-alike : {r last last′ : LineReader} {calls : List Call} {outcomes outcomes′ : List (Located Outcome)}
@@ -183,10 +183,10 @@ pub chunks-alike : {r last last′ : LineReader} {calls : List Call} {outcomes o
 chunks-alike t u =
     let k = chunks-singly t in
     let s = ran-run CalledLent outcomeAt nextAfter (λ r. r) lent-turns u in
-    (k .outcomes-are ∙ sym (s .0), k .reader-is ∙ sym (s .1))
+    (k .answers-are ∙ sym (s .0), k .state-is ∙ sym (s .1))
 
 -- Demand 3 of all of these calls at any origin, whole.
 pub chunks-demand-3 : (o : Origin) → LocatedDemand3 (locatedRowing o) (AnsweredBy CalledOn (AsNew o))
 chunks-demand-3 o =
     located-demand3-of (locatedRowing o) (AnsweredBy CalledOn (AsNew o))
-    (λ calls outcomes k. chunks-singly (k .ran) .outcomes-are ∙ as-new-follows o (k .start) (k .made) .same calls)
+    (λ calls outcomes k. chunks-singly (k .ran) .answers-are ∙ as-new-follows o (k .start) (k .made) .same calls)

@@ -16,8 +16,8 @@ use Rattle.framing.specs.Reference.{Call, byte, finish}
 use Rattle.framing.specs.Demand3.{feed}
 use Rattle.framing.specs.Located.{Located, unlocated, located, answerIn}
 use Rattle.framing.specs.Counting.{startIn, locate}
-use Rattle.framing.specs.Chunk.{fedTurn, laterBy, chunkLimit, cutChunk}
-use Rattle.framing.proofs.Chunk.{fed-answer, TakenSingly, singly-more, cut-singly}
+use Rattle.framing.specs.Chunk.{fedTurn, laterBy, chunkLimit, cutChunk, TakenSingly}
+use Rattle.framing.proofs.Chunk.{fed-answer, singly-more, cut-singly, cut-some}
 use Rattle.frame.specs.Flags.{roleOf}
 use Rattle.candidate.specs.Outcome.{Outcome, nothing, judged}
 use Rattle.candidate.specs.Holder.{holder, turnHeld}
@@ -106,19 +106,19 @@ not-told r b h e =
     by-outcome nothing k = refl
     by-outcome (judged v) k = absurd (true≢false k)
 
-pub chunk-singly : (r : LineReader) (s : List ℕ) → TakenSingly turnOf (unlocated nothing) r s (feedOf r s)
-chunk-singly r [] =
-    subst (TakenSingly turnOf (unlocated nothing) r []) (sym (fed-none r)) (record { outcomes-are = refl; reader-is = refl })
-chunk-singly r (b ∷ s) =
+pub fed-singly : (r : LineReader) (s : List ℕ) → TakenSingly turnOf (unlocated nothing) r s (feedOf r s)
+fed-singly r [] =
+    subst (TakenSingly turnOf (unlocated nothing) r []) (sym (fed-none r)) (record { answers-are = refl; state-is = refl })
+fed-singly r (b ∷ s) =
     by-bool (ltb (r .state .count) mostBytes)
     (λ y. let h = ltb-true (r .state .count) mostBytes y in
     subst (TakenSingly turnOf (unlocated nothing) r (b ∷ s)) (sym (fed-taken r b s h))
     (singly-more turnOf (unlocated nothing) r b s (feedOf (stepOf r b .next) s)
     (isAnswer (answerIn (stepOf r b .answer))) (not-told r b h) (quiet-none (stepOf r b .next) s)
-    (chunk-singly (stepOf r b .next) s)))
+    (fed-singly (stepOf r b .next) s)))
     (λ n. subst (TakenSingly turnOf (unlocated nothing) r (b ∷ s))
     (sym (fed-full r b s (ltb-false (r .state .count) mostBytes n)))
-    (record { outcomes-are = refl; reader-is = refl }))
+    (record { answers-are = refl; state-is = refl }))
 
 -- ---- a chunk, cut to its first 65,536 bytes
 
@@ -169,7 +169,7 @@ first-taken r given =
     let n : standsFor (f .taken) (f .answer) ≡ f .taken =
     stands-taken (f .taken) (f .answer) (quiet-none r (cutChunk given)) in
     subst (λ (m : ℕ). TakesFirst r (feed given) m (byByte m (f .answer)) (f .next)) (sym n)
-    (cut-singly turnOf (unlocated nothing) r given f (taken-within r (cutChunk given)) (chunk-singly r (cutChunk given)))
+    (cut-singly turnOf (unlocated nothing) r given f (taken-within r (cutChunk given)) (fed-singly r (cutChunk given)))
   where
     taken-within : (r : LineReader) (s : List ℕ) → feedOf r s .taken ≤ length s
     taken-within r s =
@@ -214,10 +214,6 @@ counted-taken r s h =
     silent : (o : Outcome) (p : ℕ) → isAnswer o ≡ false → locate isAnswer p o ≡ unlocated nothing
     silent nothing p e = refl
     silent (judged v) p e = absurd (true≢false e)
-
-cut-some : (s : List ℕ) → 0 < length s → 1 ≤ length (cutChunk s)
-cut-some [] h = absurd (omega arith)
-cut-some (b ∷ s) h = omega arith
 
 cut-taken : (r : LineReader) (given : List ℕ) → Taken r (cutChunk given) (chunkOf r given)
 cut-taken r given =

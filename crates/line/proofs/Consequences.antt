@@ -85,7 +85,7 @@ run-never-1 r =
 pub calls-never-1 : {r last : LineReader} {calls : List Call} {outcomes : List (Located Outcome)}
     → RanBy CalledOn r calls outcomes last → Every (λ (a : Located Outcome). Not1 (answerIn a)) outcomes
 calls-never-1 {r} {last} {calls} k =
-    subst (Every (λ (a : Located Outcome). Not1 (answerIn a))) (sym (chunks-singly k .outcomes-are)) (run-never-1 r calls)
+    subst (Every (λ (a : Located Outcome). Not1 (answerIn a))) (sym (chunks-singly k .answers-are)) (run-never-1 r calls)
 
 -- ---- as new
 
@@ -114,7 +114,7 @@ module _ (r last : LineReader) (calls : List Call) (outcomes : List (Located Out
     pub left-new : AsSingly r (calls ++ finish ∷ []) outcomes last → AsNew (originOf r) last
     left-new k =
         let u = leftAfter nextAfter r calls in
-        subst (AsNew (originOf r)) (sym (k .reader-is ∙ left-append nextAfter r calls (finish ∷ [])))
+        subst (AsNew (originOf r)) (sym (k .state-is ∙ left-append nextAfter r calls (finish ∷ [])))
         (record { array = left-kept r calls h; outside-is = refl; origin-is = left-origin r calls; count-is = refl })
 
     pub left-closed : AsSingly r (calls ++ byte stopFlag ∷ []) outcomes last → r .state .count ≤ mostBytes
@@ -125,7 +125,7 @@ module _ (r last : LineReader) (calls : List Call) (outcomes : List (Located Out
         let n : u .state .count ≡ bytesSinceFinish (r .state .count) calls =
         left-count r l calls .0 (omega (arith, room)) in
         subst (ClosedAt (bytesSinceFinish (r .state .count) calls + 1) (originOf r))
-        (sym (k .reader-is ∙ left-append nextAfter r calls (byte stopFlag ∷ [])))
+        (sym (k .state-is ∙ left-append nextAfter r calls (byte stopFlag ∷ [])))
         (subst (λ (t : ReaderTurn). ClosedAt (bytesSinceFinish (r .state .count) calls + 1) (originOf r) (t .next))
         (sym (step-taken u stopFlag (omega (arith, n, room))))
         (record {

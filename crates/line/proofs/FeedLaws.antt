@@ -26,8 +26,7 @@ use Rattle.candidate.specs.declared.HeldChunk.{HeldChunk}
 use Rattle.candidate.proofs.OutcomeLaws.{fed-extent}
 use Rattle.line.specs.Rowing.{mostBytes, full}
 use Rattle.line.specs.Reader.{reader, lentReader, ReaderTurn, stepOf}
-use Rattle.line.specs.Feed.{ChunkTurn, noTurn, feedOf}
-use Rattle.line.specs.Feed.{chunkOf, ChunkStepIs}
+use Rattle.line.specs.Feed.{ChunkTurn, noTurn, feedOf, chunkOf, ChunkStepIs}
 use Rattle.line.specs.Private.{toldAt, placeAt, Advances}
 use Rattle.line.specs.declared.LineReader.{LineReader}
 use Rattle.line.specs.declared.State.{State}

@@ -48,7 +48,7 @@ pub calls-count : {r last : LineReader} {calls : List Call} {outcomes : List (Lo
     → Capped mostBytes (bytesSinceFinish (r .state .count) calls) (last .state .count)
 calls-count {r} {last} {calls} k h =
     subst (λ (u : LineReader). Capped mostBytes (bytesSinceFinish (r .state .count) calls) (u .state .count))
-    (sym (chunks-singly k .reader-is)) (left-count r h calls)
+    (sym (chunks-singly k .state-is)) (left-count r h calls)
 
 -- the count is full exactly where so many bytes were fed
 capped-full : (n c : ℕ) → Capped mostBytes n c → Exactly (mostBytes ≤ c) (mostBytes ≤ n)
@@ -67,7 +67,7 @@ singly-16-exactly r h calls b earlier last left k =
     let u = leftAfter nextAfter r calls in
     let is : last ≡ outcomeAt u (byte b) =
     last-same earlier (run outcomeAt nextAfter r calls) last (outcomeAt u (byte b))
-    (k .outcomes-are ∙ run-append outcomeAt nextAfter r calls (byte b ∷ [])) in
+    (k .answers-are ∙ run-append outcomeAt nextAfter r calls (byte b ∷ [])) in
     let f = full-exactly u (byte b) .exactly in
     let c = capped-full (bytesSinceFinish (r .state .count) calls) (u .state .count) (left-count r h calls) in
     ((λ q. c .0 (f .0 (ap answerIn (sym is) ∙ q))), (λ h. ap answerIn is ∙ f .1 (c .1 h)))
@@ -101,4 +101,4 @@ pub stream-after : {o : Origin} {r u last : LineReader} {calls stream : List Cal
     → AsNew o r → RanBy CalledOn r calls first u → Within mostBytes (bytesSinceFinish 0 calls) stream
     → Through TakenOn u stream outcomes last → AsSingly u stream outcomes last
 stream-after {o} {r} {u} {last} {calls} {stream} n k w t =
-    stream-singly (left-counting r u calls stream (n .count-is) (chunks-singly k .reader-is) w) t
+    stream-singly (left-counting r u calls stream (n .count-is) (chunks-singly k .state-is) w) t

@@ -48,7 +48,7 @@ made-origin k = ap originOf k
 -- Any calls in a row, in any form and order, leave a reader of the origin that it had.
 pub calls-keep-origin : {r last : LineReader} {calls : List Call} {outcomes : List (Located Outcome)}
     → RanBy CalledOn r calls outcomes last → originOf last ≡ originOf r
-calls-keep-origin {r} {last} {calls} k = ap originOf (chunks-singly k .reader-is) ∙ left-origin r calls
+calls-keep-origin {r} {last} {calls} k = ap originOf (chunks-singly k .state-is) ∙ left-origin r calls
 
 -- what holds of nothing, of 16, 6 and 2 and of every verdict at an origin holds of every outcome of a reader of it
 origin-run : (o : Origin) (P : Outcome → Type 0) → P nothing → P (judged (refused 16)) → P (judged (refused 6))
@@ -85,7 +85,7 @@ pub live-calls-named : {r last : LineReader} {calls : List Call} {outcomes : Lis
     → RanBy CalledOn r calls outcomes last → originOf r ≡ Live
     → Every (λ (a : Located Outcome). NotStandard (answerIn a)) outcomes
 live-calls-named {r} {last} {calls} k live =
-    subst (Every (λ (a : Located Outcome). NotStandard (answerIn a))) (sym (chunks-singly k .outcomes-are))
+    subst (Every (λ (a : Located Outcome). NotStandard (answerIn a))) (sym (chunks-singly k .answers-are))
     (live-run r live calls)
 
 -- So no call in a row on a reader that `new` made for the live line tells one.
@@ -112,7 +112,7 @@ pub trace-calls-not-17 : {r last : LineReader} {calls : List Call} {outcomes : L
     → RanBy CalledOn r calls outcomes last → originOf r ≡ Trace
     → Every (λ (a : Located Outcome). Not17 (answerIn a)) outcomes
 trace-calls-not-17 {r} {last} {calls} k e =
-    subst (Every (λ (a : Located Outcome). Not17 (answerIn a))) (sym (chunks-singly k .outcomes-are))
+    subst (Every (λ (a : Located Outcome). Not17 (answerIn a))) (sym (chunks-singly k .answers-are))
     (trace-run r e calls)
 
 -- ---- otherwise both origins are answered alike

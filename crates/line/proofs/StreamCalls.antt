@@ -1,6 +1,6 @@
 -- Document 02, No. 4, within the bound of No. 7: a stream given in chunks, each starting right after the last byte taken,
 -- is answered as its bytes and finishes are singly.
-use mathlib.Core.Path.{_≡_, refl, sym, _∙_, subst}
+use mathlib.Core.Path.{_≡_, refl, sym, subst}
 use mathlib.Core.List.{List, [], _∷_, _++_}
 use native.Mathlib.Omega.{arith}
 use Prim.Native.Nat.{ℕ, zero, suc, _+_, _≤_, _<_}
@@ -13,9 +13,10 @@ use Rattle.framing.specs.Located.{Located, unlocated, located}
 use Rattle.framing.specs.LocatedDemand3.{Within}
 use Rattle.framing.proofs.Located.{within-now}
 use Rattle.framing.specs.Chunk.{cutChunk}
+use Rattle.framing.proofs.Chunk.{singly-agree, cut-fits}
 use Rattle.candidate.specs.Outcome.{Outcome}
 use Rattle.line.specs.Rowing.{mostBytes}
-use Rattle.line.specs.Reader.{ReaderTurn, nextAfter}
+use Rattle.line.specs.Reader.{ReaderTurn, turnOf, nextAfter}
 use Rattle.line.specs.Chunks.{standsFor, toldBytes, TakenToAnswer, TakesFirst, AsSingly}
 use Rattle.line.specs.declared.LineReader.{LineReader}
 use Rattle.line.proofs.StepLaws.{step-taken}
@@ -53,10 +54,6 @@ room-first : (r : LineReader) (given : List ℕ) (later : List Call) → Counts 
 room-first r [] later w h = absurd (omega arith)
 room-first r (b ∷ given) later w h =
     omega (arith, within-now mostBytes (r .state .count + 1) (feed given ++ later) w)
-
-cut-fits : (given : List ℕ) → 1 ≤ length (cutChunk given) → 1 ≤ length given
-cut-fits [] h = absurd (omega arith)
-cut-fits (b ∷ given) h = omega arith
 
 pub stands-counted : (r : LineReader) (given : List ℕ) (later : List Call) (taken : ℕ) (a : Located Outcome)
     → TakenToAnswer r (cutChunk given) taken a → Counts r (feed given ++ later) → standsFor taken a ≡ taken
@@ -104,7 +101,5 @@ stream-singly w t = chunks-singly (through-known TakenOn CalledOn Counts each-co
 pub stream-alike : {r last last′ : LineReader} {stream : List Call} {outcomes outcomes′ : List (Located Outcome)}
     → Counts r stream → Through TakenOn r stream outcomes last → Through TakenOn r stream outcomes′ last′
     → (outcomes ≡ outcomes′) × (last ≡ last′)
-stream-alike w t u =
-    let k = stream-singly w t in
-    let l = stream-singly w u in
-    (k .outcomes-are ∙ sym (l .outcomes-are), k .reader-is ∙ sym (l .reader-is))
+stream-alike {r} {last} {last′} {stream} {outcomes} {outcomes′} w t u =
+    singly-agree turnOf r stream outcomes outcomes′ last last′ (stream-singly w t) (stream-singly w u)

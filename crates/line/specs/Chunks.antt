@@ -11,7 +11,7 @@ use Rattle.answer.specs.Answer.{result}
 use Rattle.frame.specs.Frame.{Frame, wireOf}
 use Rattle.candidate.specs.Outcome.{Outcome, nothing, judged}
 use Rattle.line.specs.Rowing.{mostBytes, full}
-use Rattle.line.specs.Reader.{outcomeAt, nextAfter}
+use Rattle.line.specs.Reader.{turnOf}
 use Rattle.line.specs.declared.LineReader.{LineReader}
 
 -- ---- how far a chunk is taken
@@ -48,13 +48,14 @@ toldBytes taken a = byByte (standsFor taken a) a
 abbrev pub toldAlone : Frame → List (Located Outcome)
 toldAlone f = byByte (length (wireOf f)) (located 0 (judged (result f)))
 
--- A call was given several, and the first of them, so many, have the outcomes and leave the reader that they do singly.
+-- A call that was given several took the first `taken` of them; its outcomes, and the reader that it left, are theirs
+-- singly.
 abbrev pub TakesFirst : LineReader → (given : List Call) → (taken : ℕ) → List (Located Outcome) → LineReader → Type 0
-TakesFirst r given taken outcomes next = FirstSingly outcomeAt nextAfter r given taken outcomes next
+TakesFirst r given taken outcomes next = FirstSingly turnOf r given taken outcomes next
 
 -- The outcomes and the last reader of calls made singly: each byte by itself, and each finish.
 abbrev pub AsSingly : LineReader → (calls : List Call) → List (Located Outcome) → (last : LineReader) → Type 0
-AsSingly r calls outcomes last = Singly outcomeAt nextAfter r calls outcomes last
+AsSingly r calls outcomes last = Singly turnOf r calls outcomes last
 
 -- ---- a full reader
 

@@ -32,7 +32,7 @@ feedOf r (b ∷ bs) =
     (laterBy 1 (feedOf (stepOf r b .next) bs)))
     (noTurn r)
 
--- What a call on a chunk gives. Of more than 65,536 bytes it takes no more than so many. It is answered 16 only where
+-- What a call on a chunk gives. One of more than 65,536 bytes is cut to its first 65,536. It is answered 16 only where
 -- the reader can't take its first byte.
 abbrev pub chunkOf : LineReader → List ℕ → ChunkTurn
 chunkOf r [] = noTurn r

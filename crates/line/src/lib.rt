@@ -11,7 +11,7 @@ use frame::Origin;
 use frame::flags;
 ghost use mathlib.Core.Path.{_≡_};
 ghost use mathlib.Core.List.{List};
-ghost use Prim.Native.Nat.{ℕ, _+_, _≤_, _<_};
+ghost use Prim.Native.Nat.{ℕ, _+_, _≤_};
 ghost use lib.ListN.{take};
 ghost use Rattle.lists.specs.Machine.{turn};
 ghost use Rattle.framing.specs.Located.{located};

@@ -41,7 +41,7 @@ pub left-keeps : {S C : Type 0} (next : S → C → S) (R : S → Type 0) → ((
 left-keeps next R each s [] k = k
 left-keeps next R each s (c ∷ calls) k = left-keeps next R each (next s c) calls (each s c k)
 
--- What every answer has where R is kept, all answers of a run have.
+-- Where every call keeps R and its answer has P, all answers of a run from a state of R have P.
 pub run-every : {S C A : Type 0} (answer : S → C → A) (next : S → C → S) (R : S → Type 0) (P : A → Type 0)
     → ((s : S) (c : C) → R s → R (next s c) × P (answer s c)) → (s : S) (calls : List C) → R s
     → Every P (run answer next s calls)

@@ -11,6 +11,7 @@ use borrow.Author.Tests.{le-ltb, ltb-true, ltb-false, eqb-false, ne-eqb}
 use Rattle.lists.specs.Choice.{pick, countBefore}
 use Rattle.lists.proofs.Cases.{by-bool}
 use Rattle.framing.specs.Located.{Located, unlocated, located, answerIn, positionIn}
+use Rattle.framing.proofs.Chunk.{cut-some}
 use Rattle.framing.specs.Chunk.{fedTurn, laterBy, chunkLimit, cutChunk}
 use Rattle.frame.specs.Flags.{roleOf}
 use Rattle.candidate.specs.Outcome.{Outcome, nothing, judged, toldMeans}
@@ -227,10 +228,6 @@ feed-some r (b ∷ bytes) room h =
         → 0 < pick q (fedTurn (stepOf r b .answer) (stepOf r b .next) 1) (laterBy 1 f) .taken
     by-answer true f = omega arith
     by-answer false f = omega arith
-
-cut-some : (s : List ℕ) → 0 < length s → 0 < length (cutChunk s)
-cut-some [] h = absurd (omega arith)
-cut-some (b ∷ s) h = omega arith
 
 -- ---- a chunk, of which one byte is passed over where the reader is full
 

@@ -3,10 +3,9 @@ use native.Mathlib.Omega.{arith}
 use lib.ListN.{take, drop}
 use Prim.Native.Nat.{_-_}
 use Rattle.coscom_line.specs.Reader.{lentReader, readerOf}
-use Rattle.coscom_line.specs.Private.{afterRun}
+use Rattle.coscom_line.specs.Private.{endsRun, afterRun}
 use Rattle.coscom_line.specs.declared.Mode.{Mode}
 use Rattle.framing.proofs.Chunk.{run-inside}
-use Rattle.coscom_line.specs.Private.{endsRun}
 use Rattle.coscom_line.proofs.ReaderLaws.{isHeld}
 use Rattle.coscom_line.proofs.RunLaws.{stays, run-reaches, unheld-run}
 use borrow.Author.Needs.{needs}
