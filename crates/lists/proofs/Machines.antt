@@ -1,14 +1,12 @@
 -- Laws of a machine run on a list of calls.
 use mathlib.Core.Path.{_≡_, refl, sym, ap, ap₂, _∙_, subst}
-use mathlib.Core.Bool.{Bool, true, false}
 use mathlib.Core.List.{List, [], _∷_, _++_, map, append-assoc}
 use Prim.Native.Nat.{ℕ, suc, _≤_}
 use lib.ListN.{length, take, drop, take-append-drop}
 use lib.Seq.{drop-append-le}
-use Rattle.lists.specs.Machine.{run, leftAfter, only, answersOnly, Ran, ended, call, RanBy, ended-by, call-by}
+use Rattle.lists.specs.Machine.{run, leftAfter, Ran, ended, call, RanBy, ended-by, call-by}
 use Rattle.lists.specs.Machine.{Through, ended-through, call-through}
 use Rattle.lists.specs.Choice.{Every}
-use Rattle.lists.proofs.Cases.{by-bool}
 
 -- ---- one machine
 
@@ -82,21 +80,6 @@ module _ {S T C A : Type 0} (answer : S → C → A) (next : S → C → S) (ans
       any : (cs : List C) → Every (λ c. Unit {0}) cs
       any [] = tt
       any (c ∷ cs) = (tt, any cs)
-
--- Where one machine answers the calls that pass a test as another does, and no other call changes what relates them,
--- its answers to those calls are the other's to them alone.
-module _ {S T C A : Type 0} (p : C → Bool) (answer : S → C → A) (next : S → C → S) (answer′ : T → C → A)
-    (next′ : T → C → T) (R : S → T → Type 0)
-    (own : (s : S) (t : T) (c : C) → p c ≡ true → R s t → (answer s c ≡ answer′ t c) × R (next s c) (next′ t c))
-    (other : (s : S) (t : T) (c : C) → p c ≡ false → R s t → R (next s c) t) where
-  pub only-run : (s : S) (t : T) → R s t → (calls : List C)
-      → answersOnly p calls (run answer next s calls) ≡ run answer′ next′ t (only p calls)
-  only-run s t r [] = refl
-  only-run s t r (c ∷ calls) =
-      by-bool (p c)
-      (λ y. let k = own s t c y r in
-      simp y (ap₂ (λ (x : A) (xs : List A). x ∷ xs) (k .0) (only-run (next s c) (next′ t c) (k .1) calls)))
-      (λ n. simp n (only-run (next s c) t (other s t c n r) calls))
 
 -- ---- calls known by what is known of each
 

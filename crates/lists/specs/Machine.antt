@@ -30,12 +30,6 @@ abbrev pub only : {C : Type 0} → (C → Bool) → List C → List C
 only p [] = []
 only p (c ∷ calls) = pick (p c) (c ∷ only p calls) (only p calls)
 
--- Of the answers to calls, those to the calls that pass a test.
-abbrev pub answersOnly : {C A : Type 0} → (C → Bool) → List C → List A → List A
-answersOnly p [] answers = []
-answersOnly p (c ∷ calls) [] = []
-answersOnly p (c ∷ calls) (a ∷ answers) = pick (p c) (a ∷ answersOnly p calls answers) (answersOnly p calls answers)
-
 -- ---- calls known by nothing but what is known of each
 
 -- `called s c a t`: the call c on the state s was answered a and left the state t.
