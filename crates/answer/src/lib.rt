@@ -1,10 +1,12 @@
 // What every entry point answers: a result, or one refusal of document 01's table ("Refusal numbers"); and what every
 // writer answers.
+#![tactic(auto)]
+
 ghost use Rattle.std.specs.Prelude.{◌≡◌};
 ghost use Rattle.answer.specs.Refusals.{number_of};
 
 // A variant for each number of the table.
-#[derive(Drop)]
+#[derive(Clone, Copy)]
 pub enum Refusal {
     // The output is shorter than the result.
     NoRoom,
@@ -47,7 +49,7 @@ pub enum Refusal {
 }
 
 // The answer to writing: how many bytes were written, or why none was.
-#[derive(Drop)]
+#[derive(Clone, Copy)]
 pub enum Written {
     Length(usize),
     Refused(Refusal),

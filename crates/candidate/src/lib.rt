@@ -25,7 +25,7 @@ const ROOM: usize = 118;
 const FRESH: usize = 0;
 
 // What a call tells. A frame's contents are the first bytes of an array beside it.
-#[derive(Drop)]
+#[derive(Clone, Copy)]
 pub enum Told {
     Nothing,
     Refused(Refusal),
@@ -34,7 +34,7 @@ pub enum Told {
 }
 
 // Outside of any candidate; in a standard or an extended one; in one that is too long to be a frame, which is not held.
-#[derive(Drop)]
+#[derive(Clone, Copy)]
 pub enum Mode {
     Outside,
     InStandard,
@@ -44,7 +44,7 @@ pub enum Mode {
 
 // What is held: how many bytes of an array, the mode, and where the bytes come from, which no call changes. A length over
 // 118 counts as 118, so every value is one.
-#[derive(Drop)]
+#[derive(Clone, Copy)]
 pub struct Held {
     pub len: usize,
     pub mode: Mode,
@@ -53,7 +53,7 @@ pub struct Held {
 
 // The answer to a call over a lent array, and what is held afterwards. Where a frame is told, its contents stand first in
 // the array.
-#[derive(Drop)]
+#[derive(Clone, Copy)]
 pub struct HeldStep {
     pub told: Told,
     pub held: Held,
@@ -62,7 +62,7 @@ pub struct HeldStep {
 // The answer to a chunk over a lent array, what is held afterwards, and how many bytes of the chunk were taken. `began` is
 // how many there are up to and with the last start flag before the byte that is answered, and `opened` up to and with the
 // last of all that were taken; each is 0 where there is none.
-#[derive(Drop)]
+#[derive(Clone, Copy)]
 pub struct HeldChunk {
     pub told: Told,
     pub held: Held,

@@ -10,7 +10,7 @@ use crate::{Held, Mode};
 use frame::{Origin, flags};
 
 // Where a run ends, and what is held there.
-#[derive(Drop)]
+#[derive(Clone, Copy)]
 pub(crate) struct Consumed {
     pub(crate) at: usize,
     pub(crate) held: Held,

@@ -11,7 +11,7 @@ use frame::{Origin, Read};
 const WHOLE_LIMIT: usize = 120;
 
 // What is told of a candidate, and how many bytes it has with its flags; 0 where there is none.
-#[derive(Drop)]
+#[derive(Clone, Copy)]
 pub(crate) struct Judged {
     pub(crate) told: Told,
     pub(crate) taken: usize,

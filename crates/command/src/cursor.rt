@@ -10,14 +10,14 @@ use crate::entries::Found;
 use crate::traversal;
 
 // A list of commands, a frame's contents or a wrapper's data, and an index in it. Every index has an answer.
-#[derive(Drop)]
+#[derive(Clone, Copy)]
 pub struct CommandCursor<'a> {
     pub contents: &'a [u8],
     pub at: usize,
 }
 
 // What one step tells: the command at an index, and the index after it, or the same index where the command is refused.
-#[derive(Drop)]
+#[derive(Clone, Copy)]
 pub struct CommandStep {
     pub found: Found,
     pub next: usize,

@@ -13,14 +13,14 @@ use answer::Refusal;
 pub const COMMANDS: usize = 0x80;
 
 // An index in contents, between two entries.
-#[derive(Drop)]
+#[derive(Clone, Copy)]
 pub struct Cursor {
     pub at: usize,
 }
 
 // What stands at a cursor: an entry's byte, where its data starts, how long it is, and the cursor after it. `Broken` is
 // an entry whose count is missing or goes beyond the end.
-#[derive(Drop)]
+#[derive(Clone, Copy)]
 pub enum Step {
     End,
     Broken,
@@ -33,7 +33,7 @@ pub enum Step {
 }
 
 // An entry's byte, where its data starts in the contents and how long it is; or why there is none.
-#[derive(Drop)]
+#[derive(Clone, Copy)]
 pub enum Found {
     At { byte: u8, start: usize, len: usize },
     Refused(Refusal),
@@ -41,7 +41,7 @@ pub enum Found {
 
 // How many entries there are, where all counts are sound; else the index in the contents of the byte of the entry that
 // fails.
-#[derive(Drop)]
+#[derive(Clone, Copy)]
 pub enum Counted {
     Unsound { at: usize },
     Entries(usize),

@@ -1,6 +1,8 @@
 // Command lists: the n-th command at the top or inside a wrapper, its data as a part of the caller's contents, and
 // whether contents stop a workout.
 // Document 01, "Commands and replies".
+#![tactic(auto)]
+
 pub mod cursor;
 pub mod entries;
 pub mod stop;

@@ -16,7 +16,7 @@ const TERMINATE: u8 = 0x13;
 const IN_UNSOUND: bool = false;
 
 // What is sought in a list: in the top list a wrapper that holds the command, in a wrapper's list the command.
-#[derive(Drop)]
+#[derive(Clone, Copy)]
 enum Sought {
     Wrapper,
     Terminate,

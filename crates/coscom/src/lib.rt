@@ -1,5 +1,7 @@
 // Treadmill packets: one packet written, one slice read, and the bytes between two flags judged. Document 02, No. 3;
 // source document 003.
+#![tactic(auto)]
+
 mod check;
 
 ghost use Rattle.std.specs.Prelude.{◌≡◌, [], ◌∷◌, ◌+◌, ◌/◌, ◌%◌, ◌≤◌, length, take};
@@ -35,7 +37,7 @@ const BEFORE_UNIT: usize = 4;
 const FEWEST: usize = 5;
 
 // The answer to reading: the header and the number of bytes of the data unit, or why it was refused.
-#[derive(Drop)]
+#[derive(Clone, Copy)]
 pub enum Read {
     Packet {
         letter: u8,

@@ -28,7 +28,7 @@ const ROOM: usize = 254;
 const FRESH: usize = 0;
 
 // What a call tells. A packet's data unit is the first bytes of an array beside it.
-#[derive(Drop)]
+#[derive(Clone, Copy)]
 pub enum Told {
     Nothing,
     Refused(Refusal),
@@ -41,7 +41,7 @@ pub enum Told {
 }
 
 // Outside of any candidate; in one; in one that is too long to be a packet, which is not held.
-#[derive(Drop)]
+#[derive(Clone, Copy)]
 pub enum Mode {
     Outside,
     Inside,
@@ -50,28 +50,28 @@ pub enum Mode {
 
 // A line reader without its array: how many bytes are held, and the mode. A length over 254 counts as 254, so every
 // value is a state.
-#[derive(Drop)]
+#[derive(Clone, Copy)]
 pub struct State {
     pub len: usize,
     pub mode: Mode,
 }
 
 // Every value of the struct is a reader.
-#[derive(Drop)]
+#[derive(Clone, Copy)]
 pub struct LineReader {
     pub bytes: [u8; 254],
     pub state: State,
 }
 
 // The answer to a call. The array holds a packet's data unit, and zeros after it; where no packet is told, zeros alone.
-#[derive(Drop)]
+#[derive(Clone, Copy)]
 pub struct StepAnswer {
     pub told: Told,
     pub unit: [u8; 254],
 }
 
 // The answer to a call, and the reader afterwards.
-#[derive(Drop)]
+#[derive(Clone, Copy)]
 pub struct Stepped {
     pub answer: StepAnswer,
     pub next: LineReader,
@@ -79,14 +79,14 @@ pub struct Stepped {
 
 // The answer to a call over a lent array, and the state afterwards. The array holds the reader's bytes and, where a
 // packet is told, its data unit first.
-#[derive(Drop)]
+#[derive(Clone, Copy)]
 pub struct LentStep {
     pub told: Told,
     pub state: State,
 }
 
 // The answer to a chunk over a lent array, the state afterwards, and how many bytes of the chunk were taken.
-#[derive(Drop)]
+#[derive(Clone, Copy)]
 pub struct ChunkStep {
     pub told: Told,
     pub state: State,
@@ -95,14 +95,14 @@ pub struct ChunkStep {
 
 // The answer to a chunk, and how many of its bytes were taken. A packet's data unit is the first bytes of the array in
 // the reader afterwards.
-#[derive(Drop)]
+#[derive(Clone, Copy)]
 pub struct ChunkAnswer {
     pub told: Told,
     pub taken: usize,
 }
 
 // The answer to a chunk, and the reader afterwards.
-#[derive(Drop)]
+#[derive(Clone, Copy)]
 pub struct ChunkFed {
     pub answer: ChunkAnswer,
     pub next: LineReader,

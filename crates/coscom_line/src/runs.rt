@@ -8,7 +8,7 @@ ghost use Rattle.coscom_line.specs.Private.{ends_run, Reaches, after_run};
 use crate::{Mode, State};
 
 // Where a run ends, and the state there.
-#[derive(Drop)]
+#[derive(Clone, Copy)]
 pub(crate) struct Consumed {
     pub(crate) at: usize,
     pub(crate) state: State,

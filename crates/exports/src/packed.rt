@@ -28,7 +28,7 @@ const UNTOLD: u8 = 2;
 const NONE: u8 = 0;
 
 // The answer's fields, the number in the lowest bits.
-#[derive(Drop)]
+#[derive(Clone, Copy)]
 struct Fields {
     number: u8,
     kind: u8,

@@ -4,7 +4,7 @@ ghost use Rattle.lists.specs.Choice.{pick, within, none_of};
 ghost use Rattle.frame.specs.Checksum.{checksum};
 
 // What one pass over bytes finds: whether none lies between two values, and their exclusive or.
-#[derive(Drop)]
+#[derive(Clone, Copy)]
 pub(crate) struct Looked {
     pub clear: bool,
     pub sum: u8,

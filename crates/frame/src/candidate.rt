@@ -23,7 +23,7 @@ pub(crate) const BODY_LIMIT: usize = 118;
 const ESCAPED_LIMIT: u8 = 3;
 
 // The unstuffed byte at an index of stuffed bytes, and the index after it.
-#[derive(Drop)]
+#[derive(Clone, Copy)]
 pub(crate) enum Next {
     End,
     Bad,
@@ -32,7 +32,7 @@ pub(crate) enum Next {
 
 // What stuffed bytes are: with a flag among them; with an unsound escape; or so many unstuffed bytes with this exclusive
 // or.
-#[derive(Drop)]
+#[derive(Clone, Copy)]
 pub(crate) enum Scan {
     Flagged,
     Fault,
@@ -41,7 +41,7 @@ pub(crate) enum Scan {
 
 // What one pass over stuffed bytes finds: marks for flags and for unsound escapes, the number of escapes, and the
 // exclusive or with an escape taken as F0.
-#[derive(Drop)]
+#[derive(Clone, Copy)]
 pub(crate) struct Tally {
     pub(crate) flags: u8,
     pub(crate) unsound: u8,
@@ -50,14 +50,14 @@ pub(crate) struct Tally {
 }
 
 // The number of unstuffed bytes after the addresses, and their exclusive or.
-#[derive(Drop)]
+#[derive(Clone, Copy)]
 pub(crate) struct Rest {
     pub(crate) len: usize,
     pub(crate) sum: u8,
 }
 
 // The addresses at the start of a body, and the index after them.
-#[derive(Drop)]
+#[derive(Clone, Copy)]
 pub(crate) enum Addresses {
     Broken,
     Missing,
@@ -65,7 +65,7 @@ pub(crate) enum Addresses {
 }
 
 // A refusal; or the header, the index of the stuffed contents and their number unstuffed.
-#[derive(Drop)]
+#[derive(Clone, Copy)]
 pub(crate) enum Examined {
     Unsound(Refusal),
     Sound {

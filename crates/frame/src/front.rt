@@ -13,7 +13,7 @@ use crate::{bytes, flags};
 const SMALL_BLOCK: usize = 8;
 
 // How many bytes stand before the first F0 to F3, and their exclusive or.
-#[derive(Drop)]
+#[derive(Clone, Copy)]
 pub(crate) struct PlainRun {
     pub(crate) at: usize,
     pub(crate) sum: u8,

@@ -1,5 +1,7 @@
 // CSAFE frames: one slice read, and the bytes between two flags judged.
 // Document 01, "Frames on the wire"; document 02, No. 9.
+#![tactic(auto)]
+
 pub mod address;
 mod bytes;
 mod candidate;
@@ -23,28 +25,28 @@ use candidate::Examined;
 
 // Where bytes come from, or are to go: the line as it is, or a trace that was kept of one. Live, standard frames are
 // refused, because they name no sender.
-#[derive(Drop)]
+#[derive(Clone, Copy)]
 pub enum Origin {
     Live,
     Trace,
 }
 
 // The two kinds of frame.
-#[derive(Drop)]
+#[derive(Clone, Copy)]
 pub enum Kind {
     Standard,
     Extended,
 }
 
 // The kind of a frame with its addresses, which only an extended one has.
-#[derive(Drop)]
+#[derive(Clone, Copy)]
 pub enum Header {
     Plain,
     Addressed { to: u8, from: u8 },
 }
 
 // The answer to reading: the kind of frame, its addresses and the number of its contents bytes, or why it was refused.
-#[derive(Drop)]
+#[derive(Clone, Copy)]
 pub enum Read {
     Standard { len: usize },
     Extended { to: u8, from: u8, len: usize },
@@ -53,7 +55,7 @@ pub enum Read {
 
 // The answer to reading the candidate that a slice begins with, and how many bytes it has with its flags. A slice that
 // begins with no closed candidate has 0 bytes taken and is refused with 6.
-#[derive(Drop)]
+#[derive(Clone, Copy)]
 pub struct Leading {
     pub read: Read,
     pub taken: usize,

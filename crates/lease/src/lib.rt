@@ -24,20 +24,20 @@ const TERMINATE: u64 = 0x02_01_02_13_04_76;
 const TERMINATE_WIDTH: usize = 6;
 
 // What hold and release answer.
-#[derive(Drop)]
+#[derive(Clone, Copy)]
 pub enum LeaseAnswer {
     Done,
     Refused(Refusal),
 }
 
 // One token for each of 256 addresses, 0 for free (document 01: the desk and its passes).
-#[derive(Drop)]
+#[derive(Clone, Copy)]
 pub struct LeaseTable {
     pub tokens: [u64; 256],
 }
 
 // An answer, and the table afterwards.
-#[derive(Drop)]
+#[derive(Clone, Copy)]
 pub struct Leased {
     pub answer: LeaseAnswer,
     pub table: LeaseTable,

@@ -25,7 +25,7 @@ pub const LIMIT: u32 = 4294967295;
 
 // A line reader without its array: what is held of the open candidate, the position of the last start flag, and how many
 // bytes were taken since the reader was new or finished. Every value is a state.
-#[derive(Drop)]
+#[derive(Clone, Copy)]
 pub struct State {
     pub held: Held,
     pub start: u32,
@@ -33,7 +33,7 @@ pub struct State {
 }
 
 // Every value of the struct is a reader.
-#[derive(Drop)]
+#[derive(Clone, Copy)]
 pub struct LineReader {
     pub bytes: [u8; 118],
     pub state: State,
@@ -41,7 +41,7 @@ pub struct LineReader {
 
 // The answer to a call, and its position: that of the candidate's start flag, 0 where nothing is told and for 16. The
 // array holds a frame's contents, and zeros after them; where no frame is told, zeros alone.
-#[derive(Drop)]
+#[derive(Clone, Copy)]
 pub struct StepAnswer {
     pub told: Told,
     pub position: u32,
@@ -49,7 +49,7 @@ pub struct StepAnswer {
 }
 
 // The answer to a call, and the reader afterwards.
-#[derive(Drop)]
+#[derive(Clone, Copy)]
 pub struct Stepped {
     pub answer: StepAnswer,
     pub next: LineReader,
@@ -57,7 +57,7 @@ pub struct Stepped {
 
 // The answer to a call over a lent array, its position, and the state afterwards. The array holds the reader's bytes and,
 // where a frame is told, its contents first.
-#[derive(Drop)]
+#[derive(Clone, Copy)]
 pub struct LentStep {
     pub told: Told,
     pub position: u32,
@@ -65,7 +65,7 @@ pub struct LentStep {
 }
 
 // The answer to a chunk over a lent array, its position, the state afterwards, and how many bytes of the chunk were taken.
-#[derive(Drop)]
+#[derive(Clone, Copy)]
 pub struct ChunkStep {
     pub told: Told,
     pub position: u32,
@@ -75,7 +75,7 @@ pub struct ChunkStep {
 
 // The answer to a chunk, its position, and how many of its bytes were taken. A frame's contents are the first bytes of
 // the array in the reader afterwards.
-#[derive(Drop)]
+#[derive(Clone, Copy)]
 pub struct ChunkAnswer {
     pub told: Told,
     pub position: u32,
@@ -83,7 +83,7 @@ pub struct ChunkAnswer {
 }
 
 // The answer to a chunk, and the reader afterwards.
-#[derive(Drop)]
+#[derive(Clone, Copy)]
 pub struct ChunkFed {
     pub answer: ChunkAnswer,
     pub next: LineReader,

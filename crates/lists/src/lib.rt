@@ -1,6 +1,8 @@
 // Definitions and laws on lists that the layers above share: a choice by a test, a test on every element, a list put
 // into another from an index on, a part brought to the front, zeros from an index on, the first element that passes a
 // test, and a machine run on a list of calls.
+#![tactic(auto)]
+
 ghost use Rattle.std.specs.Prelude.{◌≡◌, ◌++◌, ◌+◌, ◌%◌, ◌≤◌, ◌<◌, leb, length, take, drop};
 ghost use Rattle.lists.specs.Choice.{pick, within, none_of, count_before, in_blocks};
 ghost use Rattle.lists.specs.Splice.{splice, copied, shifted, cleared};

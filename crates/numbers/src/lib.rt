@@ -1,5 +1,7 @@
 // A number of several bytes in a list, lowest byte first: definitions and laws at any width and index, and the functions
 // that read one.
+#![tactic(auto)]
+
 ghost use Rattle.std.specs.Prelude.{◌≡◌, ◌+◌, ◌≤◌, leb, get_or, length};
 ghost use Rattle.lists.specs.Choice.{pick};
 ghost use Rattle.numbers.specs.Number.{number};

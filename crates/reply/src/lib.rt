@@ -30,7 +30,7 @@ const REPLY_LIMIT: usize = 117;
 const DATA_LIMIT: usize = 255;
 
 // A reply's status and the number of its items, or why it was refused.
-#[derive(Drop)]
+#[derive(Clone, Copy)]
 pub enum ReplyRead {
     Reply { status: Status, items: usize },
     Refused(Refusal),

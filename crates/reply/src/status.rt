@@ -6,7 +6,7 @@ ghost use Rattle.reply.specs.Status.{status_byte};
 use answer::Refusal;
 
 // A machine's state, what it made of the previous frame, and the toggle. Only `of` makes one, so that none is unsound.
-#[derive(Drop)]
+#[derive(Clone, Copy)]
 pub struct Status {
     toggle: bool,
     previous: u8,
@@ -14,7 +14,7 @@ pub struct Status {
 }
 
 // A status, or why there is none.
-#[derive(Drop)]
+#[derive(Clone, Copy)]
 pub enum StatusRead {
     Status(Status),
     Refused(Refusal),

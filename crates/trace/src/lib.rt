@@ -22,7 +22,7 @@ use line::{ChunkStep, LineReader, State};
 const LAST_ROOM: usize = text::LINE_ROOM + text::TOTALS_ROOM;
 
 // The line reader, and how many frames, refusals and stray bytes there were. The counts wrap at 2^64.
-#[derive(Drop)]
+#[derive(Clone, Copy)]
 pub struct Listing {
     pub reader: LineReader,
     pub frames: u64,
@@ -31,7 +31,7 @@ pub struct Listing {
 }
 
 // How many bytes of a chunk were taken, how many were written, and the state afterwards.
-#[derive(Drop)]
+#[derive(Clone, Copy)]
 pub struct Listed {
     pub taken: usize,
     pub wrote: usize,
@@ -39,7 +39,7 @@ pub struct Listed {
 }
 
 // A state without its array.
-#[derive(Drop)]
+#[derive(Clone, Copy)]
 struct Tally {
     state: State,
     frames: u64,
@@ -48,7 +48,7 @@ struct Tally {
 }
 
 // How many bytes were taken, the index after the line that they gave, and the state without its array.
-#[derive(Drop)]
+#[derive(Clone, Copy)]
 struct Advanced {
     taken: usize,
     at: usize,
@@ -56,7 +56,7 @@ struct Advanced {
 }
 
 // What a chunk gives, and how many of the bytes taken are stray.
-#[derive(Drop)]
+#[derive(Clone, Copy)]
 struct Fed {
     step: ChunkStep,
     strays: u64,

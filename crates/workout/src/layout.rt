@@ -47,14 +47,14 @@ const HOUR: u32 = 3600;
 
 const MINUTE: u32 = 60;
 
-#[derive(Drop)]
+#[derive(Clone, Copy)]
 pub(crate) enum GoalKind {
     Distance,
     Time,
 }
 
 // A goal's three bytes: a distance low, high and its unit, or hours, minutes and seconds.
-#[derive(Drop)]
+#[derive(Clone, Copy)]
 pub(crate) struct GoalBytes(pub(crate) u8, pub(crate) u8, pub(crate) u8);
 
 // The kind of goal that a command byte sets.

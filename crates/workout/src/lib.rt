@@ -22,32 +22,32 @@ const CLOCK_LIMIT: u8 = 59;
 // The host's address, which the frame of a workout names as its sender.
 const HOST: u8 = 0x00;
 
-#[derive(Drop)]
+#[derive(Clone, Copy)]
 pub struct Metres(pub u32);
 
-#[derive(Drop)]
+#[derive(Clone, Copy)]
 pub struct Seconds(pub u32);
 
 // Hundredths of a second.
-#[derive(Drop)]
+#[derive(Clone, Copy)]
 pub struct Hundredths(pub u32);
 
 // What is to be rowed: a distance with splits in metres, or a time with splits in hundredths of a second.
-#[derive(Drop)]
+#[derive(Clone, Copy)]
 pub enum Goal {
     Distance { goal: Metres, split: Metres },
     Time { goal: Seconds, split: Hundredths },
 }
 
 // A goal, and the power to row it at.
-#[derive(Drop)]
+#[derive(Clone, Copy)]
 pub struct Workout {
     pub goal: Goal,
     pub watts: u16,
 }
 
 // The answer to reading: the workout, or why the contents were refused.
-#[derive(Drop)]
+#[derive(Clone, Copy)]
 pub enum WorkoutRead {
     Workout(Workout),
     Refused(Refusal),

@@ -7,7 +7,7 @@ ghost use Rattle.workout.specs.Private.{goal_limits_of, limits_of, Divisible};
 use crate::{Goal, Workout};
 
 // The limits on one kind of goal: on the goal in its own unit, and on the split in the split's unit.
-#[derive(Drop)]
+#[derive(Clone, Copy)]
 pub(crate) struct GoalLimits {
     pub(crate) least: u32,
     pub(crate) most: u32,
@@ -16,7 +16,7 @@ pub(crate) struct GoalLimits {
 }
 
 // The limits on a distance in metres, on a time in seconds with a split in hundredths, and on the number of splits.
-#[derive(Drop)]
+#[derive(Clone, Copy)]
 pub(crate) struct Limits {
     pub(crate) distance: GoalLimits,
     pub(crate) time: GoalLimits,

@@ -4,7 +4,7 @@ ghost use Rattle.lists.specs.Choice.{within, count_of};
 ghost use Rattle.frame.specs.Checksum.{checksum};
 
 // What a pass that counts finds: how many bytes lie between two values, and the exclusive or of all.
-#[derive(Drop)]
+#[derive(Clone, Copy)]
 pub(crate) struct Counted {
     pub count: u8,
     pub sum: u8,

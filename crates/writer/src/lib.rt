@@ -16,7 +16,7 @@ use frame::{Header, Origin};
 use measure::Measured;
 
 // The answer to measuring: how many bytes a frame takes on the wire, or why it can't be sent.
-#[derive(Drop)]
+#[derive(Clone, Copy)]
 pub enum WireLength {
     Bytes(usize),
     Refused(Refusal),

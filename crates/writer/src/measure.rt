@@ -19,7 +19,7 @@ const CONTENTS_LIMIT: usize = 117;
 
 // What measuring finds: that a frame is too long to be sent, or its checksum, how many bytes of its contents are sent as
 // two, and how many bytes the whole frame takes.
-#[derive(Drop)]
+#[derive(Clone, Copy)]
 pub(crate) enum Measured {
     TooLong,
     Fits { sum: u8, escapes: u8, len: usize },

@@ -1,0 +1,22 @@
+use mathlib.Core.Path.{sym, ap, ◌∙◌}
+use Rattle.coscom.specs.Answers.{read_means, judge_answer}
+use Rattle.coscom.proofs.VerdictLaws.{whole_flagged, whole_flagless}
+use Rattle.coscom.proofs.CodeLaws.{packet-flagless}
+use borrow.Author.Rules.{rules}
+use Rattle.coscom.proofs.check.is_flagless.Reads as is-flagless-reads
+use Rattle.coscom.proofs.judge_body.Reads as judge-body-reads
+use Rattle.coscom.proofs.examine.Goals as goal
+
+pub returns-then-is_flagless : goal.returns-then-is_flagless
+returns-then-is_flagless c =
+    sym (ap read_means c.found-1.given.1) ∙ c.judge_body-found.ensures
+    ∙ ap judge_answer (sym (whole_flagless _ (sym c.is_flagless.ensures ∙ c.if-is_flagless.true)))
+
+pub returns-else-is_flagless : goal.returns-else-is_flagless
+unfolding judge_answer
+returns-else-is_flagless c = ap judge_answer (sym (whole_flagged _ (sym c.is_flagless.ensures ∙ c.if-is_flagless.false)))
+
+pub returns-in-Packet : goal.returns-in-Packet
+returns-in-Packet c =
+    let e = sym (ap read_means c.found-in-Packet-1.given.1) ∙ c.judge_body-found.ensures in
+    e ∙ ap judge_answer (sym (whole_flagless _ (packet-flagless _ _ e)))

@@ -1,0 +1,124 @@
+use mathlib.Core.Path.{◌≡◌, sym, ap, ◌∙◌}
+use mathlib.Core.Bool.{true}
+use mathlib.Core.List.{List}
+use Prim.Native.Nat.{ℕ, ◌+◌, ◌-◌, ◌≤◌}
+use native.Mathlib.Omega.{arith}
+use lib.ListN.{length, take, drop}
+use borrow.Author.Tests.{not-true, not-false}
+use Rattle.answer.specs.Answer.{result}
+use Rattle.lists.specs.Splice.{copied}
+use Rattle.lists.proofs.Splices.{copied_fits}
+use Rattle.coscom.specs.Flags.{candidate_of}
+use Rattle.coscom.specs.Verdict.{is_bounded, verdict}
+use Rattle.coscom.specs.Answers.{PacketOutline, outline, read_means}
+use Rattle.coscom.proofs.VerdictLaws.{bounded_long, bounded_part, verdict_unbounded}
+use Rattle.coscom.proofs.CodeLaws.{ToldIn, told_means_lem, refused_means, read_refused, read_no_room, read_done}
+use borrow.Author.Rules.{rules}
+use Rattle.coscom.proofs.check.is_bounded.Reads as is-bounded-reads
+use Rattle.coscom.proofs.examine.Reads as examine-reads
+use Rattle.lists.proofs.copy.Reads as copy-reads
+use Rattle.coscom.proofs.read_packet.Goals as goal
+use Rattle.coscom.proofs.read_packet.Tie as tie
+
+abbrev W : tie.Else-not-is_bounded → List ℕ
+W t = t.args.wire.now
+
+bounded : (t : tie.Else-not-is_bounded) → is_bounded (W t) ≡ true
+bounded t = sym t.is_bounded.ensures ∙ not-false _ t.if-not-is_bounded.false-raw
+
+-- what stands between the ends, as the code takes it
+abbrev Body : tie.Else-not-is_bounded → List ℕ
+Body t = take (length (W t) - 1 - 1) (drop 1 (W t))
+
+whole : (t : tie.Else-not-is_bounded) → verdict (candidate_of (Body t)) ≡ verdict (W t)
+whole t = bounded_part (W t) (bounded t)
+
+abbrev E : tie.In-Packet-2 → tie.Else-not-is_bounded
+E k = k.before.before.before.before
+
+abbrev Out : tie.In-Packet-2 → List ℕ
+Out k = (E k).before.before.before.before.args.out.now
+
+-- what was told of the packet
+abbrev O : tie.In-Packet-2 → PacketOutline
+O k = let g = k.found-in-Packet-1.given.0 in outline g.0 g.1.0 g.1.1.0 g.1.1.1.0
+
+told : (k : tie.In-Packet-2) → ToldIn (Body (E k)) (O k)
+told k =
+    told_means_lem (Body (E k)) (O k) (sym (ap read_means k.found-in-Packet-1.given.1) ∙ k.examine-found.ensures)
+
+pub returns-then-not-is_bounded-clause-result_value : goal.returns-then-not-is_bounded-clause-result_value
+returns-then-not-is_bounded-clause-result_value c =
+    let t =
+    read_refused _ c.args.out.now 6
+    (verdict_unbounded _ (sym c.is_bounded.ensures ∙ not-true _ c.if-not-is_bounded.true-raw)) in t.0
+
+pub returns-then-not-is_bounded-clause-out_after : goal.returns-then-not-is_bounded-clause-out_after
+returns-then-not-is_bounded-clause-out_after c =
+    let t =
+    read_refused _ c.args.out.now 6
+    (verdict_unbounded _ (sym c.is_bounded.ensures ∙ not-true _ c.if-not-is_bounded.true-raw)) in t.1
+
+pub overflow_sub-body : goal.overflow_sub-body
+overflow_sub-body c = let m = bounded_long (W c) (bounded c) in omega arith
+
+pub slice_bounds-body-count : goal.slice_bounds-body-count
+slice_bounds-body-count c = let m = bounded_long (W c) (bounded c) in omega arith
+
+pub slice_bounds-body-start : goal.slice_bounds-body-start
+slice_bounds-body-start c = let m = bounded_long (W c) (bounded c) in omega arith
+
+pub returns-then-out-len-clause-result_value : goal.returns-then-out-len-clause-result_value
+returns-then-out-len-clause-result_value c =
+    let k = c.before.before in
+    let u = told k in
+    let t =
+    read_no_room _ (Out k) u.packet_is (sym (whole (E k)) ∙ u.judged) (omega (arith, u.counted, c.if-out-len.true)) in t.0
+
+pub returns-then-out-len-clause-out_after : goal.returns-then-out-len-clause-out_after
+returns-then-out-len-clause-out_after c =
+    let k = c.before.before in
+    let u = told k in
+    let t =
+    read_no_room _ (Out k) u.packet_is (sym (whole (E k)) ∙ u.judged) (omega (arith, u.counted, c.if-out-len.true)) in t.1
+
+pub slice_bounds-copy-end : goal.slice_bounds-copy-end
+slice_bounds-copy-end c = let u = told c.before.before in omega (arith, u.fits)
+
+pub returns-in-Refused-clause-result_value : goal.returns-in-Refused-clause-result_value
+returns-in-Refused-clause-result_value c =
+    let t =
+    read_refused _ c.args.out.now _
+    (sym (whole c.before.before.before.before.before) ∙ refused_means _ _ (sym (ap read_means c.found-1.given.1) ∙ c.examine-found.ensures)) in t.0
+
+pub returns-in-Refused-clause-out_after : goal.returns-in-Refused-clause-out_after
+returns-in-Refused-clause-out_after c =
+    let t =
+    read_refused _ c.args.out.now _
+    (sym (whole c.before.before.before.before.before) ∙ refused_means _ _ (sym (ap read_means c.found-1.given.1) ∙ c.examine-found.ensures)) in t.1
+
+pub returns-else-out-len-clause-result_value : goal.returns-else-out-len-clause-result_value
+returns-else-out-len-clause-result_value c =
+    let k = c.before.before.before.before.before.before.before in
+    let u = told k in
+    let n : 3 + (O k).len - 3 ≡ (O k).len = omega arith in
+    let room : (O k).len ≤ length (Out k) = c.if-out-len.false in
+    let done =
+    read_done _ (Out k) u.packet_is _ (sym (whole (E k)) ∙ u.judged) (omega (arith, u.counted, room))
+    (copied_fits u.packet_is.unit (Out k) _ 0 (omega (arith, u.counted, room))
+    (c.copy.ensures
+    ∙ ap (λ (i : ℕ). copied (Out k) 0 (take i (drop 3 (Body (E k))))) n ∙ ap (copied (Out k) 0) (sym u.unit_is))) in
+    ap result (sym u.outline_is) ∙ done.0
+
+pub returns-else-out-len-clause-out_after : goal.returns-else-out-len-clause-out_after
+returns-else-out-len-clause-out_after c =
+    let k = c.before.before.before.before.before.before.before in
+    let u = told k in
+    let n : 3 + (O k).len - 3 ≡ (O k).len = omega arith in
+    let room : (O k).len ≤ length (Out k) = c.if-out-len.false in
+    let done =
+    read_done _ (Out k) u.packet_is _ (sym (whole (E k)) ∙ u.judged) (omega (arith, u.counted, room))
+    (copied_fits u.packet_is.unit (Out k) _ 0 (omega (arith, u.counted, room))
+    (c.copy.ensures
+    ∙ ap (λ (i : ℕ). copied (Out k) 0 (take i (drop 3 (Body (E k))))) n ∙ ap (copied (Out k) 0) (sym u.unit_is))) in
+    done.1

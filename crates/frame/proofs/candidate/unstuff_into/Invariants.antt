@@ -1,0 +1,19 @@
+use mathlib.Core.Path.{◌≡◌, refl, sym, subst}
+use Prim.Native.Nat.{ℕ, ◌+◌, ◌-◌, ◌≤◌}
+use mathlib.Core.Bool.{Bool, false}
+use mathlib.Core.List.{List}
+use native.Mathlib.Omega.{arith}
+use lib.ListN.{length, get_or, set}
+use Rattle.frame.specs.Stuffing.{unstuff}
+use Rattle.frame.specs.Private.{unstuffed_bytes, lifts, is_escape}
+use Rattle.frame.proofs.EscapeLaws.{sound_bytes}
+use Rattle.frame.proofs.UndoLaws.{Undone, undone_none, undone_place, undone_low, undone_more, undone_all, lift_fits, fill_most}
+use borrow.Author.Rules.{rules}
+use Rattle.frame.proofs.candidate.unstuff_into.Given as goal
+
+abbrev pub invariant-loop-i : goal.invariant-loop-i
+invariant-loop-i l =
+    (l.i ≤ length l.s) × ((pending : Bool) × (l.above ≡ lifts pending) × Undone l.s (U l.s) l.initial.out pending l.i l.k l.out)
+
+abbrev pub decreases-loop-i : goal.decreases-loop-i
+decreases-loop-i l = length l.s - l.i

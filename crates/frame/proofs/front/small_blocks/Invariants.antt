@@ -1,0 +1,14 @@
+use native.Mathlib.Omega.{arith}
+use lib.ListN.{length}
+use Prim.Native.Nat.{◌-◌}
+use borrow.Author.Tests.{not-false}
+use Rattle.frame.specs.Private.{PlainTo}
+use Rattle.frame.proofs.LeadingLaws.{plain_block}
+use borrow.Author.Rules.{rules}
+use Rattle.frame.proofs.front.small_blocks.Given as goal
+
+abbrev pub invariant-loop-i : goal.invariant-loop-i
+invariant-loop-i l = PlainTo l.s l.i l.sum
+
+abbrev pub decreases-loop-i : goal.decreases-loop-i
+decreases-loop-i l = length l.s - l.i

@@ -1,0 +1,14 @@
+use mathlib.Core.Path.{◌≡◌, refl, ◌∙◌}
+use mathlib.Core.List.{◌++◌}
+use Prim.Native.Nat.{◌-◌}
+use native.Mathlib.Omega.{arith}
+use lib.ListN.{length, take, replicate, length-set}
+use Rattle.lists.specs.Splice.{cleared}
+use Rattle.lists.proofs.Splices.{clear_more, clear_none, clear_all}
+use borrow.Author.Rules.{rules}
+use Rattle.lists.proofs.clear_from.Goals as goal
+
+pub loop-i-preserved : goal.loop-i-preserved
+loop-i-preserved c =
+    let l = c.loop-i in
+    (length-set l.s l.i 0 ∙ l.invariant.0, clear_more l.i l.s _ c.loop-i-test.true l.invariant.1)

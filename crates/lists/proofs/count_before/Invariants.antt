@@ -1,0 +1,16 @@
+use mathlib.Core.Path.{◌≡◌, sym}
+use native.Mathlib.Nat.{zero-add}
+use native.Mathlib.Omega.{arith}
+use lib.ListN.{length, drop}
+use Prim.Native.Nat.{◌+◌, ◌-◌, ◌≤◌}
+use Rattle.lists.specs.Choice.{within, count_before}
+use Rattle.lists.proofs.Before.{marked, unmarked, before_here, before_more, before_end}
+use borrow.Author.Rules.{rules}
+use Rattle.lists.proofs.count_before.Given as goal
+
+abbrev pub invariant-loop-i : goal.invariant-loop-i
+invariant-loop-i l =
+    (l.i ≤ length l.s) × (count_before (within l.low l.high) l.s ≡ l.i + count_before (within l.low l.high) (drop l.i l.s))
+
+abbrev pub decreases-loop-i : goal.decreases-loop-i
+decreases-loop-i l = length l.s - l.i

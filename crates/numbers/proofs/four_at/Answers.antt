@@ -1,0 +1,10 @@
+use Prim.Native.Nat.{◌+◌}
+use native.Mathlib.Omega.{arith}
+use Rattle.numbers.proofs.Numbers.{number-four}
+use borrow.Author.Rules.{rules}
+use Rattle.numbers.proofs.four_at.Goals as goal
+
+pub returns : goal.returns
+returns c =
+    let a = c.args in
+    number-four a.at a.s.now

@@ -1,0 +1,58 @@
+use borrow.Author.Tests.{leb-true}
+use native.Mathlib.Nat.{sub_self}
+use Rattle.numbers.specs.Number.{Bytes, number}
+use Rattle.lists.proofs.Cases.{by_bool}
+use Rattle.numbers.proofs.Numbers.{number_down, number_down_bound, number_all}
+use Rattle.lists.specs.Choice.{pick}
+use borrow.Author.Rules.{rules}
+use lib.Dec.{leb}
+use native.Mathlib.Omega.{arith}
+use Prim.Native.Nat.{ℕ, ◌+◌, ◌-◌, ◌^◌, ◌<◌, ◌≤◌}
+use mathlib.Core.Path.{◌≡◌, sym, ap, ◌∙◌}
+use Rattle.numbers.proofs.number_at.Goals as goal
+use Rattle.numbers.proofs.number_at.Goals as tie
+
+at-most-eight : (n : ℕ) → pick (leb n 8) n 8 ≤ 8
+at-most-eight n = by_bool (leb n 8) (λ y. simp y (omega (arith, leb-true n 8 y))) (λ y. simp y (omega arith))
+
+abbrev St : goal.Zfter-byte_at → goal.Ztart
+St c = c.before.before.before.before.before
+
+bytes : (c : tie.After-byte_at) → Bytes (St c).args.s.now
+bytes c i = (c.shared_slice_known-1.given i).fits
+
+-- what is read so far leaves room for a byte more
+below : (c : tie.After-byte_at) → c.loop-left.n < 256 ^ 7
+below c =
+    let a = (St c).args in
+    number_down_bound (pick (leb a.width 8) a.width 8) a.at c.loop-left.left c.loop-left.n 7 a.s.now
+    (bytes c) (omega (arith, c.loop-left-test.true, at-most-eight a.width)) c.loop-left.invariant.1
+
+byte : (c : tie.After-byte_at) → c.byte_at.result < 256
+byte c = rw c.byte_at.ensures (bytes c _)
+
+pub loop-left-init : goal.loop-left-init
+unfolding number
+loop-left-init c =
+    let a = c.args in (
+      omega (arith, c.lesser-left.ensures),
+      sym
+          (ap (λ (k : ℕ). number k (a.at + c.lesser-left.result) a.s.now)
+          (ap (λ (k : ℕ). pick (leb a.width 8) a.width 8 - k) c.lesser-left.ensures
+          ∙ sub_self (pick (leb a.width 8) a.width 8))),
+    )
+
+pub overflow_mul-n : goal.overflow_mul-n
+overflow_mul-n c = record { fits = omega (arith, below c) }
+
+pub overflow_add-n : goal.overflow_add-n
+overflow_add-n c = record { fits = omega (arith, below c, byte c) }
+
+pub loop-left-preserved : goal.loop-left-preserved
+loop-left-preserved c =
+    let a = (St c).args in (
+      search rules,
+      number_down (pick (leb a.width 8) a.width 8) a.at c.loop-left.left c.loop-left.n
+          c.byte_at.result a.s.now c.loop-left-test.true c.loop-left.invariant.0 c.loop-left.invariant.1
+          c.byte_at.ensures,
+    )
