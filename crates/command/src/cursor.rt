@@ -1,5 +1,5 @@
-// A cursor that stays on one frame's contents from command to command (document 01: "walker"). The borrow checker
-// covers no function that has one, so each takes it apart and calls a covered function of `traversal`.
+// A cursor that stays on one frame's contents from command to command (document 01: "walker"). Each of its functions
+// takes it apart and calls a function of `traversal`.
 ghost use Rattle.std.specs.Prelude.{◌≡◌};
 ghost use Rattle.command.specs.Answers.{found_means};
 ghost use Rattle.command.specs.Parts.{IsData};
@@ -59,7 +59,7 @@ impl<'a> CommandCursor<'a> {
     }
 }
 
-// One step of a cursor, for callers that hold the contents and an index: they need no proof by hand.
+// One step of a cursor, for callers that hold the contents and an index.
 pub fn step_from(contents: &[u8], at: usize) -> CommandStep
     ensures { (found_means result.found ≡ command_at contents.now at)
         × (result.next ≡ index_after contents.now at) }

@@ -9,7 +9,7 @@ pub mod stop;
 pub mod traversal;
 
 ghost use Rattle.std.specs.Prelude.{◌≡◌, ◌+◌, ◌≤◌, length};
-ghost use Rattle.answer.specs.Answer.{result};
+ghost use Rattle.answer.specs.Answer.{result as answered};
 ghost use Rattle.command.specs.Entries.{found};
 ghost use Rattle.command.specs.Answers.{found_means};
 ghost use Rattle.command.specs.Parts.{IsData};
@@ -21,7 +21,7 @@ use entries::{Cursor, Found};
 
 // The n-th command at the top. Refusals 7 and 15.
 pub fn nth(contents: &[u8], n: usize) -> Found
-    ensures* { λ r. ⌜ found_means r ≡ nth_command contents.now n ⌝ }
+    ensures { found_means result ≡ nth_command contents.now n }
 {
     let from = Cursor { at: 0 };
     entries::nth(entries::COMMANDS, contents, from, n)
@@ -29,7 +29,7 @@ pub fn nth(contents: &[u8], n: usize) -> Found
 
 // The data of the n-th command, as a part of the contents. Where `nth` refuses, it is the empty part at the beginning.
 pub fn nth_data(contents: &[u8], n: usize) -> &[u8]
-    ensures* { λ r. ⌜ IsData contents.entry r (nth_command contents.now n) ⌝ }
+    ensures { IsData contents.entry result (nth_command contents.now n) }
 {
     let found = nth(contents, n);
     entries::found_part(contents, found)
@@ -37,7 +37,7 @@ pub fn nth_data(contents: &[u8], n: usize) -> &[u8]
 
 // The n-th command inside the w-th at the top. Refusals 7 and 15.
 pub fn nth_inside(contents: &[u8], w: usize, n: usize) -> Found
-    ensures* { λ r. ⌜ found_means r ≡ nth_inside contents.now w n ⌝ }
+    ensures { found_means result ≡ nth_inside contents.now w n }
 {
     let outer = nth(contents, w);
     match outer {
@@ -49,7 +49,7 @@ pub fn nth_inside(contents: &[u8], w: usize, n: usize) -> Found
 // The data of the n-th command inside the w-th, as a part of the contents. Where `nth_inside` refuses, it is the empty
 // part at the beginning.
 pub fn nth_inside_data(contents: &[u8], w: usize, n: usize) -> &[u8]
-    ensures* { λ r. ⌜ IsData contents.entry r (nth_inside contents.now w n) ⌝ }
+    ensures { IsData contents.entry result (nth_inside contents.now w n) }
 {
     let found = nth_inside(contents, w, n);
     entries::found_part(contents, found)
@@ -57,7 +57,7 @@ pub fn nth_inside_data(contents: &[u8], w: usize, n: usize) -> &[u8]
 
 // Whether a command at the top has a list of commands for its data.
 pub fn is_wrapper(byte: u8) -> bool
-    ensures* { λ r. ⌜ r ≡ is_wrapper byte ⌝ }
+    ensures { result ≡ is_wrapper byte }
 {
     if byte == 0x1A {
         return true;
@@ -81,7 +81,7 @@ pub fn is_wrapper(byte: u8) -> bool
 // wrapper.
 fn inner(contents: &[u8], byte: u8, start: usize, len: usize, n: usize) -> Found
     requires { start + len ≤ length contents.now }
-    ensures* { λ r. ⌜ found_means r ≡ inside contents.now (result (found byte start len)) n ⌝ }
+    ensures { found_means result ≡ inside contents.now (answered (found byte start len)) n }
 {
     if is_wrapper(byte) {
         let list = entries::part(contents, start, len);
@@ -94,7 +94,7 @@ fn inner(contents: &[u8], byte: u8, start: usize, len: usize, n: usize) -> Found
 // An answer about a part that starts at an index of the whole, as one about the whole.
 fn reindex(by: usize, found: Found) -> Found
     requires { IndexFits by (found_means found) }
-    ensures* { λ r. ⌜ found_means r ≡ shifted by (found_means found) ⌝ }
+    ensures { found_means result ≡ shifted by (found_means found) }
 {
     match found {
         Found::At { byte, start, len } => Found::At {

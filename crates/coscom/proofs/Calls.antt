@@ -6,6 +6,7 @@ use mathlib.Core.List.{List, ◌++◌}
 use native.Mathlib.Omega.{arith}
 use lib.ListN.{length, take, drop}
 use contract.Lifetimes.{Lfts}
+use denote.MutBor.{MutBor}
 use denote.Ref.{Bor}
 use Rattle.lists.specs.Choice.{Exactly}
 use Rattle.lists.proofs.Cases.{exactly}
@@ -30,14 +31,14 @@ use Rattle.coscom.proofs.judge_array.Reads as judge-array-reads
 
 -- A call that writes a packet: its answer, and the output before and after.
 pub data CalledWrite : Packet → (out : List ℕ) → Answer ℕ → (last : List ℕ) → Type 0 where
-  wrote : {letter tens ones : ℕ} (r : Written) (κs : Lfts 2) (unit out out' : Bor (List ℕ))
+  wrote : {letter tens ones : ℕ} (r : Written) (κs : Lfts 2) (unit : Bor (List ℕ)) (out out' : MutBor (List ℕ))
       → write-packet-reads.Learnt κs (letter, (tens, (ones, (unit, (out, tt))))) r
       (letter, (tens, (ones, (unit, (out', tt)))))
       → CalledWrite (packet letter tens ones unit.now) out.now (written_means r) out'.now
 
 -- A call that reads a slice: its answer, and the output before and after.
 pub data CalledRead : (w out : List ℕ) → Answer PacketOutline → (last : List ℕ) → Type 0 where
-  read_slice : (r : Read) (κs : Lfts 2) (wire out out' : Bor (List ℕ))
+  read_slice : (r : Read) (κs : Lfts 2) (wire : Bor (List ℕ)) (out out' : MutBor (List ℕ))
       → read-packet-reads.Learnt κs (wire, (out, tt)) r (wire, (out', tt))
       → CalledRead wire.now out.now (read_means r) out'.now
 
@@ -109,7 +110,7 @@ unfolding judge_answer left_in
 left_as (refused m) s n e = refl
 left_as (result p) s n e = let z : ◌≡◌ {A = ℕ} 0 1 = cc in absurd (omega arith)
 
-module _ (κs : Lfts 1) (ρ ρ' : Bor (List ℕ)) (len : ℕ) (r : Read)
+module _ (κs : Lfts 1) (ρ ρ' : MutBor (List ℕ)) (len : ℕ) (r : Read)
     (k : judge-array-reads.Learnt κs (ρ, (len, tt)) r (ρ', (len, tt))) where
   abbrev judged : Verdict
   judged = verdict (candidate_of (take len ρ.now))

@@ -1,6 +1,8 @@
 // The line reader for treadmill packets: fed one byte at a time, or a chunk up to the first byte that is answered, it
 // tells of each packet and each refusal at the call where it ends. Document 01, "The line"; document 02, No. 3 and
 // No. 4.
+#![tactic(auto)]
+
 mod chunk;
 mod runs;
 

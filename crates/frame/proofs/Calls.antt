@@ -5,6 +5,7 @@ use mathlib.Core.Path.{◌≡◌}
 use mathlib.Core.List.{List}
 use lib.ListN.{length, take}
 use contract.Lifetimes.{Lfts}
+use denote.MutBor.{MutBor}
 use denote.Ref.{Bor}
 use Rattle.lists.specs.Choice.{Exactly}
 use Rattle.answer.specs.Answer.{Answer, result, refused}
@@ -26,10 +27,10 @@ use Rattle.frame.proofs.read_leading.Reads as read-leading-reads
 -- A call that reads a slice of an origin, or the candidate that one begins with: its answer, and the output before and
 -- after.
 pub data CalledRead : Origin → (w out : List ℕ) → Answer FrameOutline → (last : List ℕ) → Type 0 where
-  read_slice : {o : Origin} (r : Read) (κs : Lfts 2) (wire out out' : Bor (List ℕ))
+  read_slice : {o : Origin} (r : Read) (κs : Lfts 2) (wire : Bor (List ℕ)) (out out' : MutBor (List ℕ))
       → read-frame-reads.Learnt κs (o, (wire, (out, tt))) r (o, (wire, (out', tt)))
       → CalledRead o wire.now out.now (read_means r) out'.now
-  read_first : {o : Origin} (r : Leading) (κs : Lfts 2) (s out out' : Bor (List ℕ))
+  read_first : {o : Origin} (r : Leading) (κs : Lfts 2) (s : Bor (List ℕ)) (out out' : MutBor (List ℕ))
       → read-leading-reads.Learnt κs (o, (s, (out, tt))) r (o, (s, (out', tt)))
       → CalledRead o (take r.taken s.now) out.now (read_means r.read) out'.now
 

@@ -6,6 +6,7 @@ use native.Mathlib.Omega.{arith}
 use Prim.Native.Nat.{ℕ}
 use lib.ListN.{take}
 use contract.Lifetimes.{Lfts}
+use denote.MutBor.{MutBor}
 use denote.Ref.{Bor}
 use Rattle.lists.specs.Choice.{Exactly}
 use Rattle.lists.proofs.Cases.{exactly}
@@ -32,7 +33,7 @@ unfolding judge_answer left_in
 left_as (refused m) s n e = refl
 left_as (result f) s n e = let z : ◌≡◌ {A = ℕ} 0 1 = cc in absurd (omega arith)
 
-module _ (κs : Lfts 1) (o : Origin) (kind : Kind) (ρ ρ' : Bor (List ℕ)) (len : ℕ) (r : Read)
+module _ (κs : Lfts 1) (o : Origin) (kind : Kind) (ρ ρ' : MutBor (List ℕ)) (len : ℕ) (r : Read)
     (k : judge-array-reads.Learnt κs (o, (kind, (ρ, (len, tt)))) r (o, (kind, (ρ', (len, tt))))) where
   abbrev judged : Verdict
   judged = admit o (verdict (candidate_of kind (take len ρ.now)))
@@ -80,7 +81,7 @@ module _ (κs : Lfts 1) (o : Origin) (kind : Kind) (ρ ρ' : Bor (List ℕ)) (le
       (k.0 ∙ ap judge_answer same, k.1 ∙ ap (λ (v : Verdict). left_in v ρ.now) same)
 
 -- So two calls on the same bytes, at any origins, are answered alike and leave the same.
-pub judges_agree : (κs : Lfts 1) (o p : Origin) (kind : Kind) (ρ ρ' σ' : Bor (List ℕ)) (len : ℕ) (r s : Read)
+pub judges_agree : (κs : Lfts 1) (o p : Origin) (kind : Kind) (ρ ρ' σ' : MutBor (List ℕ)) (len : ℕ) (r s : Read)
     → judge-array-reads.Learnt κs (o, (kind, (ρ, (len, tt)))) r (o, (kind, (ρ', (len, tt))))
     → judge-array-reads.Learnt κs (p, (kind, (ρ, (len, tt)))) s (p, (kind, (σ', (len, tt))))
     → NoStandard (candidate_of kind (take len ρ.now))

@@ -1,7 +1,7 @@
 -- Laws of unstuffing one byte at a time.
 use Prim.Native.Nat.{ℕ, suc, ◌+◌, ◌≤◌, ◌<◌}
 use mathlib.Core.Path.{◌≡◌, sym, ap, ◌∙◌}
-use mathlib.Core.Bool.{false}
+use mathlib.Core.Bool.{Bool, true, false}
 use mathlib.Core.List.{List, []}
 use native.Mathlib.Numerals.{add-one}
 use native.Mathlib.Omega.{arith}
@@ -11,6 +11,7 @@ use lib.Seq.{drop-cons}
 use borrow.Author.Tests.{leb-true, leb-false, ltb-true, ltb-false, eqb-true, eqb-false, lt-leb, le-leb, lt-ltb, le-ltb}
 use borrow.Author.Tests.{eq-eqb, ne_eqb}
 use Rattle.lists.proofs.Cases.{by_bool}
+use Rattle.lists.specs.Choice.{pick}
 use Rattle.lists.proofs.Lists.{drop_two}
 use Rattle.frame.specs.Stuffing.{Unstuffed, bad_escape, bytes, prepend, unstuff}
 use Rattle.frame.specs.Private.{next_at}
@@ -40,14 +41,12 @@ module _ (s : List ℕ) (at : ℕ) where
   next_last : at < length s → get_or s at 0 ≡ 0xF3 → length s ≤ at + 1 → ScanGoal
   unfolding next_at unstuff after_next
   next_last h e k =
-      simp (
-        drop-cons s at 0 h,
-        lt-ltb at (length s) h,
-        eq-eqb (get_or s at 0) 0xF3 e,
-        le-ltb (at + 1)
-            (length s) k,
-        drop_of_length-le s {i = suc at} (omega arith),
-      )
+      let r : after_next s (next_at s at) ≡ bad_escape =
+      simp (lt-ltb at (length s) h, eq-eqb (get_or s at 0) 0xF3 e, le-ltb (at + 1) (length s) k) in
+      ap (unstuff false) (drop-cons s at 0 h)
+      ∙ ap (λ (b : Bool). pick b (unstuff true (drop (suc at) s)) (prepend (get_or s at 0) (unstuff false (drop (suc at) s))))
+      (eq-eqb (get_or s at 0) 0xF3 e)
+      ∙ ap (unstuff true) (drop_of_length-le s {i = suc at} (omega arith)) ∙ sym r
 
   next_bad : at < length s → get_or s at 0 ≡ 0xF3 → at + 1 < length s → 3 < get_or s (at + 1) 0 → ScanGoal
   unfolding next_at unstuff after_next

@@ -1,5 +1,7 @@
 // Who may stop which machine: a token for each address, held, released, and asked for by a stop.
 // Document 01, "Stop desk".
+#![tactic(auto)]
+
 mod tokens;
 
 ghost use Rattle.std.specs.Prelude.{◌≡◌, length, replicate};

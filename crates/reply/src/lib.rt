@@ -1,9 +1,11 @@
 // Replies: the status byte, a reply and its items read, a reply written.
 // Document 01, "Commands and replies".
+#![tactic(auto)]
+
 pub mod status;
 
 ghost use Rattle.std.specs.Prelude.{◌≡◌, ◌<◌, length, drop};
-ghost use Rattle.answer.specs.Answer.{result};
+ghost use Rattle.answer.specs.Answer.{result as answered};
 ghost use Rattle.answer.specs.Draft.{draft_answer, draft_out, written_means};
 ghost use Rattle.command.specs.Answers.{found_means};
 ghost use Rattle.command.specs.Parts.{IsData};
@@ -38,7 +40,7 @@ pub enum ReplyRead {
 
 // Reads a reply. Refusals 4, 8 and 7.
 pub fn read_reply(contents: &[u8]) -> ReplyRead
-    ensures* { λ r. ⌜ reply_means r ≡ reply_answer (reply_in contents.now) ⌝ }
+    ensures { reply_means result ≡ reply_answer (reply_in contents.now) }
 {
     let first = head(contents);
     match first {
@@ -49,7 +51,7 @@ pub fn read_reply(contents: &[u8]) -> ReplyRead
 
 // The n-th item of a reply. Refusals 4, 8, 7 and 15.
 pub fn nth_item(contents: &[u8], n: usize) -> Found
-    ensures* { λ r. ⌜ found_means r ≡ nth_item contents.now n ⌝ }
+    ensures { found_means result ≡ nth_item contents.now n }
 {
     let first = head(contents);
     match first {
@@ -61,7 +63,7 @@ pub fn nth_item(contents: &[u8], n: usize) -> Found
 // The data of the n-th item, as a part of the contents. Where `nth_item` refuses, it is the empty part at the
 // beginning.
 pub fn nth_item_data(contents: &[u8], n: usize) -> &[u8]
-    ensures* { λ r. ⌜ IsData contents.entry r (nth_item contents.now n) ⌝ }
+    ensures { IsData contents.entry result (nth_item contents.now n) }
 {
     let found = nth_item(contents, n);
     entries::found_part(contents, found)
@@ -69,8 +71,8 @@ pub fn nth_item_data(contents: &[u8], n: usize) -> &[u8]
 
 // Writes a reply that is a status byte alone. Refusals 8 and 1.
 pub fn write_status(byte: u8, out: &mut [u8]) -> Written
-    ensures* r_value { λ r. ⌜ written_means r ≡ draft_answer (status_draft byte) (length out.old) ⌝ }
-    ensures* out_after { λ r. ⌜ out.new ≡ draft_out (status_draft byte) out.old ⌝ }
+    ensures value { written_means result ≡ draft_answer (status_draft byte) (length out.old) }
+    ensures out_after { out.new ≡ draft_out (status_draft byte) out.old }
 {
     let read = Status::from_byte(byte);
     match read {
@@ -88,11 +90,11 @@ pub fn write_status(byte: u8, out: &mut [u8]) -> Written
 // Writes a reply from the contents of a reply so far and an item, which it puts last. Refusals 4, 8, 7, 2 and 1.
 // The contract says that `byte` is below 256, because the proof that written items read back needs it.
 pub fn write_item(prior: &[u8], byte: u8, body: &[u8], out: &mut [u8]) -> Written
-    ensures* r_value { λ r. ⌜ written_means r ≡ draft_answer (item_draft prior.now byte body.now)
-        (length out.old) ⌝ }
-    ensures* out_after { λ r. ⌜ out.new ≡ draft_out (item_draft prior.now byte body.now)
-        out.old ⌝ }
-    ensures* byte_bound { λ r. ⌜ byte < 256 ⌝ }
+    ensures value { written_means result ≡ draft_answer (item_draft prior.now byte body.now)
+        (length out.old) }
+    ensures out_after { out.new ≡ draft_out (item_draft prior.now byte body.now)
+        out.old }
+    ensures byte_fits { byte < 256 }
 {
     let read = read_reply(prior);
     match read {
@@ -106,7 +108,7 @@ pub fn write_item(prior: &[u8], byte: u8, body: &[u8], out: &mut [u8]) -> Writte
 
 // The status that contents begin with.
 fn head(contents: &[u8]) -> StatusRead
-    ensures* { λ r. ⌜ status_means r ≡ head_in contents.now ⌝ }
+    ensures { status_means result ≡ head_in contents.now }
 {
     if contents.len() == 0 {
         return StatusRead::Refused(Refusal::TooShort);
@@ -117,8 +119,8 @@ fn head(contents: &[u8]) -> StatusRead
 
 // Reads the items of contents whose status is known. Refusal 7.
 fn read_items(contents: &[u8], status: Status) -> ReplyRead
-    ensures* { λ r. ⌜ reply_means r ≡ reply_answer
-        (after_status (result (parts_of status)) (parse items (drop 1 contents.now) 0)) ⌝ }
+    ensures { reply_means result ≡ reply_answer
+        (after_status (answered (parts_of status)) (parse items (drop 1 contents.now) 0)) }
 {
     let all = entries::count(COUNTED, contents, Cursor { at: ITEMS });
     match all {
@@ -129,10 +131,10 @@ fn read_items(contents: &[u8], status: Status) -> ReplyRead
 
 // Writes a sound reply so far and an item after it.
 fn put_item(prior: &[u8], byte: u8, body: &[u8], out: &mut [u8]) -> Written
-    ensures* r_value { λ r. ⌜ written_means r ≡ draft_answer (with_item prior.now byte body.now)
-        (length out.old) ⌝ }
-    ensures* out_after { λ r. ⌜ out.new ≡ draft_out (with_item prior.now byte body.now)
-        out.old ⌝ }
+    ensures value { written_means result ≡ draft_answer (with_item prior.now byte body.now)
+        (length out.old) }
+    ensures out_after { out.new ≡ draft_out (with_item prior.now byte body.now)
+        out.old }
 {
     let k = prior.len();
     let n = body.len();
@@ -149,9 +151,9 @@ fn put_item(prior: &[u8], byte: u8, body: &[u8], out: &mut [u8]) -> Written
     if out.len() < end {
         return Written::Refused(Refusal::NoRoom);
     }
-    bytes::copy(prior, out);
+    lists::copy(prior, out, 0);
     out[k] = byte;
     out[k + 1] = n as u8;
-    bytes::copy(body, &mut out[k + 2..]);
+    lists::copy(body, out, k + 2);
     Written::Length(end)
 }

@@ -3,7 +3,7 @@
 mod digits;
 
 ghost use Rattle.std.specs.Prelude.{◌≡◌, ◌+◌, ◌≤◌, length};
-ghost use Rattle.answer.specs.Answer.{result};
+ghost use Rattle.answer.specs.Answer.{result as answered};
 ghost use Rattle.answer.specs.Draft.{draft_answer, draft_out, written_means};
 ghost use Rattle.answer.specs.Refusals.{number_of};
 ghost use Rattle.command.specs.Stop.{stops_workout};
@@ -26,7 +26,7 @@ pub const TOTALS_ROOM: usize = 84;
 
 // The two upper-case hexadecimal digits of a byte.
 pub fn hex_digits(b: u8) -> [u8; 2]
-    ensures* { λ r. ⌜ r ≡ hex b ⌝ }
+    ensures { result ≡ hex b }
 {
     [digits::hex_digit(b / 16), digits::hex_digit(b % 16)]
 }
@@ -41,14 +41,13 @@ pub fn write_answer(
     n: u64,
     out: &mut [u8],
 ) -> Written
-    ensures* r_value { λ r. ⌜ written_means r
-        ≡ draft_answer (result (call_line n (located_outcome (told_means told) position contents.now)))
-        (length out.old) ⌝ }
-    ensures* out_after { λ r. ⌜ out.new
-        ≡ draft_out (result (call_line n (located_outcome (told_means told) position contents.now)))
-        out.old ⌝ }
-    ensures* contents_bound { λ r. ⌜ length (call_line n (located_outcome (told_means told) position contents.now))
-        ≤ line_room ⌝ }
+    ensures result_value { written_means result
+        ≡ draft_answer (answered (call_line n (located_outcome (told_means told) position contents.now)))
+        (length out.old) }
+    ensures out_after { out.new
+        ≡ draft_out (answered (call_line n (located_outcome (told_means told) position contents.now)))
+        out.old }
+    ensures length_bound { length (call_line n (located_outcome (told_means told) position contents.now)) ≤ line_room }
 {
     if out.len() < LINE_ROOM {
         let mut line = [0u8; LINE_ROOM];
@@ -60,10 +59,10 @@ pub fn write_answer(
 
 // Writes the totals. Refusal 1.
 pub fn write_totals(frames: u64, refusals: u64, strays: u64, out: &mut [u8]) -> Written
-    ensures* r_value { λ r. ⌜ written_means r
-        ≡ draft_answer (result (totals frames refusals strays)) (length out.old) ⌝ }
-    ensures* out_after { λ r. ⌜ out.new ≡ draft_out (result (totals frames refusals strays)) out.old ⌝ }
-    ensures* strays_bound { λ r. ⌜ length (totals frames refusals strays) ≤ totals_room ⌝ }
+    ensures result_value { written_means result
+        ≡ draft_answer (answered (totals frames refusals strays)) (length out.old) }
+    ensures out_after { out.new ≡ draft_out (answered (totals frames refusals strays)) out.old }
+    ensures length_bound { length (totals frames refusals strays) ≤ totals_room }
 {
     if out.len() < TOTALS_ROOM {
         let mut line = [0u8; TOTALS_ROOM];
@@ -75,8 +74,8 @@ pub fn write_totals(frames: u64, refusals: u64, strays: u64, out: &mut [u8]) -> 
 
 // Writes bytes that stand elsewhere. Refusal 1.
 pub fn write_bytes(s: &[u8], out: &mut [u8]) -> Written
-    ensures* r_value { λ r. ⌜ written_means r ≡ draft_answer (result s.now) (length out.old) ⌝ }
-    ensures* out_after { λ r. ⌜ out.new ≡ draft_out (result s.now) out.old ⌝ }
+    ensures result_value { written_means result ≡ draft_answer (answered s.now) (length out.old) }
+    ensures out_after { out.new ≡ draft_out (answered s.now) out.old }
 {
     if out.len() < s.len() {
         return Written::Refused(Refusal::NoRoom);
@@ -87,10 +86,9 @@ pub fn write_bytes(s: &[u8], out: &mut [u8]) -> Written
 fn put_told(told: Told, position: u32, contents: &[u8], n: u64, out: &mut [u8], at: usize) -> usize
     requires contents_len_bound { length contents.now ≤ capacity }
     requires line_room_in_bounds { at + line_room ≤ length out.old }
-    ensures* fact { λ r.
-        ⌜ Wrote out.old at
-        (call_line n (located_outcome (told_means told) position contents.now)) out.new r ⌝ }
-    ensures* r_bound { λ r. ⌜ r ≤ at + line_room ⌝ }
+    ensures wrote { Wrote out.old at
+        (call_line n (located_outcome (told_means told) position contents.now)) out.new result }
+    ensures upper_bound { result ≤ at + line_room }
 {
     match told {
         Told::Nothing => at,
@@ -112,8 +110,8 @@ fn put_told(told: Told, position: u32, contents: &[u8], n: u64, out: &mut [u8], 
 // The head of a line: its number and its position.
 fn put_head(n: u64, position: u32, out: &mut [u8], at: usize) -> usize
     requires { at + head_room ≤ length out.old }
-    ensures* fact { λ r. ⌜ Wrote out.old at (head n position) out.new r ⌝ }
-    ensures* r_bound { λ r. ⌜ r ≤ at + head_room ⌝ }
+    ensures wrote { Wrote out.old at (head n position) out.new result }
+    ensures upper_bound { result ≤ at + head_room }
 {
     let a = put_field(b"n=", n, out, at);
     put_short_field(b" at=", position as u64, out, a)
@@ -122,8 +120,8 @@ fn put_head(n: u64, position: u32, out: &mut [u8], at: usize) -> usize
 // The bodies: of a refusal, of a standard frame, of an extended frame.
 fn put_refused(why: Refusal, out: &mut [u8], at: usize) -> usize
     requires { at + body_room ≤ length out.old }
-    ensures* fact { λ r. ⌜ Wrote out.old at (refused_body (number_of why)) out.new r ⌝ }
-    ensures* r_bound { λ r. ⌜ r ≤ at + body_room ⌝ }
+    ensures wrote { Wrote out.old at (refused_body (number_of why)) out.new result }
+    ensures upper_bound { result ≤ at + body_room }
 {
     let a = put_field(b" kind=refused code=", wide(why.number()), out, at);
     put_bytes(b"\n", out, a)
@@ -132,8 +130,8 @@ fn put_refused(why: Refusal, out: &mut [u8], at: usize) -> usize
 fn put_standard(contents: &[u8], out: &mut [u8], at: usize) -> usize
     requires contents_len_bound { length contents.now ≤ capacity }
     requires body_room_in_bounds { at + body_room ≤ length out.old }
-    ensures* fact { λ r. ⌜ Wrote out.old at (standard_body contents.now) out.new r ⌝ }
-    ensures* r_bound { λ r. ⌜ r ≤ at + body_room ⌝ }
+    ensures wrote { Wrote out.old at (standard_body contents.now) out.new result }
+    ensures upper_bound { result ≤ at + body_room }
 {
     let a = put_short_field(b" kind=std len=", contents.len() as u64, out, at);
     put_stop(contents, out, a)
@@ -142,8 +140,8 @@ fn put_standard(contents: &[u8], out: &mut [u8], at: usize) -> usize
 fn put_extended(to: u8, from: u8, contents: &[u8], out: &mut [u8], at: usize) -> usize
     requires contents_len_bound { length contents.now ≤ capacity }
     requires body_room_in_bounds { at + body_room ≤ length out.old }
-    ensures* fact { λ r. ⌜ Wrote out.old at (extended_body to from contents.now) out.new r ⌝ }
-    ensures* r_bound { λ r. ⌜ r ≤ at + body_room ⌝ }
+    ensures wrote { Wrote out.old at (extended_body to from contents.now) out.new result }
+    ensures upper_bound { result ≤ at + body_room }
 {
     let a = put_hex_field(b" kind=ext to=", to, out, at);
     let b = put_hex_field(b" from=", from, out, a);
@@ -153,8 +151,8 @@ fn put_extended(to: u8, from: u8, contents: &[u8], out: &mut [u8], at: usize) ->
 
 fn put_counts(frames: u64, refusals: u64, strays: u64, out: &mut [u8], at: usize) -> usize
     requires { at + totals_room ≤ length out.old }
-    ensures* fact { λ r. ⌜ Wrote out.old at (totals frames refusals strays) out.new r ⌝ }
-    ensures* r_bound { λ r. ⌜ r ≤ at + totals_room ⌝ }
+    ensures wrote { Wrote out.old at (totals frames refusals strays) out.new result }
+    ensures upper_bound { result ≤ at + totals_room }
 {
     let a = put_field(b"frames=", frames, out, at);
     let b = put_field(b" refused=", refusals, out, a);
@@ -165,9 +163,8 @@ fn put_counts(frames: u64, refusals: u64, strays: u64, out: &mut [u8], at: usize
 // The end of a frame's body.
 fn put_stop(contents: &[u8], out: &mut [u8], at: usize) -> usize
     requires { at + 10 ≤ length out.old }
-    ensures* fact { λ r.
-        ⌜ Wrote out.old at (stop_text (stops_workout contents.now)) out.new r ⌝ }
-    ensures* r_bound { λ r. ⌜ r ≤ at + 10 ⌝ }
+    ensures wrote { Wrote out.old at (stop_text (stops_workout contents.now)) out.new result }
+    ensures upper_bound { result ≤ at + 10 }
 {
     if command::stop::stops_workout(contents) {
         return put_bytes(b" stop=yes\n", out, at);
@@ -178,8 +175,8 @@ fn put_stop(contents: &[u8], out: &mut [u8], at: usize) -> usize
 // A word and a number of at most 20 digits.
 fn put_field(word: &[u8], v: u64, out: &mut [u8], at: usize) -> usize
     requires { at + (length word.now + 20) ≤ length out.old }
-    ensures* fact { λ r. ⌜ Wrote out.old at (field word.now v) out.new r ⌝ }
-    ensures* r_bound { λ r. ⌜ r ≤ at + (length word.now + 20) ⌝ }
+    ensures wrote { Wrote out.old at (field word.now v) out.new result }
+    ensures upper_bound { result ≤ at + (length word.now + 20) }
 {
     put_short_field(word, v, out, at)
 }
@@ -187,7 +184,7 @@ fn put_field(word: &[u8], v: u64, out: &mut [u8], at: usize) -> usize
 // A word and a number. The room that is asked for is what they need.
 fn put_short_field(word: &[u8], v: u64, out: &mut [u8], at: usize) -> usize
     requires { at + length (field word.now v) ≤ length out.old }
-    ensures* { λ r. ⌜ Wrote out.old at (field word.now v) out.new r ⌝ }
+    ensures { Wrote out.old at (field word.now v) out.new result }
 {
     let a = put_bytes(word, out, at);
     digits::put_decimal(v, out, a)
@@ -195,8 +192,8 @@ fn put_short_field(word: &[u8], v: u64, out: &mut [u8], at: usize) -> usize
 
 fn put_hex_field(word: &[u8], v: u8, out: &mut [u8], at: usize) -> usize
     requires { at + (length word.now + 2) ≤ length out.old }
-    ensures* fact { λ r. ⌜ Wrote out.old at (hex_field word.now v) out.new r ⌝ }
-    ensures* r_value { λ r. ⌜ r ≡ at + (length word.now + 2) ⌝ }
+    ensures wrote { Wrote out.old at (hex_field word.now v) out.new result }
+    ensures value { result ≡ at + (length word.now + 2) }
 {
     let a = put_bytes(word, out, at);
     digits::put_hex(v, out, a)
@@ -204,7 +201,7 @@ fn put_hex_field(word: &[u8], v: u8, out: &mut [u8], at: usize) -> usize
 
 fn put_bytes(s: &[u8], out: &mut [u8], at: usize) -> usize
     requires { at + length s.now ≤ length out.old }
-    ensures* { λ r. ⌜ Wrote out.old at s.now out.new r ⌝ }
+    ensures { Wrote out.old at s.now out.new result }
 {
     let mut i: usize = 0;
     while i < s.len() {
@@ -215,7 +212,7 @@ fn put_bytes(s: &[u8], out: &mut [u8], at: usize) -> usize
 }
 
 fn wide(b: u8) -> u64
-    ensures* { λ r. ⌜ r ≡ b ⌝ }
+    ensures { result ≡ b }
 {
     b as u64
 }

@@ -2,7 +2,7 @@
 // 02, No. 7).
 // The state is a value. A call takes a chunk of the trace and a lent output, and writes whole lines into it.
 ghost use Rattle.std.specs.Prelude.{◌≡◌, ◌+◌, ◌<◌, ◌≤◌, length};
-ghost use Rattle.answer.specs.Answer.{result};
+ghost use Rattle.answer.specs.Answer.{result as answered};
 ghost use Rattle.answer.specs.Draft.{draft_answer, draft_out, written_means};
 ghost use Rattle.candidate.specs.Outcome.{told_means};
 ghost use Rattle.line.specs.Rowing.{most_bytes};
@@ -63,7 +63,7 @@ struct Fed {
 }
 
 pub fn new() -> Listing
-    ensures* { λ r. ⌜ r ≡ new_listing ⌝ }
+    ensures { result ≡ new_listing }
 {
     Listing {
         reader: LineReader::new(Origin::Trace),
@@ -76,7 +76,7 @@ pub fn new() -> Listing
 // Takes bytes of a chunk as long as there is room for the line of any answer. The array is copied once for a chunk, and
 // lent for each answer.
 pub fn list(s: Listing, chunk: &[u8], out: &mut [u8]) -> Listed
-    ensures* { λ r. ⌜ Lists s chunk.now out.old out.new r ⌝ }
+    ensures { Lists s chunk.now out.old out.new result }
 {
     let reader = s.reader;
     let state = reader.state;
@@ -104,9 +104,9 @@ pub fn list(s: Listing, chunk: &[u8], out: &mut [u8]) -> Listed
 // Ends the trace: writes the line of a candidate that is open, and the totals. Refusal 1. The text is made in an array
 // first, because its length is known only then.
 pub fn finish(s: Listing, out: &mut [u8]) -> Written
-    ensures* r_value { λ r. ⌜ written_means r ≡ draft_answer (result (last_text s)) (length out.old) ⌝ }
-    ensures* out_after { λ r. ⌜ out.new ≡ draft_out (result (last_text s)) out.old ⌝ }
-    ensures* s_bound { λ r. ⌜ length (last_text s) ≤ last_room ⌝ }
+    ensures result_value { written_means result ≡ draft_answer (answered (last_text s)) (length out.old) }
+    ensures out_after { out.new ≡ draft_out (answered (last_text s)) out.old }
+    ensures length_bound { length (last_text s) ≤ last_room }
 {
     let mut last = [0u8; LAST_ROOM];
     let len = put_last(s, &mut last);
@@ -115,8 +115,8 @@ pub fn finish(s: Listing, out: &mut [u8]) -> Written
 
 fn put_last(s: Listing, out: &mut [u8]) -> usize
     requires { last_room ≤ length out.old }
-    ensures* fact { λ r. ⌜ Wrote out.old 0 (last_text s) out.new r ⌝ }
-    ensures* r_bound { λ r. ⌜ r ≤ last_room ⌝ }
+    ensures wrote { Wrote out.old 0 (last_text s) out.new result }
+    ensures upper_bound { result ≤ last_room }
 {
     let frames = s.frames;
     let refusals = s.refusals;
@@ -134,7 +134,7 @@ fn put_last(s: Listing, out: &mut [u8]) -> usize
 
 // How many bytes were written.
 fn length_of(written: Written) -> usize
-    ensures* { λ r. ⌜ r ≡ length_of (written_means written) ⌝ }
+    ensures { result ≡ length_of (written_means written) }
 {
     match written {
         Written::Length(n) => n,
@@ -143,7 +143,7 @@ fn length_of(written: Written) -> usize
 }
 
 fn listed_of(taken: usize, wrote: usize, bytes: [u8; 118], t: Tally) -> Listed
-    ensures* { λ r. ⌜ r ≡ listed_of taken wrote (listing bytes t) ⌝ }
+    ensures { result ≡ listed_of taken wrote (listing bytes t) }
 {
     let state = t.state;
     Listed {
@@ -163,8 +163,7 @@ fn listed_of(taken: usize, wrote: usize, bytes: [u8; 118], t: Tally) -> Listed
 fn advance(bytes: &mut [u8; 118], t: Tally, rest: &[u8], out: &mut [u8], at: usize) -> Advanced
     requires rest_nonzero { 0 < length rest.now }
     requires line_room_in_bounds { at + line_room ≤ length out.old }
-    ensures* { λ r. ⌜ Advances (listing bytes.old t) rest.now bytes.new
-        out.old at out.new r ⌝ }
+    ensures { Advances (listing bytes.old t) rest.now bytes.new out.old at out.new result }
 {
     let before = t.state;
     let frames = t.frames;
@@ -195,10 +194,10 @@ fn advance(bytes: &mut [u8; 118], t: Tally, rest: &[u8], out: &mut [u8], at: usi
 // Feeds a chunk, as far as the line reader takes one; a full reader refuses its first byte. The stray bytes are counted
 // first, and passed over where they would change nothing but the reader's count, so that they are looked at once.
 fn feed(bytes: &mut [u8; 118], before: State, rest: &[u8]) -> Fed
-    ensures* fact { λ r. ⌜ ChunkStepIs bytes.new r.step
-        (chunk_of (lent_reader bytes.old before) rest.now) ⌝ }
-    ensures* strays_value { λ r. ⌜ r.strays
-        ≡ stray_count (is_open before.held.mode) (countable before.count rest.now) ⌝ }
+    ensures step_is { ChunkStepIs bytes.new result.step
+        (chunk_of (lent_reader bytes.old before) rest.now) }
+    ensures strays_value { result.strays
+        ≡ stray_count (is_open before.held.mode) (countable before.count rest.now) }
 {
     let held = before.held;
     let mode = held.mode;
@@ -230,7 +229,7 @@ fn feed(bytes: &mut [u8; 118], before: State, rest: &[u8]) -> Fed
 // A state after bytes that are counted and not fed.
 fn counted_on(before: State, passed: usize) -> State
     requires { before.count + passed ≤ most_bytes }
-    ensures* { λ r. ⌜ r ≡ counted_on before passed ⌝ }
+    ensures { result ≡ counted_on before passed }
 {
     let held = before.held;
     State {
@@ -243,7 +242,7 @@ fn counted_on(before: State, passed: usize) -> State
 // How many bytes are taken where the line reader took so many: at least one, since a full reader refuses the first and
 // takes none.
 fn at_least_one(taken: usize) -> usize
-    ensures* { λ r. ⌜ r ≡ at_least_one taken ⌝ }
+    ensures { result ≡ at_least_one taken }
 {
     if taken == 0 {
         return 1;
@@ -253,14 +252,14 @@ fn at_least_one(taken: usize) -> usize
 
 // The number of the next answer.
 fn next_number(frames: u64, refusals: u64) -> u64
-    ensures* { λ r. ⌜ r ≡ number_after frames refusals ⌝ }
+    ensures { result ≡ number_after frames refusals }
 {
     let told = std::num::wrapping_add_u64(frames, refusals);
     std::num::wrapping_add_u64(told, 1)
 }
 
 fn frame_count(told: Told) -> u64
-    ensures* { λ r. ⌜ r ≡ frame_count (told_means told) ⌝ }
+    ensures { result ≡ frame_count (told_means told) }
 {
     match told {
         Told::Nothing => 0,
@@ -275,7 +274,7 @@ fn frame_count(told: Told) -> u64
 }
 
 fn refused_count(told: Told) -> u64
-    ensures* { λ r. ⌜ r ≡ refused_count (told_means told) ⌝ }
+    ensures { result ≡ refused_count (told_means told) }
 {
     match told {
         Told::Nothing => 0,
@@ -291,7 +290,7 @@ fn refused_count(told: Told) -> u64
 
 // Whether a candidate is open.
 fn is_open(mode: Mode) -> bool
-    ensures* { λ r. ⌜ r ≡ is_open mode ⌝ }
+    ensures { result ≡ is_open mode }
 {
     match mode {
         Mode::Outside => false,
@@ -303,7 +302,7 @@ fn is_open(mode: Mode) -> bool
 
 // The stray bytes that come first: where no candidate is open, those before the first start flag.
 fn stray_count(mode: Mode, rest: &[u8]) -> usize
-    ensures* { λ r. ⌜ r ≡ stray_count (is_open mode) rest.now ⌝ }
+    ensures { result ≡ stray_count (is_open mode) rest.now }
 {
     if is_open(mode) {
         return 0;
@@ -313,7 +312,7 @@ fn stray_count(mode: Mode, rest: &[u8]) -> usize
 
 // How many of them need not be fed: all, where the reader's length is 0, because none of them changes that length.
 fn passed_over(len: usize, strays: usize) -> usize
-    ensures* { λ r. ⌜ r ≡ passed_over len strays ⌝ }
+    ensures { result ≡ passed_over len strays }
 {
     if len == 0 {
         return strays;

@@ -9,7 +9,7 @@ use Rattle.coscom.proofs.examine.Goals as goal
 
 pub returns-then-is_flagless : goal.returns-then-is_flagless
 returns-then-is_flagless c =
-    sym (ap read_means c.found-1.given.1) ∙ c.judge_body-found.ensures
+    c.in-Refused.ensures
     ∙ ap judge_answer (sym (whole_flagless _ (sym c.is_flagless.ensures ∙ c.if-is_flagless.true)))
 
 pub returns-else-is_flagless : goal.returns-else-is_flagless
@@ -18,5 +18,5 @@ returns-else-is_flagless c = ap judge_answer (sym (whole_flagged _ (sym c.is_fla
 
 pub returns-in-Packet : goal.returns-in-Packet
 returns-in-Packet c =
-    let e = sym (ap read_means c.found-in-Packet-1.given.1) ∙ c.judge_body-found.ensures in
+    let e = c.in-Packet.ensures in
     e ∙ ap judge_answer (sym (whole_flagless _ (packet-flagless _ _ e)))

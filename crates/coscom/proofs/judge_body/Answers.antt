@@ -12,12 +12,12 @@ use borrow.Author.Rules.{rules}
 use Rattle.coscom.proofs.check.is_spelt.Reads as is-spelt-reads
 use Rattle.coscom.proofs.check.is_summed.Reads as is-summed-reads
 use Rattle.coscom.proofs.judge_body.Goals as goal
-use Rattle.coscom.proofs.judge_body.Tie as tie
+use Rattle.coscom.proofs.judge_body.Goals.{Else-not-is_spelt}
 
-abbrev Body : tie.Else-not-is_spelt → List ℕ
+abbrev Body : Else-not-is_spelt → List ℕ
 Body t = t.args.body.now
 
-spelt : (t : tie.Else-not-is_spelt) → is_spelt (Body t) ≡ true
+spelt : (t : Else-not-is_spelt) → is_spelt (Body t) ≡ true
 spelt t = sym t.is_spelt.ensures ∙ not-false _ t.if-not-is_spelt.false-raw
 
 pub returns-then-n-gt-BODY_LIMIT : goal.returns-then-n-gt-BODY_LIMIT
@@ -38,15 +38,12 @@ returns-then-not-is_spelt c =
 pub returns-then-not-is_summed : goal.returns-then-not-is_summed
 unfolding judge_answer
 returns-then-not-is_summed c =
-    let e = c.before.before in
     ap judge_answer
-    (sym (judge-sum _ c.if-n-gt-BODY_LIMIT.false c.if-n-lt-FEWEST.false (spelt e)
+    (sym (judge-sum _ c.if-n-gt-BODY_LIMIT.false c.if-n-lt-FEWEST.false (spelt (goal.at.returns-then-not-is_summed c).Else-not-is_spelt)
     (sym c.is_summed.ensures ∙ not-true _ c.if-not-is_summed.true-raw)))
 
 pub returns : goal.returns
 returns c =
-    let f = c.before.before.before in
-    let e = f.before.before in
-    answer_packet (Body e) c.if-n-lt-FEWEST.false
-    (judge_sound (Body e) c.if-n-gt-BODY_LIMIT.false c.if-n-lt-FEWEST.false (spelt e)
+    answer_packet (Body (goal.at.returns c).Else-not-is_spelt) c.if-n-lt-FEWEST.false
+    (judge_sound (Body (goal.at.returns c).Else-not-is_spelt) c.if-n-gt-BODY_LIMIT.false c.if-n-lt-FEWEST.false (spelt (goal.at.returns c).Else-not-is_spelt)
     (sym c.is_summed.ensures ∙ not-false _ c.if-not-is_summed.false-raw))

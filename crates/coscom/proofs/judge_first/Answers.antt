@@ -16,49 +16,46 @@ use Rattle.coscom.proofs.examine.Reads as examine-reads
 use Rattle.lists.proofs.shift.Reads as shift-reads
 use Rattle.lists.proofs.lesser.Reads as lesser-reads
 use Rattle.coscom.proofs.judge_first.Goals as goal
-use Rattle.coscom.proofs.judge_first.Tie as tie
-
--- the slice, and its first bytes as the code takes them
-abbrev S : tie.In-Packet-2 → List ℕ
-S k = k.before.before.before.before.before.before.args.s.now
-
-abbrev Body : tie.In-Packet-2 → List ℕ
-Body k = take k.before.before.before.before.lesser.result (S k)
-
-first : (k : tie.In-Packet-2)
-    → (Body k ≡ take k.before.before.before.before.before.before.args.len (S k))
-    × (k.before.before.before.before.lesser.result ≤ length (S k))
-first k =
-    take_lesser (S k) k.before.before.before.before.before.before.args.len _
-    k.before.before.before.before.lesser.ensures
+use Rattle.coscom.proofs.judge_first.Goals.{In-Packet}
 
 -- what was told of the packet
-abbrev O : tie.In-Packet-2 → PacketOutline
-O k = let g = k.found-in-Packet-1.given.0 in outline g.0 g.1.0 g.1.1.0 g.1.1.1.0
+abbrev O : In-Packet → PacketOutline
+O k = outline k.in-Packet.letter k.in-Packet.tens k.in-Packet.ones k.in-Packet.len
 
-answered : (k : tie.In-Packet-2) → result (O k) ≡ judge_answer (verdict (candidate_of (Body k)))
-answered k = sym (ap read_means k.found-in-Packet-1.given.1) ∙ k.examine-found.ensures
+-- the slice, and its first bytes as the code takes them
+abbrev S : In-Packet → List ℕ
+S k = k.args.s.now
 
-told : (k : tie.In-Packet-2) → ToldIn (Body k) (O k)
+abbrev Body : In-Packet → List ℕ
+Body k = take k.lesser-n.result (S k)
+
+answered : (k : In-Packet) → result (O k) ≡ judge_answer (verdict (candidate_of (Body k)))
+answered k = k.in-Packet.ensures
+
+first : (k : In-Packet) → (Body k ≡ take k.args.len (S k))
+    × (k.lesser-n.result ≤ length (S k))
+first k =
+    take_lesser (S k) k.args.len _
+    k.lesser-n.ensures
+
+told : (k : In-Packet) → ToldIn (Body k) (O k)
 told k = told_means_lem (Body k) (O k) (answered k)
 
 pub returns-in-Refused-clause-s_after : goal.returns-in-Refused-clause-s_after
 returns-in-Refused-clause-s_after c =
-    let l = c.before.before.before.before.before in
-    let a = l.before.before.args in
-    let m = take_lesser a.s.now a.len _ l.lesser.ensures in
-    let e = sym (ap read_means c.found-1.given.1) ∙ c.examine-found.ensures in
+    let a = c.args in
+    let m = take_lesser a.s.now a.len _ c.lesser-n.ensures in
+    let e = c.in-Refused.ensures in
     left_refused _ a.s.now _ (ap (λ (l : List ℕ). verdict (candidate_of l)) (sym m.0) ∙ refused_means _ _ e)
 
 pub returns-in-Packet-clause-s_after : goal.returns-in-Packet-clause-s_after
 returns-in-Packet-clause-s_after c =
-    let k = c.before.before.before.before.before in
-    let m = first k in
-    let u = told k in
-    let n = k.before.before.before.before.lesser.result in
-    let h : 3 + (O k).len ≤ length (S k) = omega (arith, u.fits, m.1, length-take-le n (S k) m.1) in
-    left_done _ (S k) _ u.packet_is (O k).len
+    let m = first (goal.at.returns-in-Packet-clause-s_after c).In-Packet in
+    let u = told (goal.at.returns-in-Packet-clause-s_after c).In-Packet in
+    let n = c.lesser-n.result in
+    let h : 3 + (O (goal.at.returns-in-Packet-clause-s_after c).In-Packet).len ≤ length (S (goal.at.returns-in-Packet-clause-s_after c).In-Packet) = omega (arith, u.fits, m.1, length-take-le n (S (goal.at.returns-in-Packet-clause-s_after c).In-Packet) m.1) in
+    left_done _ (S (goal.at.returns-in-Packet-clause-s_after c).In-Packet) _ u.packet_is (O (goal.at.returns-in-Packet-clause-s_after c).In-Packet).len
           (ap (λ (l : List ℕ). verdict (candidate_of l)) (sym m.0) ∙ u.judged) u.counted
-          (c.shift.ensures ∙ sym (shifted_fits (S k) _ 3 (O k).len h refl)
-          ∙ ap (λ (l : List ℕ). l ++ drop (O k).len (S k))
-          (sym (u.unit_is ∙ unit_whole (S k) n (O k).len m.1 u.fits)))
+          (c.shift.ensures ∙ sym (shifted_fits (S (goal.at.returns-in-Packet-clause-s_after c).In-Packet) _ 3 (O (goal.at.returns-in-Packet-clause-s_after c).In-Packet).len h refl)
+          ∙ ap (λ (l : List ℕ). l ++ drop (O (goal.at.returns-in-Packet-clause-s_after c).In-Packet).len (S (goal.at.returns-in-Packet-clause-s_after c).In-Packet))
+          (sym (u.unit_is ∙ unit_whole (S (goal.at.returns-in-Packet-clause-s_after c).In-Packet) n (O (goal.at.returns-in-Packet-clause-s_after c).In-Packet).len m.1 u.fits)))

@@ -18,34 +18,38 @@ use Rattle.coscom.proofs.check.is_bounded.Reads as is-bounded-reads
 use Rattle.coscom.proofs.examine.Reads as examine-reads
 use Rattle.lists.proofs.copy.Reads as copy-reads
 use Rattle.coscom.proofs.read_packet.Goals as goal
-use Rattle.coscom.proofs.read_packet.Tie as tie
+use Rattle.coscom.proofs.read_packet.Goals.{Else-not-is_bounded, In-Packet}
 
-abbrev W : tie.Else-not-is_bounded → List ℕ
+abbrev W : Else-not-is_bounded → List ℕ
 W t = t.args.wire.now
 
-bounded : (t : tie.Else-not-is_bounded) → is_bounded (W t) ≡ true
+bounded : (t : Else-not-is_bounded) → is_bounded (W t) ≡ true
 bounded t = sym t.is_bounded.ensures ∙ not-false _ t.if-not-is_bounded.false-raw
 
+abbrev Out : In-Packet → List ℕ
+Out k = k.args.out.now
+
+abbrev W_at_in_packet : In-Packet → List ℕ
+W_at_in_packet t = t.args.wire.now
+
 -- what stands between the ends, as the code takes it
-abbrev Body : tie.Else-not-is_bounded → List ℕ
-Body t = take (length (W t) - 1 - 1) (drop 1 (W t))
-
-whole : (t : tie.Else-not-is_bounded) → verdict (candidate_of (Body t)) ≡ verdict (W t)
-whole t = bounded_part (W t) (bounded t)
-
-abbrev E : tie.In-Packet-2 → tie.Else-not-is_bounded
-E k = k.before.before.before.before
-
-abbrev Out : tie.In-Packet-2 → List ℕ
-Out k = (E k).before.before.before.before.args.out.now
+abbrev Body_at_in_packet : In-Packet → List ℕ
+Body_at_in_packet t = take (length (W_at_in_packet t) - 1 - 1) (drop 1 (W_at_in_packet t))
 
 -- what was told of the packet
-abbrev O : tie.In-Packet-2 → PacketOutline
-O k = let g = k.found-in-Packet-1.given.0 in outline g.0 g.1.0 g.1.1.0 g.1.1.1.0
+abbrev O : In-Packet → PacketOutline
+O k = outline k.in-Packet.letter k.in-Packet.tens k.in-Packet.ones k.in-Packet.len
 
-told : (k : tie.In-Packet-2) → ToldIn (Body (E k)) (O k)
+told : (k : In-Packet) → ToldIn (Body_at_in_packet k) (O k)
 told k =
-    told_means_lem (Body (E k)) (O k) (sym (ap read_means k.found-in-Packet-1.given.1) ∙ k.examine-found.ensures)
+    told_means_lem (Body_at_in_packet k) (O k) (k.in-Packet.ensures)
+
+-- what stands between the ends, as the code takes it
+abbrev Body : Else-not-is_bounded → List ℕ
+Body t = take (length (W t) - 1 - 1) (drop 1 (W t))
+
+whole : (t : Else-not-is_bounded) → verdict (candidate_of (Body t)) ≡ verdict (W t)
+whole t = bounded_part (W t) (bounded t)
 
 pub returns-then-not-is_bounded-clause-result_value : goal.returns-then-not-is_bounded-clause-result_value
 returns-then-not-is_bounded-clause-result_value c =
@@ -70,55 +74,51 @@ slice_bounds-body-start c = let m = bounded_long (W c) (bounded c) in omega arit
 
 pub returns-then-out-len-clause-result_value : goal.returns-then-out-len-clause-result_value
 returns-then-out-len-clause-result_value c =
-    let k = c.before.before in
-    let u = told k in
+    let u = told (goal.at.returns-then-out-len-clause-result_value c).In-Packet in
     let t =
-    read_no_room _ (Out k) u.packet_is (sym (whole (E k)) ∙ u.judged) (omega (arith, u.counted, c.if-out-len.true)) in t.0
+    read_no_room _ (Out (goal.at.returns-then-out-len-clause-result_value c).In-Packet) u.packet_is (sym (whole (goal.at.returns-then-out-len-clause-result_value c).Else-not-is_bounded) ∙ u.judged) (omega (arith, u.counted, c.if-out-len.true)) in t.0
 
 pub returns-then-out-len-clause-out_after : goal.returns-then-out-len-clause-out_after
 returns-then-out-len-clause-out_after c =
-    let k = c.before.before in
-    let u = told k in
+    let u = told (goal.at.returns-then-out-len-clause-out_after c).In-Packet in
     let t =
-    read_no_room _ (Out k) u.packet_is (sym (whole (E k)) ∙ u.judged) (omega (arith, u.counted, c.if-out-len.true)) in t.1
+    read_no_room _ (Out (goal.at.returns-then-out-len-clause-out_after c).In-Packet) u.packet_is (sym (whole (goal.at.returns-then-out-len-clause-out_after c).Else-not-is_bounded) ∙ u.judged) (omega (arith, u.counted, c.if-out-len.true)) in t.1
 
 pub slice_bounds-copy-end : goal.slice_bounds-copy-end
-slice_bounds-copy-end c = let u = told c.before.before in omega (arith, u.fits)
+slice_bounds-copy-end c = let u = told (goal.at.slice_bounds-copy-end c).In-Packet in omega (arith, u.fits)
 
 pub returns-in-Refused-clause-result_value : goal.returns-in-Refused-clause-result_value
 returns-in-Refused-clause-result_value c =
     let t =
     read_refused _ c.args.out.now _
-    (sym (whole c.before.before.before.before.before) ∙ refused_means _ _ (sym (ap read_means c.found-1.given.1) ∙ c.examine-found.ensures)) in t.0
+    (sym (whole (goal.at.returns-in-Refused-clause-result_value c).Else-not-is_bounded) ∙ refused_means _ _ (c.in-Refused.ensures)) in t.0
 
 pub returns-in-Refused-clause-out_after : goal.returns-in-Refused-clause-out_after
 returns-in-Refused-clause-out_after c =
     let t =
     read_refused _ c.args.out.now _
-    (sym (whole c.before.before.before.before.before) ∙ refused_means _ _ (sym (ap read_means c.found-1.given.1) ∙ c.examine-found.ensures)) in t.1
+    (sym (whole (goal.at.returns-in-Refused-clause-out_after c).Else-not-is_bounded) ∙ refused_means _ _ (c.in-Refused.ensures)) in t.1
 
 pub returns-else-out-len-clause-result_value : goal.returns-else-out-len-clause-result_value
 returns-else-out-len-clause-result_value c =
-    let k = c.before.before.before.before.before.before.before in
-    let u = told k in
-    let n : 3 + (O k).len - 3 ≡ (O k).len = omega arith in
-    let room : (O k).len ≤ length (Out k) = c.if-out-len.false in
+    let u = told (goal.at.returns-else-out-len-clause-result_value c).In-Packet in
+    let n : 3 + (O (goal.at.returns-else-out-len-clause-result_value c).In-Packet).len - 3 ≡ (O (goal.at.returns-else-out-len-clause-result_value c).In-Packet).len = omega arith in
+    let room : (O (goal.at.returns-else-out-len-clause-result_value c).In-Packet).len ≤ length (Out (goal.at.returns-else-out-len-clause-result_value c).In-Packet) = c.if-out-len.false in
     let done =
-    read_done _ (Out k) u.packet_is _ (sym (whole (E k)) ∙ u.judged) (omega (arith, u.counted, room))
-    (copied_fits u.packet_is.unit (Out k) _ 0 (omega (arith, u.counted, room))
+    read_done _ (Out (goal.at.returns-else-out-len-clause-result_value c).In-Packet) u.packet_is _ (sym (whole (goal.at.returns-else-out-len-clause-result_value c).Else-not-is_bounded) ∙ u.judged) (omega (arith, u.counted, room))
+    (copied_fits u.packet_is.unit (Out (goal.at.returns-else-out-len-clause-result_value c).In-Packet) _ 0 (omega (arith, u.counted, room))
     (c.copy.ensures
-    ∙ ap (λ (i : ℕ). copied (Out k) 0 (take i (drop 3 (Body (E k))))) n ∙ ap (copied (Out k) 0) (sym u.unit_is))) in
+    ∙ ap (λ (i : ℕ). copied (Out (goal.at.returns-else-out-len-clause-result_value c).In-Packet) 0 (take i (drop 3 (Body (goal.at.returns-else-out-len-clause-result_value c).Else-not-is_bounded)))) n ∙ ap (copied (Out (goal.at.returns-else-out-len-clause-result_value c).In-Packet) 0) (sym u.unit_is))) in
     ap result (sym u.outline_is) ∙ done.0
 
 pub returns-else-out-len-clause-out_after : goal.returns-else-out-len-clause-out_after
 returns-else-out-len-clause-out_after c =
-    let k = c.before.before.before.before.before.before.before in
-    let u = told k in
-    let n : 3 + (O k).len - 3 ≡ (O k).len = omega arith in
-    let room : (O k).len ≤ length (Out k) = c.if-out-len.false in
+    let u = told (goal.at.returns-else-out-len-clause-out_after c).In-Packet in
+    let n : 3 + (O (goal.at.returns-else-out-len-clause-out_after c).In-Packet).len - 3 ≡ (O (goal.at.returns-else-out-len-clause-out_after c).In-Packet).len = omega arith in
+    let room : (O (goal.at.returns-else-out-len-clause-out_after c).In-Packet).len ≤ length (Out (goal.at.returns-else-out-len-clause-out_after c).In-Packet) = c.if-out-len.false in
     let done =
-    read_done _ (Out k) u.packet_is _ (sym (whole (E k)) ∙ u.judged) (omega (arith, u.counted, room))
-    (copied_fits u.packet_is.unit (Out k) _ 0 (omega (arith, u.counted, room))
+    read_done _ (Out (goal.at.returns-else-out-len-clause-out_after c).In-Packet) u.packet_is _ (sym (whole (goal.at.returns-else-out-len-clause-out_after c).Else-not-is_bounded) ∙ u.judged) (omega (arith, u.counted, room))
+    (copied_fits u.packet_is.unit (Out (goal.at.returns-else-out-len-clause-out_after c).In-Packet) _ 0 (omega (arith, u.counted, room))
     (c.copy.ensures
-    ∙ ap (λ (i : ℕ). copied (Out k) 0 (take i (drop 3 (Body (E k))))) n ∙ ap (copied (Out k) 0) (sym u.unit_is))) in
+    ∙ ap (λ (i : ℕ). copied (Out (goal.at.returns-else-out-len-clause-out_after c).In-Packet) 0 (take i (drop 3 (Body (goal.at.returns-else-out-len-clause-out_after c).Else-not-is_bounded)))) n ∙ ap (copied (Out (goal.at.returns-else-out-len-clause-out_after c).In-Packet) 0) (sym u.unit_is))) in
     done.1

@@ -16,17 +16,17 @@ use Rattle.coscom.proofs.put_head.Reads as put-head-reads
 use Rattle.coscom.proofs.put_tail.Reads as put-tail-reads
 use Rattle.lists.proofs.copy.Reads as copy-reads
 use Rattle.coscom.proofs.write_packet.Goals as goal
-use Rattle.coscom.proofs.write_packet.Tie as tie
+use Rattle.coscom.proofs.write_packet.Goals.{Else-not-is_proper}
 
-abbrev P : tie.Else-not-is_proper → Packet
+abbrev Out : Else-not-is_proper → List ℕ
+Out t = t.args.out.now
+
+abbrev P : Else-not-is_proper → Packet
 P t =
     let a = t.args in
     packet a.letter a.tens a.ones a.unit.now
 
-abbrev Out : tie.Else-not-is_proper → List ℕ
-Out t = t.args.out.now
-
-drafted : (t : tie.Else-not-is_proper) → packet_draft (P t) ≡ result (wire_of (P t))
+drafted : (t : Else-not-is_proper) → packet_draft (P t) ≡ result (wire_of (P t))
 drafted t =
     draft_fits (P t) t.if-unit-gt-UNIT_LIMIT.false (sym t.is_proper.ensures ∙ not-false _ t.if-not-is_proper.false-raw)
 
@@ -62,40 +62,28 @@ returns-then-not-is_proper-clause-out_after c =
 
 pub returns-then-out-n-clause-result_value : goal.returns-then-out-n-clause-result_value
 returns-then-out-n-clause-result_value c =
-    let t = c.before in
     let t =
-    writes_no_room _ (wire_of (P t)) (Out t) (drafted t) (omega (arith, wire_length (P t), c.if-out-n.true)) in t.0
+    writes_no_room _ (wire_of (P (goal.at.returns-then-out-n-clause-result_value c).Else-not-is_proper)) (Out (goal.at.returns-then-out-n-clause-result_value c).Else-not-is_proper) (drafted (goal.at.returns-then-out-n-clause-result_value c).Else-not-is_proper) (omega (arith, wire_length (P (goal.at.returns-then-out-n-clause-result_value c).Else-not-is_proper), c.if-out-n.true)) in t.0
 
 pub returns-then-out-n-clause-out_after : goal.returns-then-out-n-clause-out_after
 returns-then-out-n-clause-out_after c =
-    let t = c.before in
     let t =
-    writes_no_room _ (wire_of (P t)) (Out t) (drafted t) (omega (arith, wire_length (P t), c.if-out-n.true)) in t.1
+    writes_no_room _ (wire_of (P (goal.at.returns-then-out-n-clause-out_after c).Else-not-is_proper)) (Out (goal.at.returns-then-out-n-clause-out_after c).Else-not-is_proper) (drafted (goal.at.returns-then-out-n-clause-out_after c).Else-not-is_proper) (omega (arith, wire_length (P (goal.at.returns-then-out-n-clause-out_after c).Else-not-is_proper), c.if-out-n.true)) in t.1
 
 pub returns-clause-result_value : goal.returns-clause-result_value
 returns-clause-result_value c =
-    let tail = c.before.before in
-    let unit = tail.before.before.before.before in
-    let head = unit.before.before.before.before in
-    let sum = head.before.before in
-    let t = sum.before.before in
-    let p = P t in
-    let room : length p.unit + 7 ≤ length (Out t) = c.if-out-n.false in
-    let whole = put-packet p c.checksum_of-sum.result (Out t) _ _ _ c.checksum_of-sum.ensures.value room
+    let p = P (goal.at.returns-clause-result_value c).Else-not-is_proper in
+    let room : length p.unit + 7 ≤ length (Out (goal.at.returns-clause-result_value c).Else-not-is_proper) = c.if-out-n.false in
+    let whole = put-packet p c.checksum_of-sum.result (Out (goal.at.returns-clause-result_value c).Else-not-is_proper) _ _ _ c.checksum_of-sum.ensures.value room
     c.put_head.ensures c.copy.ensures c.put_tail.ensures in
-    let done = writes_done _ (wire_of p) (Out t) _ (drafted t) (omega (arith, wire_length p, room)) whole in
+    let done = writes_done _ (wire_of p) (Out (goal.at.returns-clause-result_value c).Else-not-is_proper) _ (drafted (goal.at.returns-clause-result_value c).Else-not-is_proper) (omega (arith, wire_length p, room)) whole in
     ap result (sym (wire_length p)) ∙ done.0
 
 pub returns-clause-out_after : goal.returns-clause-out_after
 returns-clause-out_after c =
-    let tail = c.before.before in
-    let unit = tail.before.before.before.before in
-    let head = unit.before.before.before.before in
-    let sum = head.before.before in
-    let t = sum.before.before in
-    let p = P t in
-    let room : length p.unit + 7 ≤ length (Out t) = c.if-out-n.false in
-    let whole = put-packet p c.checksum_of-sum.result (Out t) _ _ _ c.checksum_of-sum.ensures.value room
+    let p = P (goal.at.returns-clause-out_after c).Else-not-is_proper in
+    let room : length p.unit + 7 ≤ length (Out (goal.at.returns-clause-out_after c).Else-not-is_proper) = c.if-out-n.false in
+    let whole = put-packet p c.checksum_of-sum.result (Out (goal.at.returns-clause-out_after c).Else-not-is_proper) _ _ _ c.checksum_of-sum.ensures.value room
     c.put_head.ensures c.copy.ensures c.put_tail.ensures in
-    let done = writes_done _ (wire_of p) (Out t) _ (drafted t) (omega (arith, wire_length p, room)) whole in
+    let done = writes_done _ (wire_of p) (Out (goal.at.returns-clause-out_after c).Else-not-is_proper) _ (drafted (goal.at.returns-clause-out_after c).Else-not-is_proper) (omega (arith, wire_length p, room)) whole in
     done.1

@@ -4,15 +4,15 @@ use native.Mathlib.Omega.{arith}
 use Rattle.numbers.proofs.Numbers.{number-add, number_bound}
 use borrow.Author.Rules.{rules}
 use Rattle.numbers.proofs.eight_at.Goals as goal
-use Rattle.numbers.proofs.eight_at.Lts as tie
+use Rattle.numbers.proofs.eight_at.Goals.{After-four_at-2}
 
-low : (c : tie.After-four_at-2) → c.four_at.result < 256 ^ 4
-low c =
-    rw c.four_at.ensures (number_bound 4 _ c.args.s.now (λ i. (c.shared_slice_known-1.given i).fits))
-
-high : (c : tie.After-four_at-2) → c.four_at-2.result < 256 ^ 4
+high : (c : After-four_at-2) → c.four_at-2.result < 256 ^ 4
 high c =
-    rw c.four_at-2.ensures (number_bound 4 _ c.args.s.now (λ i. (c.shared_slice_known-1.given i).fits))
+    rw c.four_at-2.ensures (number_bound 4 _ c.args.s.now (λ i. (c.type_inv.s i).fits))
+
+low : (c : After-four_at-2) → c.four_at.result < 256 ^ 4
+low c =
+    rw c.four_at.ensures (number_bound 4 _ c.args.s.now (λ i. (c.type_inv.s i).fits))
 
 pub overflow_mul-result : goal.overflow_mul-result
 overflow_mul-result c = record { fits = omega (arith, high c) }

@@ -10,25 +10,22 @@ use native.Mathlib.Omega.{arith}
 use Prim.Native.Nat.{ℕ, ◌+◌, ◌-◌, ◌^◌, ◌<◌, ◌≤◌}
 use mathlib.Core.Path.{◌≡◌, sym, ap, ◌∙◌}
 use Rattle.numbers.proofs.number_at.Goals as goal
-use Rattle.numbers.proofs.number_at.Goals as tie
+use Rattle.numbers.proofs.number_at.Goals.{After-byte_at}
 
 at-most-eight : (n : ℕ) → pick (leb n 8) n 8 ≤ 8
 at-most-eight n = by_bool (leb n 8) (λ y. simp y (omega (arith, leb-true n 8 y))) (λ y. simp y (omega arith))
 
-abbrev St : goal.Zfter-byte_at → goal.Ztart
-St c = c.before.before.before.before.before
-
-bytes : (c : tie.After-byte_at) → Bytes (St c).args.s.now
-bytes c i = (c.shared_slice_known-1.given i).fits
+bytes : (c : After-byte_at) → Bytes c.args.s.now
+bytes c i = (c.type_inv.s i).fits
 
 -- what is read so far leaves room for a byte more
-below : (c : tie.After-byte_at) → c.loop-left.n < 256 ^ 7
+below : (c : After-byte_at) → c.loop-left.n < 256 ^ 7
 below c =
-    let a = (St c).args in
+    let a = c.args in
     number_down_bound (pick (leb a.width 8) a.width 8) a.at c.loop-left.left c.loop-left.n 7 a.s.now
     (bytes c) (omega (arith, c.loop-left-test.true, at-most-eight a.width)) c.loop-left.invariant.1
 
-byte : (c : tie.After-byte_at) → c.byte_at.result < 256
+byte : (c : After-byte_at) → c.byte_at.result < 256
 byte c = rw c.byte_at.ensures (bytes c _)
 
 pub loop-left-init : goal.loop-left-init
@@ -50,7 +47,7 @@ overflow_add-n c = record { fits = omega (arith, below c, byte c) }
 
 pub loop-left-preserved : goal.loop-left-preserved
 loop-left-preserved c =
-    let a = (St c).args in (
+    let a = c.args in (
       search rules,
       number_down (pick (leb a.width 8) a.width 8) a.at c.loop-left.left c.loop-left.n
           c.byte_at.result a.s.now c.loop-left-test.true c.loop-left.invariant.0 c.loop-left.invariant.1

@@ -8,12 +8,12 @@ use borrow.Author.Rules.{rules}
 use Rattle.coscom.proofs.check.is_digit.Reads as is-digit-reads
 use Rattle.coscom.proofs.check.is_proper.Reads as is-proper-reads
 use Rattle.coscom.proofs.check.is_spelt.Goals as goal
-use Rattle.coscom.proofs.check.is_spelt.Tie as tie
+use Rattle.coscom.proofs.check.is_spelt.Goals.{Else-not-is_proper}
 
-abbrev Body : tie.Else-not-is_proper → List ℕ
+abbrev Body : Else-not-is_proper → List ℕ
 Body t = t.args.body.now
 
-enough : (t : tie.Else-not-is_proper) → 5 ≤ length (Body t)
+enough : (t : Else-not-is_proper) → 5 ≤ length (Body t)
 enough t = t.requires
 
 pub returns-then-not-is_proper : goal.returns-then-not-is_proper
@@ -22,13 +22,11 @@ returns-then-not-is_proper c =
 
 pub returns-then-not-is_digit : goal.returns-then-not-is_digit
 returns-then-not-is_digit c =
-    let e = c.before.before.before in
-    spelt_tens (Body e) (enough e) _ c.is_proper.ensures (not-false _ c.if-not-is_proper.false-raw)
+    spelt_tens (Body (goal.at.returns-then-not-is_digit c).Else-not-is_proper) (enough (goal.at.returns-then-not-is_digit c).Else-not-is_proper) _ c.is_proper.ensures (not-false _ c.if-not-is_proper.false-raw)
     (sym c.is_digit.ensures ∙ not-true _ c.if-not-is_digit.true-raw)
 
 pub returns : goal.returns
 returns c =
-    let e = c.before.before.before.before.before in
     c.is_digit-2.ensures
-    ∙ spelt_ones (Body e) (enough e) _ c.is_proper.ensures (not-false _ c.if-not-is_proper.false-raw)
+    ∙ spelt_ones (Body (goal.at.returns c).Else-not-is_proper) (enough (goal.at.returns c).Else-not-is_proper) _ c.is_proper.ensures (not-false _ c.if-not-is_proper.false-raw)
     (sym c.is_digit.ensures ∙ not-false _ c.if-not-is_digit.false-raw)

@@ -16,6 +16,9 @@ use Rattle.frame.proofs.UndoLaws.{undone_behind, lift_fits, fill_most}
 use borrow.Author.Rules.{rules}
 use Rattle.frame.proofs.candidate.unstuff_front.Given as goal
 
+abbrev U : List ℕ → ℕ → ℕ → List ℕ
+U s from end = unstuffed_bytes (unstuff false (drop from (take end s)))
+
 abbrev pub invariant-loop-i : goal.invariant-loop-i
 invariant-loop-i l =
     (l.i ≤ l.end) × ((pending : Bool) × (l.above ≡ lifts pending) × (l.k + pick pending 1 0 ≤ l.i)

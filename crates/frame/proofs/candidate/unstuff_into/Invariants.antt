@@ -11,6 +11,9 @@ use Rattle.frame.proofs.UndoLaws.{Undone, undone_none, undone_place, undone_low,
 use borrow.Author.Rules.{rules}
 use Rattle.frame.proofs.candidate.unstuff_into.Given as goal
 
+abbrev U : List ℕ → List ℕ
+U s = unstuffed_bytes (unstuff false s)
+
 abbrev pub invariant-loop-i : goal.invariant-loop-i
 invariant-loop-i l =
     (l.i ≤ length l.s) × ((pending : Bool) × (l.above ≡ lifts pending) × Undone l.s (U l.s) l.initial.out pending l.i l.k l.out)
