@@ -1,5 +1,7 @@
 // The open candidate of a line: its bytes are held in a lent array as they come, one at a time or by the chunk, and it is
 // judged where it ends. Document 01, "The line"; document 02, No. 4 and No. 9. Positions are the line reader's.
+#![tactic(auto)]
+
 pub mod chunk;
 mod runs;
 mod whole;

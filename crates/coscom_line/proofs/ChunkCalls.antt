@@ -5,6 +5,7 @@ use mathlib.Core.List.{List, [], ◌∷◌}
 use native.Mathlib.Omega.{arith}
 use Prim.Native.Nat.{ℕ}
 use contract.Lifetimes.{Lfts}
+use denote.MutBor.{MutBor}
 use denote.Ref.{Bor}
 use Rattle.lists.specs.Machine.{Ran, RanBy, Through, AnsweredBy}
 use Rattle.lists.proofs.Machines.{ran-run}
@@ -45,7 +46,7 @@ pub data FedOn : LineReader → (given : List ℕ) → (taken : ℕ) → Outcome
   by_value : (κs : Lfts 1) (given : Bor (List ℕ)) {r : LineReader} (f : ChunkFed)
       → feed-reads.Learnt κs (r, (given, tt)) f (r, (given, tt))
       → FedOn r given.now f.answer.taken (outcome_of (told_means f.answer.told) f.next.bytes) f.next
-  on_array : (κs : Lfts 2) (ρ ρ' given : Bor (List ℕ)) {state : State} (s : ChunkStep)
+  on_array : (κs : Lfts 2) (ρ ρ' : MutBor (List ℕ)) (given : Bor (List ℕ)) {state : State} (s : ChunkStep)
       → feed-in-reads.Learnt κs (ρ, (state, (given, tt))) s (ρ', (state, (given, tt)))
       → FedOn (lent_reader ρ.now state) given.now s.taken (outcome_of (told_means s.told) ρ'.now)
       (lent_reader ρ'.now s.state)

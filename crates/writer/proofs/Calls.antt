@@ -6,6 +6,7 @@ use mathlib.Core.Path.{◌≡◌, sym, ap, ◌∙◌, subst}
 use mathlib.Core.List.{List, ◌++◌}
 use lib.ListN.{length, take, drop}
 use contract.Lifetimes.{Lfts}
+use denote.MutBor.{MutBor}
 use denote.Ref.{Bor}
 use Rattle.lists.specs.Choice.{Exactly}
 use Rattle.answer.specs.Answer.{Answer, result, refused, through}
@@ -38,13 +39,13 @@ use Rattle.writer.proofs.extended_length.Reads as extended-length-reads
 -- A call that writes a frame to an origin, by the function of its kind: its answer, and the output before and after.
 -- The functions that write extended frames are not told the origin.
 pub data CalledWrite : Origin → Frame → (out : List ℕ) → Answer ℕ → (last : List ℕ) → Type 0 where
-  wrote_standard : {o : Origin} (r : Written) (κs : Lfts 2) (contents out out' : Bor (List ℕ))
+  wrote_standard : {o : Origin} (r : Written) (κs : Lfts 2) (contents : Bor (List ℕ)) (out out' : MutBor (List ℕ))
       → write-standard-reads.Learnt κs (o, (contents, (out, tt))) r (o, (contents, (out', tt)))
       → CalledWrite o (standard contents.now) out.now (written_means r) out'.now
-  wrote_extended : {o : Origin} {to from : ℕ} (r : Written) (κs : Lfts 2) (contents out out' : Bor (List ℕ))
+  wrote_extended : {o : Origin} {to from : ℕ} (r : Written) (κs : Lfts 2) (contents : Bor (List ℕ)) (out out' : MutBor (List ℕ))
       → write-extended-reads.Learnt κs (to, (from, (contents, (out, tt)))) r (to, (from, (contents, (out', tt))))
       → CalledWrite o (extended to from contents.now) out.now (written_means r) out'.now
-  wrote_number : {o : Origin} {to from : ℕ} (number width : ℕ) (r : Written) (κs : Lfts 1) (out out' : Bor (List ℕ))
+  wrote_number : {o : Origin} {to from : ℕ} (number width : ℕ) (r : Written) (κs : Lfts 1) (out out' : MutBor (List ℕ))
       → write-extended-number-reads.Learnt κs (to, (from, (number, (width, (out, tt))))) r
       (to, (from, (number, (width, (out', tt)))))
       → CalledWrite o (extended to from (bytes_of width number)) out.now (written_means r) out'.now

@@ -1,4 +1,6 @@
 // CSAFE frames measured and written: document 01, "Frames on the wire"; document 02, No. 9.
+#![tactic(auto)]
+
 mod bytes;
 mod measure;
 mod number;
