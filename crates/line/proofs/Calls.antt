@@ -4,6 +4,7 @@ use mathlib.Core.Path.{◌≡◌, sym, ap, ◌∙◌, subst}
 use mathlib.Core.List.{List, map}
 use Prim.Native.Nat.{ℕ}
 use contract.Lifetimes.{Lfts}
+use denote.MutBor.{MutBor}
 use denote.Ref.{Bor}
 use Rattle.lists.specs.Machine.{run, Answered}
 use Rattle.lists.proofs.Machines.{run_told, ran-run}
@@ -95,7 +96,7 @@ lent_outcome_lem bytes s r c k =
 
 -- A call on a reader that is a lent array and a state, its outcome and the reader that it left.
 pub data CalledLent : LineReader → Call → Located Outcome → LineReader → Type 0 where
-  stepped_lent : (κs : Lfts 1) (ρ ρ' : Bor (List ℕ)) {state : State} {b : ℕ} (s : LentStep)
+  stepped_lent : (κs : Lfts 1) (ρ ρ' : MutBor (List ℕ)) {state : State} {b : ℕ} (s : LentStep)
       → step-in-reads.Learnt κs (ρ, (state, (b, tt))) s (ρ', (state, (b, tt)))
       → CalledLent (lent_reader ρ.now state) (byte b) (lent_outcome s ρ'.now) (lent_reader ρ'.now s.state)
   finished_lent : {bytes : List ℕ} {state : State} (s : LentStep) → finish-in-reads.Learnt tt (state, tt) s (state, tt)

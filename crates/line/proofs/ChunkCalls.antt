@@ -12,6 +12,7 @@ use prog.Routine.{Routine}
 use types.Logic.{Logic}
 use contract.Lifetimes.{Lfts}
 use contract.Monad.{Fun, fact}
+use denote.MutBor.{MutBor}
 use denote.Ref.{Bor}
 use Rattle.lists.specs.Machine.{run, Ran, RanBy, AnsweredBy}
 use Rattle.lists.proofs.Machines.{ran-run}
@@ -81,13 +82,13 @@ abbrev pub FedLent : LineReader → List ℕ → ChunkAnswer → LineReader → 
 FedLent r given a next = ChunkAnswerIs next a (chunk_of r given)
 
 module _ {M : Type 1} {𝓤 : Ura M} (𝓛 : Logic 𝓤) (mem : Memory → SProp 𝓤) (run : Routine → Fun 𝓤) where
-  pub feed_lent_ensures : (κs : Lfts 2) (ρ ρ' : Bor LineReader) (given given' : Bor (List ℕ)) (a : ChunkAnswer)
+  pub feed_lent_ensures : (κs : Lfts 2) (ρ ρ' : MutBor LineReader) (given given' : Bor (List ℕ)) (a : ChunkAnswer)
       → (feed-lent.clauses 𝓛 mem run κs (ρ, (given, tt))).ensures tt a (ρ', (given', tt))
       ≡ fact 𝓤 (FedLent ρ.now given.now a ρ'.now)
   feed_lent_ensures κs ρ ρ' given given' a = refl
 
   -- It asks nothing of a caller.
-  pub feed_lent_asks : (κs : Lfts 2) (ρ : Bor LineReader) (given : Bor (List ℕ))
+  pub feed_lent_asks : (κs : Lfts 2) (ρ : MutBor LineReader) (given : Bor (List ℕ))
       → (feed-lent.clauses 𝓛 mem run κs (ρ, (given, tt))).requires tt ≡ emp 𝓤
   feed_lent_asks κs ρ given = refl
 
@@ -106,7 +107,7 @@ pub data FedOn : LineReader → (given : List ℕ) → (taken : ℕ) → Located
       → feed-reads.Learnt κs (r, (given, tt)) f (r, (given, tt))
       → FedOn r given.now f.answer.taken
       (located_outcome (told_means f.answer.told) f.answer.position f.next.bytes) f.next
-  on_array : (κs : Lfts 2) (ρ ρ' given : Bor (List ℕ)) {state : State} (s : ChunkStep)
+  on_array : (κs : Lfts 2) (ρ ρ' : MutBor (List ℕ)) (given : Bor (List ℕ)) {state : State} (s : ChunkStep)
       → feed-in-reads.Learnt κs (ρ, (state, (given, tt))) s (ρ', (state, (given, tt)))
       → FedOn (lent_reader ρ.now state) given.now s.taken
       (located_outcome (told_means s.told) s.position ρ'.now) (lent_reader ρ'.now s.state)

@@ -1,6 +1,8 @@
 // The line reader: fed one byte at a time, or a chunk up to the first byte that is answered, it tells of each frame and
 // each refusal at the call where it ends, with the position of its start flag. Document 01, "The line"; document 02,
 // No. 4, No. 7 and No. 9.
+#![tactic(auto)]
+
 ghost use Rattle.std.specs.Prelude.{◌≡◌, List, ℕ, ◌+◌, ◌≤◌, take};
 ghost use Rattle.lists.specs.Machine.{turn};
 ghost use Rattle.framing.specs.Located.{located};

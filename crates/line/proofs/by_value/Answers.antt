@@ -6,18 +6,14 @@ use Rattle.line.specs.Private.{beside_told}
 use Rattle.line.specs.declared.LineReader.{LineReader}
 use Rattle.line.proofs.ValueLaws.{value_means}
 use borrow.Author.Rules.{rules}
-use Rattle.line.proofs.by_value.Statement.{statement}
-use Rattle.line.proofs.by_value.Tie as tie
+use Rattle.line.proofs.by_value.Goals as goal
 
-beside-requires : tie.Need-beside-requires
-beside-requires c κs = search rules
-
-returns : tie.Need-returns
+pub returns : goal.returns
 returns c =
     λ t m w.
     let told = summary_of (answer_in t.answer) in
-    let e : c.beside.result ≡ beside_told told t.next.bytes =
-    c.beside.ensures ∙ ap (λ (h : Summary). beside_told h c.before.before.args.bytes) m.told_is
+    let e : c.beside-contents.result ≡ beside_told told t.next.bytes =
+    c.beside-contents.ensures ∙ ap (λ (h : Summary). beside_told h c.args.bytes) m.told_is
     ∙ ap (λ (r : LineReader). beside_told told r.bytes) m.next_is in
     record {
       answer_is = (λ i. located_as (m.told_is i) (m.position_is i) (record { told = m.told_is i; contents = e i }))
@@ -25,6 +21,3 @@ returns c =
       position_is = m.position_is;
       next_is = m.next_is;
     }
-
-pub by-value-spec : {M : Type 1} → statement M
-by-value-spec = tie.close (tie.spec beside-requires returns)

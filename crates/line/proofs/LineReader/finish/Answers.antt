@@ -1,0 +1,9 @@
+use Rattle.framing.specs.Reference.{finish}
+use Rattle.line.proofs.ValueLaws.{call_whole}
+use borrow.Author.Rules.{rules}
+use Rattle.line.proofs.LineReader.finish.Goals as goal
+
+pub returns : goal.returns
+returns c =
+    let r = c.args.self in
+    c.by_value.ensures _ (c.finish_in-step.ensures _) (call_whole r finish)
