@@ -1,5 +1,7 @@
 // The lines of a listing (document 01, "Listing"; document 02, No. 7), written into an output that is lent: one for
 // each answer of the line reader, and one of totals.
+#![tactic(auto)]
+
 mod digits;
 
 ghost use Rattle.std.specs.Prelude.{◌≡◌, ◌+◌, ◌≤◌, length};
