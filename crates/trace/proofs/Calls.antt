@@ -1,6 +1,6 @@
 -- The listing of the functions themselves: any run of calls, known by nothing but what the contracts tell a caller,
 -- writes the text of the trace.
-use Rattle.std.proofs.Common.{◌≡◌, ℕ, ◌<◌, ◌≤◌, List, [], ◌++◌, length, take, drop, sym, refl, ◌∙◌, subst, arith, Bor}
+use Rattle.std.proofs.Common.{◌≡◌, ℕ, ◌<◌, ◌≤◌, List, [], ◌++◌, length, take, drop, sym, refl, ◌∙◌, subst, arith, Bor, MutBor}
 use contract.Lifetimes.{Lfts}
 use Rattle.lists.specs.Choice.{Exactly}
 use Rattle.lists.proofs.Cases.{exactly}
@@ -25,7 +25,7 @@ use Rattle.trace.proofs.finish.Reads as finish-reads
 -- left and any output.
 pub data ListCalls : Listing → (bytes written : List ℕ) → Listing → Type 0 where
   ended_lent : {s : Listing} → ListCalls s [] [] s
-  listed : {s s' : Listing} {written : List ℕ} (κs : Lfts 2) (chunk chunk' out out' : Bor (List ℕ)) (rest : List ℕ)
+  listed : {s s' : Listing} {written : List ℕ} (κs : Lfts 2) (chunk chunk' : Bor (List ℕ)) (out out' : MutBor (List ℕ)) (rest : List ℕ)
       (r : Listed)
       → list-reads.Learnt κs (s, (chunk, (out, tt))) r (s, (chunk', (out', tt)))
       → ListCalls r.next (drop r.taken chunk.now ++ rest) written s'
@@ -38,7 +38,7 @@ ran (listed κs chunk chunk' out out' rest r l t) = call chunk.now rest out.now 
 -- `new`, calls of `list` over the whole trace, and a `finish` that answered a length.
 pub calls_write_text : (trace : List ℕ) → length trace ≤ most_bytes → (s : Listing) → new-reads.Learnt tt tt s tt
     → (s' : Listing) (before : List ℕ) → ListCalls s trace before s'
-    → (κs : Lfts 1) (out out' : Bor (List ℕ)) (r : Written)
+    → (κs : Lfts 1) (out out' : MutBor (List ℕ)) (r : Written)
     → finish-reads.Learnt κs (s', (out, tt)) r (s', (out', tt))
     → (wrote : ℕ) → written_means r ≡ result wrote → before ++ take wrote out'.now ≡ text trace
 calls_write_text trace h s n s' before t κs out out' r e wrote a =
@@ -54,7 +54,7 @@ calls_write_text trace h s n s' before t κs out out' r e wrote a =
       all = refl;
     })
 
-module _ (s : Listing) (κs : Lfts 1) (out out' : Bor (List ℕ)) (r : Written)
+module _ (s : Listing) (κs : Lfts 1) (out out' : MutBor (List ℕ)) (r : Written)
     (e : finish-reads.Learnt κs (s, (out, tt)) r (s, (out', tt))) where
   -- A `finish` with room for the line of an answer and for the totals answers a length.
   pub finish_answers : last_room ≤ length out.now → (wrote : ℕ) × (written_means r ≡ result wrote)
@@ -72,7 +72,7 @@ module _ (s : Listing) (κs : Lfts 1) (out out' : Bor (List ℕ)) (r : Written)
   )
 
 -- A call of `list` with a byte to take and room for the line of any answer takes a byte.
-pub call_takes_some : (s : Listing) (κs : Lfts 2) (chunk chunk' out out' : Bor (List ℕ)) (r : Listed)
+pub call_takes_some : (s : Listing) (κs : Lfts 2) (chunk chunk' : Bor (List ℕ)) (out out' : MutBor (List ℕ)) (r : Listed)
     → 0 < length chunk.now → line_room ≤ length out.now
     → list-reads.Learnt κs (s, (chunk, (out, tt))) r (s, (chunk', (out', tt))) → 0 < r.taken
 call_takes_some s κs chunk chunk' out out' r h room l = takes_some s chunk.now out.now out'.now r h room l

@@ -1,6 +1,8 @@
 // The listing of a trace: a line for each answer of the line reader, then the totals (document 01, "Listing"; document
 // 02, No. 7).
 // The state is a value. A call takes a chunk of the trace and a lent output, and writes whole lines into it.
+#![tactic(auto)]
+
 ghost use Rattle.std.specs.Prelude.{◌≡◌, ◌+◌, ◌<◌, ◌≤◌, length};
 ghost use Rattle.answer.specs.Answer.{result as answered};
 ghost use Rattle.answer.specs.Draft.{draft_answer, draft_out, written_means};
