@@ -7,6 +7,7 @@ use mathlib.Core.Path.{◌≡◌, refl, ap, ◌∙◌, subst}
 use mathlib.Core.List.{List, ◌++◌}
 use lib.ListN.{length, take, drop}
 use contract.Lifetimes.{Lfts}
+use denote.MutBor.{MutBor}
 use denote.Ref.{Bor}
 use Rattle.lists.specs.Choice.{Exactly}
 use Rattle.answer.specs.Answer.{Answer, result, refused, through}
@@ -44,13 +45,13 @@ use Rattle.exports.proofs.read.Reads as read-at-reads
 -- A call that writes a frame to an origin, by the function of its kind: the answer that its number tells, and the output
 -- before and after. The function that writes extended frames is one for both origins.
 pub data ExportedWrite : Origin → Frame → (out : List ℕ) → Answer ℕ → (last : List ℕ) → Type 0 where
-  wrote_standard : (n : ℕ) (κs : Lfts 2) (contents out out' : Bor (List ℕ))
+  wrote_standard : (n : ℕ) (κs : Lfts 2) (contents : Bor (List ℕ)) (out out' : MutBor (List ℕ))
       → write-standard-reads.Learnt κs (contents, (out, tt)) n (contents, (out', tt))
       → ExportedWrite Live (standard contents.now) out.now (told_written n) out'.now
-  wrote_standard_at : {o : Origin} (n : ℕ) (κs : Lfts 2) (contents out out' : Bor (List ℕ))
+  wrote_standard_at : {o : Origin} (n : ℕ) (κs : Lfts 2) (contents : Bor (List ℕ)) (out out' : MutBor (List ℕ))
       → write-standard-at-reads.Learnt κs (o, (contents, (out, tt))) n (o, (contents, (out', tt)))
       → ExportedWrite o (standard contents.now) out.now (told_written n) out'.now
-  wrote_extended : {o : Origin} {to from : ℕ} (n : ℕ) (κs : Lfts 2) (contents out out' : Bor (List ℕ))
+  wrote_extended : {o : Origin} {to from : ℕ} (n : ℕ) (κs : Lfts 2) (contents : Bor (List ℕ)) (out out' : MutBor (List ℕ))
       → write-extended-reads.Learnt κs (to, (from, (contents, (out, tt)))) n (to, (from, (contents, (out', tt))))
       → ExportedWrite o (extended to from contents.now) out.now (told_written n) out'.now
 
@@ -69,10 +70,10 @@ pub data ExportedLength : Origin → Frame → Answer ℕ → Type 0 where
 
 -- A call that reads a slice of an origin: the answer that its number tells, and the output before and after.
 pub data ExportedRead : Origin → (w out : List ℕ) → Answer FrameOutline → (last : List ℕ) → Type 0 where
-  read_slice : (n : ℕ) (κs : Lfts 2) (wire out out' : Bor (List ℕ))
+  read_slice : (n : ℕ) (κs : Lfts 2) (wire : Bor (List ℕ)) (out out' : MutBor (List ℕ))
       → read-reads.Learnt κs (wire, (out, tt)) n (wire, (out', tt))
       → ExportedRead Live wire.now out.now (told_read n) out'.now
-  read_at : {o : Origin} (n : ℕ) (κs : Lfts 2) (wire out out' : Bor (List ℕ))
+  read_at : {o : Origin} (n : ℕ) (κs : Lfts 2) (wire : Bor (List ℕ)) (out out' : MutBor (List ℕ))
       → read-at-reads.Learnt κs (o, (wire, (out, tt))) n (o, (wire, (out', tt)))
       → ExportedRead o wire.now out.now (told_read n) out'.now
 

@@ -5,6 +5,7 @@ use mathlib.Core.Path.{◌≡◌, sym}
 use mathlib.Core.List.{List}
 use lib.ListN.{length}
 use contract.Lifetimes.{Lfts}
+use denote.MutBor.{MutBor}
 use denote.Ref.{Bor}
 use Rattle.lists.specs.Machine.{Answered}
 use Rattle.numbers.specs.Number.{bytes_of_all}
@@ -24,13 +25,13 @@ use Rattle.exports.proofs.csafe_stop.Reads as stop-reads
 -- A call on lent bytes, with the answer that the caller has in the number and the output, and the bytes afterwards:
 -- what its contract tells the caller.
 pub data ExportedLease : List ℕ → LeaseCall → Answer (List ℕ) → List ℕ → Type 0 where
-  exported_held : {a u : ℕ} (n : ℕ) (κs : Lfts 1) (s s' : Bor (List ℕ))
+  exported_held : {a u : ℕ} (n : ℕ) (κs : Lfts 1) (s s' : MutBor (List ℕ))
       → hold-reads.Learnt κs (s, (a, (u, tt))) n (s', (a, (u, tt)))
       → ExportedLease s.now (hold a u) (told_lease n) s'.now
-  exported_released : {a u : ℕ} (n : ℕ) (κs : Lfts 1) (s s' : Bor (List ℕ))
+  exported_released : {a u : ℕ} (n : ℕ) (κs : Lfts 1) (s s' : MutBor (List ℕ))
       → release-reads.Learnt κs (s, (a, (u, tt))) n (s', (a, (u, tt)))
       → ExportedLease s.now (release a u) (told_lease n) s'.now
-  exported_stopped : {a u : ℕ} (n : ℕ) (κs : Lfts 2) (s out out' : Bor (List ℕ))
+  exported_stopped : {a u : ℕ} (n : ℕ) (κs : Lfts 2) (s : Bor (List ℕ)) (out out' : MutBor (List ℕ))
       → stop-reads.Learnt κs (s, (a, (u, (out, tt)))) n (s, (a, (u, (out', tt))))
       → ExportedLease s.now (stop a u (length out.now)) (stop_told (told_written n) out'.now) s.now
 

@@ -7,6 +7,7 @@ use native.Mathlib.Omega.{arith}
 use Prim.Native.Nat.{ℕ, ◌+◌, ◌≤◌, ◌<◌}
 use lib.ListN.{length, drop}
 use contract.Lifetimes.{Lfts}
+use denote.MutBor.{MutBor}
 use denote.Ref.{Bor}
 use Rattle.lists.specs.Choice.{Every, EachPair, Exactly}
 use Rattle.lists.specs.Machine.{left_after, RanBy, Through, AnsweredBy}
@@ -57,14 +58,14 @@ use Rattle.exports.proofs.csafe_finish.Reads as finish-reads
 -- A call of the portal that feeds at an origin, the bytes that it was given, how many of them it took, the outcome with
 -- its position as the portal has it, and the array and the state that it left.
 pub data ExportedFed : Origin → LentLine → (given : List ℕ) → (taken : ℕ) → Located Outcome → LentLine → Type 0 where
-  fed : (κs : Lfts 6) (bytes bytes' : Bor (List ℕ)) (state state' counts counts' : Bor ℕ) (input : Bor (List ℕ))
-      (taken taken' position position' : Bor ℕ) (n : ℕ)
+  fed : (κs : Lfts 6) (bytes bytes' : MutBor (List ℕ)) (state state' counts counts' : MutBor ℕ) (input : Bor (List ℕ))
+      (taken taken' position position' : MutBor ℕ) (n : ℕ)
       → feed-reads.Learnt κs (bytes, (state, (counts, (input, (taken, (position, tt)))))) n
       (bytes', (state', (counts', (input, (taken', (position', tt))))))
       → ExportedFed Live (lent_line bytes.now state.now counts.now) input.now taken'.now
       (told_located n position'.now bytes'.now) (lent_line bytes'.now state'.now counts'.now)
-  fed_at : {o : Origin} (κs : Lfts 6) (bytes bytes' : Bor (List ℕ)) (state state' counts counts' : Bor ℕ)
-      (input : Bor (List ℕ)) (taken taken' position position' : Bor ℕ) (n : ℕ)
+  fed_at : {o : Origin} (κs : Lfts 6) (bytes bytes' : MutBor (List ℕ)) (state state' counts counts' : MutBor ℕ)
+      (input : Bor (List ℕ)) (taken taken' position position' : MutBor ℕ) (n : ℕ)
       → feed-at-reads.Learnt κs (o, (bytes, (state, (counts, (input, (taken, (position, tt))))))) n
       (o, (bytes', (state', (counts', (input, (taken', (position', tt)))))))
       → ExportedFed o (lent_line bytes.now state.now counts.now) input.now taken'.now
@@ -72,7 +73,7 @@ pub data ExportedFed : Origin → LentLine → (given : List ℕ) → (taken : �
 
 -- A call that ends the input, its outcome, and the array and the state that it left. It is one for both origins.
 pub data ExportedEnd : LentLine → Located Outcome → LentLine → Type 0 where
-  ended : (κs : Lfts 3) {bytes : List ℕ} (state state' counts counts' position position' : Bor ℕ) (n : ℕ)
+  ended : (κs : Lfts 3) {bytes : List ℕ} (state state' counts counts' position position' : MutBor ℕ) (n : ℕ)
       → finish-reads.Learnt κs (state, (counts, (position, tt))) n (state', (counts', (position', tt)))
       → ExportedEnd (lent_line bytes state.now counts.now) (told_located n position'.now bytes)
       (lent_line bytes state'.now counts'.now)

@@ -7,6 +7,7 @@ use mathlib.Core.Logic.{◌⊎◌}
 use mathlib.Core.List.{List}
 use lib.ListN.{length, take}
 use contract.Lifetimes.{Lfts}
+use denote.MutBor.{MutBor}
 use denote.Ref.{Bor}
 use Rattle.lists.specs.Choice.{Exactly}
 use Rattle.lists.specs.Machine.{AnsweredBy}
@@ -43,10 +44,10 @@ use Rattle.exports.proofs.csafe_write_time_workout_frame.Reads as write-time-fra
 -- A call that writes a workout, by the function of its goal: the answer that its number tells, and the output before
 -- and after.
 pub data ExportedWorkout : Programmed → (out : List ℕ) → Answer ℕ → (last : List ℕ) → Type 0 where
-  wrote_distance : {metres split watts : ℕ} (n : ℕ) (κs : Lfts 1) (out out' : Bor (List ℕ))
+  wrote_distance : {metres split watts : ℕ} (n : ℕ) (κs : Lfts 1) (out out' : MutBor (List ℕ))
       → write-distance-reads.Learnt κs (metres, (split, (watts, (out, tt)))) n (metres, (split, (watts, (out', tt))))
       → ExportedWorkout (distance metres split watts) out.now (told_written n) out'.now
-  wrote_time : {seconds split watts : ℕ} (n : ℕ) (κs : Lfts 1) (out out' : Bor (List ℕ))
+  wrote_time : {seconds split watts : ℕ} (n : ℕ) (κs : Lfts 1) (out out' : MutBor (List ℕ))
       → write-time-reads.Learnt κs (seconds, (split, (watts, (out, tt)))) n (seconds, (split, (watts, (out', tt))))
       → ExportedWorkout (time seconds split watts) out.now (told_written n) out'.now
 
@@ -82,11 +83,11 @@ exported_workout_reads_back {w} {out} {last} {n} {a} k r =
 -- A call that writes a workout in a frame to an address, by the function of its goal: the answer that its number tells,
 -- and the output before and after.
 pub data ExportedWorkoutFrame : (to : ℕ) → Programmed → (out : List ℕ) → Answer ℕ → (last : List ℕ) → Type 0 where
-  wrote_distance_frame : {to metres split watts : ℕ} (n : ℕ) (κs : Lfts 1) (out out' : Bor (List ℕ))
+  wrote_distance_frame : {to metres split watts : ℕ} (n : ℕ) (κs : Lfts 1) (out out' : MutBor (List ℕ))
       → write-distance-frame-reads.Learnt κs (to, (metres, (split, (watts, (out, tt))))) n
       (to, (metres, (split, (watts, (out', tt)))))
       → ExportedWorkoutFrame to (distance metres split watts) out.now (told_written n) out'.now
-  wrote_time_frame : {to seconds split watts : ℕ} (n : ℕ) (κs : Lfts 1) (out out' : Bor (List ℕ))
+  wrote_time_frame : {to seconds split watts : ℕ} (n : ℕ) (κs : Lfts 1) (out out' : MutBor (List ℕ))
       → write-time-frame-reads.Learnt κs (to, (seconds, (split, (watts, (out, tt))))) n
       (to, (seconds, (split, (watts, (out', tt)))))
       → ExportedWorkoutFrame to (time seconds split watts) out.now (told_written n) out'.now

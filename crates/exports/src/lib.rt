@@ -1,6 +1,8 @@
 // The portal's functions: frames, the line reader, workouts and leases, called with numbers and byte slices.
 // Document 01, "What the box does"; document 02, No. 9. The exported functions are live; those for traces stand in
 // another static library, `trace_exports`, over the functions that take an origin.
+#![tactic(auto)]
+
 mod line_state;
 pub mod packed;
 
