@@ -38,7 +38,7 @@ use Rattle.command.proofs.entries.Cursor.step.Reads as step-reads
 use Rattle.command.proofs.is_wrapper.Reads as is-wrapper-reads
 use Rattle.command.proofs.nth.Reads as nth-reads
 use Rattle.command.proofs.nth_data.Reads as nth-data-reads
-use Rattle.command.proofs.nth_inside_lem.Reads as nth-inside-reads
+use Rattle.command.proofs.nth_inside.Reads as nth-inside-reads
 use Rattle.command.proofs.nth_inside_data.Reads as nth-inside-data-reads
 use Rattle.command.proofs.traversal.command_at.Reads as command-at-reads
 use Rattle.command.proofs.traversal.data_at.Reads as data-at-reads

@@ -1,6 +1,5 @@
--- The table of a command cursor. The kit makes nothing that a theorem could cite of a function that takes or gives a
--- struct with a reference in it, so what such a function's contract ensures is written here, and that it is the
--- contract's own, antt sees by computing.
+-- The table of a command cursor. What the contracts of its functions ensure is written here once, over the cursors
+-- alone; that it is the contracts' own, antt sees by computing, and any call of such a function tells it.
 use Prim.Native.Nat.{ℕ, suc, ◌+◌, ◌-◌}
 use mathlib.Core.Path.{◌≡◌, refl, sym, ap, ◌∙◌, subst}
 use mathlib.Core.List.{List}
@@ -33,6 +32,10 @@ use Rattle.command.specs.contracts.cursor.CommandCursor.new as new
 use Rattle.command.specs.contracts.cursor.CommandCursor.command as command
 use Rattle.command.specs.contracts.cursor.CommandCursor.data as data_of
 use Rattle.command.specs.contracts.cursor.CommandCursor.advanced as advanced
+use Rattle.command.proofs.cursor.CommandCursor.new.Reads as new-reads
+use Rattle.command.proofs.cursor.CommandCursor.command.Reads as command-reads
+use Rattle.command.proofs.cursor.CommandCursor.data.Reads as data-reads
+use Rattle.command.proofs.cursor.CommandCursor.advanced.Reads as advanced-reads
 
 -- ---- what the contracts ensure
 
@@ -65,6 +68,24 @@ module _ {M : Type 1} {𝓤 : Ura M} (𝓛 : Logic 𝓤) (mem : Memory → SProp
   pub advanced_ensures : (c c' d : CommandCursor)
       → (advanced.clauses 𝓛 mem run κs (c, tt)).ensures tt d (c', tt) ≡ fact 𝓤 (MovesTo c d)
   advanced_ensures c c' d = refl
+
+-- ---- what any call tells, known by nothing but its contract
+
+pub new_told : (κs : Lfts 1) (s s' : Bor (List ℕ)) (c : CommandCursor) → new-reads.Learnt κs (s, tt) c (s', tt)
+    → Made s c
+new_told κs s s' c e = e
+
+pub command_told : (κs : Lfts 1) (c c' : CommandCursor) (r : Found) → command-reads.Learnt κs (c, tt) r (c', tt)
+    → Answers c r
+command_told κs c c' r e = e
+
+pub data_told : (κs : Lfts 1) (c c' : CommandCursor) (r : Bor (List ℕ)) → data-reads.Learnt κs (c, tt) r (c', tt)
+    → HandsOut c r
+data_told κs c c' r e = e
+
+pub advanced_told : (κs : Lfts 1) (c c' d : CommandCursor) → advanced-reads.Learnt κs (c, tt) d (c', tt)
+    → MovesTo c d
+advanced_told κs c c' d e = e
 
 -- ---- a cursor that was made on contents and moved so many times
 

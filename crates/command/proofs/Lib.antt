@@ -5,11 +5,8 @@ pub mod PartLaws
 pub mod Table
 pub mod StepTable
 pub mod InnerLaws
-pub mod Called
 pub mod CursorMoves
 pub mod CursorSteps
-pub mod Held
-pub mod Thin
 pub mod StopLaws
 pub mod Stops
 pub mod Calls

@@ -29,8 +29,7 @@ use frame::Origin;
 use workout::{Goal, Hundredths, Metres, Seconds, Workout};
 
 // Refuses a standard frame with 17, so that a caller that writes one is told why.
-#[unsafe(no_mangle)]
-pub extern "C" fn csafe_write_standard(contents: &[u8], out: &mut [u8]) -> u64
+pub fn csafe_write_standard(contents: &[u8], out: &mut [u8]) -> u64
     ensures tells { Tells result
         (write_fields (draft_answer (sent_draft Live (standard contents.now)) (length out.old))) }
     ensures out_after { out.new ≡ draft_out (sent_draft Live (standard contents.now))
@@ -40,8 +39,7 @@ pub extern "C" fn csafe_write_standard(contents: &[u8], out: &mut [u8]) -> u64
 }
 
 // Writes an extended frame. Refusals 2 and 1.
-#[unsafe(no_mangle)]
-pub extern "C" fn csafe_write_extended(to: u8, from: u8, contents: &[u8], out: &mut [u8]) -> u64
+pub fn csafe_write_extended(to: u8, from: u8, contents: &[u8], out: &mut [u8]) -> u64
     ensures tells { Tells result
         (write_fields (draft_answer (frame_draft (extended to from contents.now))
         (length out.old))) }
@@ -53,16 +51,14 @@ pub extern "C" fn csafe_write_extended(to: u8, from: u8, contents: &[u8], out: &
 }
 
 // Refuses a standard frame with 17, as `csafe_write_standard` does.
-#[unsafe(no_mangle)]
-pub extern "C" fn csafe_standard_length(contents: &[u8]) -> u64
+pub fn csafe_standard_length(contents: &[u8]) -> u64
     ensures { Tells result (write_fields (through length (sent_draft Live (standard contents.now)))) }
 {
     standard_length(Origin::Live, contents)
 }
 
 // How many bytes an extended frame takes on the wire, which is the room that writing it needs. Refusal 2.
-#[unsafe(no_mangle)]
-pub extern "C" fn csafe_extended_length(to: u8, from: u8, contents: &[u8]) -> u64
+pub fn csafe_extended_length(to: u8, from: u8, contents: &[u8]) -> u64
     ensures { Tells result (write_fields (through length (frame_draft (extended to from contents.now)))) }
 {
     let length = writer::extended_length(to, from, contents);
@@ -70,8 +66,7 @@ pub extern "C" fn csafe_extended_length(to: u8, from: u8, contents: &[u8]) -> u6
 }
 
 // Reads one frame. Refusals 6, 2, 3, 4, 5, 17 and 1.
-#[unsafe(no_mangle)]
-pub extern "C" fn csafe_read(wire: &[u8], out: &mut [u8]) -> u64
+pub fn csafe_read(wire: &[u8], out: &mut [u8]) -> u64
     ensures tells { Tells result
         (read_fields (read_answer (admit Live (verdict wire.now)) (length out.old))) }
     ensures out_after { out.new ≡ read_out (admit Live (verdict wire.now)) out.old }
@@ -83,8 +78,7 @@ pub extern "C" fn csafe_read(wire: &[u8], out: &mut [u8]) -> u64
 // the answer's start flag. With no answer all are taken, or as many as the reader can still count. A chunk of more than
 // 65,536 bytes is cut to its first 65,536. The reader is its array and the two numbers that hold its state, both 0 for a
 // new one. A standard frame is told as refusal 17, and a first byte that can't be taken as 16, at position 0.
-#[unsafe(no_mangle)]
-pub extern "C" fn csafe_feed(
+pub fn csafe_feed(
     bytes: &mut [u8; 118],
     state: &mut u64,
     counts: &mut u64,
@@ -101,8 +95,7 @@ pub extern "C" fn csafe_feed(
 
 // Ends the input of the line reader whose state the two numbers hold, of either origin; its array stays as it is. Refusal
 // 6, with the position of its start flag, where a candidate is open.
-#[unsafe(no_mangle)]
-pub extern "C" fn csafe_finish(state: &mut u64, counts: &mut u64, position: &mut u32) -> u64
+pub fn csafe_finish(state: &mut u64, counts: &mut u64, position: &mut u32) -> u64
     ensures { (o : Origin) (bytes : List ℕ)
         → FinishedAs result state.new counts.new position.new
         (finished o bytes state.old counts.old) }
@@ -118,13 +111,7 @@ pub extern "C" fn csafe_finish(state: &mut u64, counts: &mut u64, position: &mut
 }
 
 // Writes the contents of a workout over a distance. Refusals 12 and 1.
-#[unsafe(no_mangle)]
-pub extern "C" fn csafe_write_distance_workout(
-    metres: u32,
-    split: u32,
-    watts: u16,
-    out: &mut [u8],
-) -> u64
+pub fn csafe_write_distance_workout(metres: u32, split: u32, watts: u16, out: &mut [u8]) -> u64
     ensures tells { Tells result
         (write_fields (draft_answer (workout_draft pm3_limits (Programmed.distance metres split watts))
         (length out.old))) }
@@ -140,13 +127,7 @@ pub extern "C" fn csafe_write_distance_workout(
 }
 
 // Writes the contents of a workout over a time. Refusals 12 and 1.
-#[unsafe(no_mangle)]
-pub extern "C" fn csafe_write_time_workout(
-    seconds: u32,
-    split: u32,
-    watts: u16,
-    out: &mut [u8],
-) -> u64
+pub fn csafe_write_time_workout(seconds: u32, split: u32, watts: u16, out: &mut [u8]) -> u64
     ensures tells { Tells result
         (write_fields (draft_answer (workout_draft pm3_limits (Programmed.time seconds split watts)) (length out.old))) }
     ensures out_after { out.new ≡ draft_out (workout_draft pm3_limits (Programmed.time seconds split watts))
@@ -161,8 +142,7 @@ pub extern "C" fn csafe_write_time_workout(
 }
 
 // Writes a workout over a distance in an extended frame from 00 to an address. Refusals 9, 12 and 1.
-#[unsafe(no_mangle)]
-pub extern "C" fn csafe_write_distance_workout_frame(
+pub fn csafe_write_distance_workout_frame(
     address: u32,
     metres: u32,
     split: u32,
@@ -184,8 +164,7 @@ pub extern "C" fn csafe_write_distance_workout_frame(
 }
 
 // Writes a workout over a time in an extended frame from 00 to an address. Refusals 9, 12 and 1.
-#[unsafe(no_mangle)]
-pub extern "C" fn csafe_write_time_workout_frame(
+pub fn csafe_write_time_workout_frame(
     address: u32,
     seconds: u32,
     split: u32,
@@ -207,8 +186,7 @@ pub extern "C" fn csafe_write_time_workout_frame(
 }
 
 // Takes a free address. Refusals 18, 9, 14 and 10.
-#[unsafe(no_mangle)]
-pub extern "C" fn csafe_hold(table: &mut [u8], address: u32, token: u64) -> u64
+pub fn csafe_hold(table: &mut [u8], address: u32, token: u64) -> u64
     ensures tells { Tells result (lease_fields (lent_answer table.old (hold address token))) }
     ensures table_after { table.new ≡ lent_after table.old (hold address token) }
     ensures real { Real table.old token }
@@ -218,8 +196,7 @@ pub extern "C" fn csafe_hold(table: &mut [u8], address: u32, token: u64) -> u64
 }
 
 // Frees an address for its holder. Refusals 18, 9 and 11.
-#[unsafe(no_mangle)]
-pub extern "C" fn csafe_release(table: &mut [u8], address: u32, token: u64) -> u64
+pub fn csafe_release(table: &mut [u8], address: u32, token: u64) -> u64
     ensures tells { Tells result (lease_fields (lent_answer table.old (release address token))) }
     ensures table_after { table.new ≡ lent_after table.old (release address token) }
     ensures real { Real table.old token }
@@ -229,8 +206,7 @@ pub extern "C" fn csafe_release(table: &mut [u8], address: u32, token: u64) -> u
 }
 
 // Writes the stop frame for the holder. Refusals 18, 9, 11 and 1.
-#[unsafe(no_mangle)]
-pub extern "C" fn csafe_stop(table: &[u8], address: u32, token: u64, out: &mut [u8]) -> u64
+pub fn csafe_stop(table: &[u8], address: u32, token: u64, out: &mut [u8]) -> u64
     ensures tells { Tells result (write_fields
         (written_length (lent_answer table.now (stop address token (length out.old))))) }
     ensures out_after { out.new

@@ -7,6 +7,7 @@ use mathlib.Core.List.{List, [], ◌∷◌, ◌++◌, append_assoc, append-nil}
 use lib.ListN.{length, take, drop}
 use borrow.Author.Tests.{lt-ltb}
 use contract.Lifetimes.{Lfts}
+use denote.MutBor.{MutBor}
 use denote.Ref.{Bor}
 use Rattle.lists.specs.Choice.{Every, Exactly}
 use Rattle.lists.specs.Machine.{Ran, ended, call, Answered}
@@ -51,11 +52,11 @@ abbrev pub CalledData : Lfts 1 → (contents : Bor (List ℕ)) (n : ℕ) → Bor
 CalledData κs s n r = data_Reads.Learnt κs (s, (n, tt)) r (s, (n, tt))
 
 -- Of a writer, with the output before and after the call.
-abbrev pub CalledStatus : Lfts 1 → ℕ → (out : Bor (List ℕ)) → Written → (last : Bor (List ℕ)) → Type 0
+abbrev pub CalledStatus : Lfts 1 → ℕ → (out : MutBor (List ℕ)) → Written → (last : MutBor (List ℕ)) → Type 0
 CalledStatus κs b out r last = status-reads.Learnt κs (b, (out, tt)) r (b, (last, tt))
 
-abbrev pub CalledItem : Lfts 3 → (prior : Bor (List ℕ)) (byte : ℕ) (body out : Bor (List ℕ)) → Written
-    → (last : Bor (List ℕ)) → Type 0
+abbrev pub CalledItem : Lfts 3 → (prior : Bor (List ℕ)) (byte : ℕ) (body : Bor (List ℕ)) (out : MutBor (List ℕ))
+    → Written → (last : MutBor (List ℕ)) → Type 0
 CalledItem κs s b d out r last = item-reads.Learnt κs (s, (b, (d, (out, tt)))) r (s, (b, (d, (last, tt))))
 
 -- ---- exactly when
@@ -101,13 +102,13 @@ data_exactly κs s n r k =
 
 -- `write_status` gives each answer, 1 as the length or 8, 1 as refusals, and leaves the output, exactly when the table
 -- says so.
-pub status_exactly : (κs : Lfts 1) (b : ℕ) (out last : Bor (List ℕ)) (r : Written) → CalledStatus κs b out r last
+pub status_exactly : (κs : Lfts 1) (b : ℕ) (out last : MutBor (List ℕ)) (r : Written) → CalledStatus κs b out r last
     → (a : Answer ℕ) (o : List ℕ) → Exactly ((written_means r ≡ a) × (last.now ≡ o)) (StatusWritten b out.now a o)
 status_exactly κs b out last r k a o = both_exactly k (status_written_by_table b out.now a o)
 
 -- `write_item` gives each answer, a length or 4, 8, 7, 2, 1, and leaves the output, exactly when the table says so.
-pub item_exactly : (κs : Lfts 3) (s : Bor (List ℕ)) (b : ℕ) (d out last : Bor (List ℕ)) (r : Written)
-    → CalledItem κs s b d out r last → (a : Answer ℕ) (o : List ℕ)
+pub item_exactly : (κs : Lfts 3) (s : Bor (List ℕ)) (b : ℕ) (d : Bor (List ℕ)) (out last : MutBor (List ℕ))
+    (r : Written) → CalledItem κs s b d out r last → (a : Answer ℕ) (o : List ℕ)
     → Exactly ((written_means r ≡ a) × (last.now ≡ o)) (ItemWritten s.now b d.now out.now a o)
 item_exactly κs s b d out last r k a o =
     both_exactly (k.0, k.1.0) (item_written_by_table s.now b d.now out.now a o)
@@ -116,12 +117,13 @@ item_exactly κs s b d out last r k a o =
 
 -- A reply that a call of `write_status` with this byte wrote: the first bytes of its output, as many as it answered.
 pub data Begun (b : ℕ) : List ℕ → Type 0 where
-  begun : (κs : Lfts 1) (out last : Bor (List ℕ)) (n : ℕ) → CalledStatus κs b out (Length n) last
+  begun : (κs : Lfts 1) (out last : MutBor (List ℕ)) (n : ℕ) → CalledStatus κs b out (Length n) last
       → Begun b (take n last.now)
 
 -- A call of `write_item` that was given the bytes u as the contents so far, and wrote the bytes v, n of them.
 pub data Added : (u : List ℕ) → Entry → (n : ℕ) → (v : List ℕ) → Type 0 where
-  added : (κs : Lfts 3) (prior body out last : Bor (List ℕ)) (b n : ℕ) → CalledItem κs prior b body out (Length n) last
+  added : (κs : Lfts 3) (prior body : Bor (List ℕ)) (out last : MutBor (List ℕ)) (b n : ℕ)
+      → CalledItem κs prior b body out (Length n) last
       → Added prior.now (entry b body.now) n (take n last.now)
 
 -- A run: `write_status`, and then `write_item` for each item, each given the bytes that the last one wrote.
@@ -206,7 +208,8 @@ reads_back b es w t p x j h bytes =
       state = x;
       status_is = j;
       reads = λ κs s r q c. c ∙ ap (λ (l : List ℕ). reply_answer (reply_in l)) q ∙ ap reply_answer h;
-      finds = λ before e after q κs s r i c. c ∙ ap (λ (l : List ℕ). nth_item l (length before)) i ∙ at before e after q;
+      finds = λ before e after q κs s r i c.
+          c ∙ ap (λ (l : List ℕ). nth_item l (length before)) i ∙ at before e after q;
       hands = λ before e after q κs s r i c.
           let a : nth_item s.now (length before)
           ≡ result (found e.byte (1 + length (list_bytes items before) + 2) (length e.body)) =

@@ -1,7 +1,6 @@
-use mathlib.Core.Path.{◌≡◌, refl, ◌∙◌}
+use mathlib.Core.Path.{◌≡◌}
 use Rattle.command.specs.Commands.{nth_command}
-use Rattle.command.proofs.CursorMoves.{nth_from, from_found, from_refused, from_next}
-use borrow.Author.Rules.{rules}
+use Rattle.command.proofs.CursorMoves.{nth_from}
 use Rattle.command.proofs.cursor.nth_by_steps.Given as goal
 
 abbrev pub invariant-loop-byte : goal.invariant-loop-byte

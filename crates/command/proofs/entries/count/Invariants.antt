@@ -1,14 +1,9 @@
-use mathlib.Core.Path.{◌≡◌, ◌∙◌}
-use Prim.Native.Nat.{ℕ, ◌-◌, ◌≤◌}
-use native.Mathlib.Omega.{arith}
-use mathlib.Core.List.{List}
+use mathlib.Core.Path.{◌≡◌}
+use Prim.Native.Nat.{◌-◌, ◌≤◌}
 use lib.ListN.{length, drop}
 use Rattle.command.specs.Answers.{counted}
 use Rattle.command.specs.Entries.{parse}
-use Rattle.command.specs.declared.entries.Step.TheVariants.{End, Broken}
-use Rattle.command.proofs.EntryLaws.{EntryStands, told, told_stands, counted_plus, plus_none, count_end}
-use Rattle.command.proofs.EntryLaws.{count_broken, count_more}
-use borrow.Author.Rules.{rules}
+use Rattle.command.proofs.EntryLaws.{counted_plus}
 use Rattle.command.proofs.entries.count.Given as goal
 
 abbrev pub invariant-loop-next : goal.invariant-loop-next

@@ -1,14 +1,7 @@
-use mathlib.Core.Path.{◌≡◌, refl, ◌∙◌}
-use Prim.Native.Nat.{ℕ, ◌-◌}
-use native.Mathlib.Omega.{arith}
-use mathlib.Core.List.{List}
+use mathlib.Core.Path.{◌≡◌}
+use Prim.Native.Nat.{◌-◌}
 use lib.ListN.{length, drop}
 use Rattle.command.specs.Entries.{parse, nth_in}
-use Rattle.command.specs.declared.entries.Step.TheVariants.{End, Broken, Entry}
-use Rattle.command.specs.Steps.{step_means}
-use Rattle.command.proofs.EntryLaws.{EntryStands, told, told_stands, nth_end, nth_broken, nth_found}
-use Rattle.command.proofs.EntryLaws.{nth_more, parse_after}
-use borrow.Author.Rules.{rules}
 use Rattle.command.proofs.entries.nth.Given as goal
 
 abbrev pub invariant-loop-byte : goal.invariant-loop-byte
