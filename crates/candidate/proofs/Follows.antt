@@ -31,7 +31,7 @@ by_kind flag body b s e =
 pub rowing_suits : (o : Origin) → Suits (rowing o) (rowing_bounds o)
 rowing_suits o = record {
   held = λ flag body b s e. ap (λ (w : List ℕ). judged (admit o (verdict w))) (by_kind flag body b s e);
-  too_long_lem = λ flag body b s f e l. ap judged
+  too_long = λ flag body b s f e l. ap judged
       (admit_refused o (verdict (flag ∷ (body ++ b ∷ []))) 2
       (ap verdict (by_kind flag body b s e) ∙ whole_verdict (kind_of flag) body (free_flagless body f)
       ∙ judge_long (kind_of flag) body l));

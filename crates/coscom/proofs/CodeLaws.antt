@@ -18,7 +18,7 @@ use Rattle.answer.proofs.Drafts.{writes_refusal, writes_no_room, writes_done}
 use Rattle.coscom.specs.Flags.{start_flag, stop_flag, candidate_of, flagless}
 use Rattle.coscom.specs.Packet.{Packet, packet, is_letter, is_digit, is_forbidden, is_proper, sum_of, covered, checksum}
 use Rattle.coscom.specs.Packet.{tens_digit, ones_digit, two_digits, payload, wire_of}
-use Rattle.coscom.specs.Verdict.{Verdict, packet_in, sum_tens_lem, sum_ones, is_spelt, is_summed, judge}
+use Rattle.coscom.specs.Verdict.{Verdict, packet_in, sum_tens, sum_ones, is_spelt, is_summed, judge}
 use Rattle.coscom.specs.Verdict.{is_bounded, verdict}
 use Rattle.coscom.specs.Answers.{packet_draft, PacketOutline, outline, outline_of, judge_answer, read_answer, unit_of}
 use Rattle.coscom.specs.Answers.{read_out, left_in, packet_read}
@@ -117,11 +117,11 @@ module _ (body : List ℕ) (h : 5 ≤ length body) where
     unfolding is_spelt
     spelt_front q = sym (simp (proper_in ∙ q))
 
-    pub spelt_tens : r ≡ true → is_digit (sum_tens_lem body) ≡ false → false ≡ is_spelt body
+    pub spelt_tens : r ≡ true → is_digit (sum_tens body) ≡ false → false ≡ is_spelt body
     unfolding is_spelt
     spelt_tens y q = sym (simp (proper_in ∙ y, q))
 
-    pub spelt_ones : r ≡ true → is_digit (sum_tens_lem body) ≡ true → is_digit (sum_ones body) ≡ is_spelt body
+    pub spelt_ones : r ≡ true → is_digit (sum_tens body) ≡ true → is_digit (sum_ones body) ≡ is_spelt body
     unfolding is_spelt
     spelt_ones y q = sym (simp (proper_in ∙ y, q))
 
@@ -131,17 +131,17 @@ module _ (body : List ℕ) (h : 5 ≤ length body) where
     sum_in : checksum (covered (packet_in body)) ≡ sum
     sum_in = ap (λ (p : Packet). checksum (covered p)) (sym part_packet) ∙ sym e
 
-    pub summed_tens : (sum_tens_lem body ≡ tens_digit sum → ⊥) → false ≡ is_summed body
+    pub summed_tens : (sum_tens body ≡ tens_digit sum → ⊥) → false ≡ is_summed body
     unfolding is_summed
     summed_tens n =
-        sym (ap (λ (k : ℕ). pick (eqb (sum_tens_lem body) (tens_digit k)) (eqb (sum_ones body) (ones_digit k)) false) sum_in
-        ∙ simp (ne_eqb (sum_tens_lem body) (tens_digit sum) n))
+        sym (ap (λ (k : ℕ). pick (eqb (sum_tens body) (tens_digit k)) (eqb (sum_ones body) (ones_digit k)) false) sum_in
+        ∙ simp (ne_eqb (sum_tens body) (tens_digit sum) n))
 
-    pub summed_ones : sum_tens_lem body ≡ tens_digit sum → eqb (sum_ones body) (ones_digit sum) ≡ is_summed body
+    pub summed_ones : sum_tens body ≡ tens_digit sum → eqb (sum_ones body) (ones_digit sum) ≡ is_summed body
     unfolding is_summed
     summed_ones y =
-        sym (ap (λ (k : ℕ). pick (eqb (sum_tens_lem body) (tens_digit k)) (eqb (sum_ones body) (ones_digit k)) false) sum_in
-        ∙ simp (eq-eqb (sum_tens_lem body) (tens_digit sum) y))
+        sym (ap (λ (k : ℕ). pick (eqb (sum_tens body) (tens_digit k)) (eqb (sum_ones body) (ones_digit k)) false) sum_in
+        ∙ simp (eq-eqb (sum_tens body) (tens_digit sum) y))
 
 -- ---- stores
 

@@ -16,7 +16,7 @@ use Rattle.lists.proofs.Tests.{within_yes, within_true, none_at, at_none, none_a
 use Rattle.coscom.specs.Flags.{start_flag, stop_flag, is_flag, flagless}
 use Rattle.coscom.specs.Packet.{Packet, packet, is_letter, is_digit, is_forbidden, is_proper, covered, checksum}
 use Rattle.coscom.specs.Packet.{tens_digit, ones_digit}
-use Rattle.coscom.specs.Verdict.{packet_in, sum_tens_lem, sum_ones, is_spelt, is_summed}
+use Rattle.coscom.specs.Verdict.{packet_in, sum_tens, sum_ones, is_spelt, is_summed}
 use Rattle.coscom.specs.Conditions.{Digit, InUnit, CharactersAllowed, ChecksumRight, Proper}
 
 -- ---- five bytes or more are a header, a data unit and two bytes more
@@ -39,7 +39,7 @@ module _ (s : List ℕ) (x y : ℕ) where
   ends_length : length (s ++ (x ∷ y ∷ [])) ≡ length s + 2
   ends_length = length-append s (x ∷ y ∷ [])
 
-  pub ends_tens : sum_tens_lem (s ++ (x ∷ y ∷ [])) ≡ x
+  pub ends_tens : sum_tens (s ++ (x ∷ y ∷ [])) ≡ x
   ends_tens = get_or_at s x (y ∷ []) 0 (length (s ++ (x ∷ y ∷ [])) - 2) (omega (arith, ends_length))
 
   pub ends_ones : sum_ones (s ++ (x ∷ y ∷ [])) ≡ y
@@ -51,7 +51,7 @@ module _ (s : List ℕ) (x y : ℕ) where
   pub ends_front : take (length (s ++ (x ∷ y ∷ [])) - 2) (s ++ (x ∷ y ∷ [])) ≡ s
   ends_front = take_at s (x ∷ y ∷ []) (length (s ++ (x ∷ y ∷ [])) - 2) (omega (arith, ends_length))
 
-pub in_parts : (body : List ℕ) → 5 ≤ length body → body ≡ parts (packet_in body) (sum_tens_lem body) (sum_ones body)
+pub in_parts : (body : List ℕ) → 5 ≤ length body → body ≡ parts (packet_in body) (sum_tens body) (sum_ones body)
 unfolding packet_in
 in_parts body h =
     let n = length body in
@@ -70,7 +70,7 @@ in_parts body h =
 
 -- what the checksum covers, and the two bytes after it
 pub in_covered : (body : List ℕ) → 5 ≤ length body
-    → body ≡ covered (packet_in body) ++ (sum_tens_lem body ∷ sum_ones body ∷ [])
+    → body ≡ covered (packet_in body) ++ (sum_tens body ∷ sum_ones body ∷ [])
 unfolding covered
 in_covered body h = in_parts body h
 
@@ -85,7 +85,7 @@ module _ (body : List ℕ) (h : 5 ≤ length body) where
   unfolding is_summed
   summed_right e =
       let c = covered (packet_in body) in
-      let b = both_true (eqb (sum_tens_lem body) (tens_digit (checksum c))) _ e in (
+      let b = both_true (eqb (sum_tens body) (tens_digit (checksum c))) _ e in (
         c,
         in_covered body h
             ∙ ap (λ (x : ℕ). c ++ (x ∷ sum_ones body ∷ [])) (eqb-true _ _ b.0)
@@ -97,12 +97,12 @@ module _ (body : List ℕ) (h : 5 ≤ length body) where
   right_summed (s, e) =
       let x = tens_digit (checksum s) in
       let y = ones_digit (checksum s) in
-      let t : sum_tens_lem body ≡ x = ap sum_tens_lem e ∙ ends_tens s x y in
+      let t : sum_tens body ≡ x = ap sum_tens e ∙ ends_tens s x y in
       let o : sum_ones body ≡ y = ap sum_ones e ∙ ends_ones s x y in
       let c : covered (packet_in body) ≡ s =
-      sym (ends_front (covered (packet_in body)) (sum_tens_lem body) (sum_ones body))
+      sym (ends_front (covered (packet_in body)) (sum_tens body) (sum_ones body))
       ∙ ap (λ (l : List ℕ). take (length l - 2) l) (sym (in_covered body h) ∙ e) ∙ ends_front s x y in
-      let p : eqb (sum_tens_lem body) (tens_digit (checksum (covered (packet_in body)))) ≡ true =
+      let p : eqb (sum_tens body) (tens_digit (checksum (covered (packet_in body)))) ≡ true =
       eq-eqb _ _ (t ∙ ap (λ (l : List ℕ). tens_digit (checksum l)) (sym c)) in
       let q : eqb (sum_ones body) (ones_digit (checksum (covered (packet_in body)))) ≡ true =
       eq-eqb _ _ (o ∙ ap (λ (l : List ℕ). ones_digit (checksum l)) (sym c)) in
@@ -153,7 +153,7 @@ module _ (body : List ℕ) (h : 5 ≤ length body) where
   unfolding is_spelt packet_in
   spelt_allowed e =
       let a = both_true (is_proper (packet_in body)) _ e in
-      let b = both_true (is_digit (sum_tens_lem body)) _ a.1 in
+      let b = both_true (is_digit (sum_tens body)) _ a.1 in
       let m = proper_means (packet_in body) a.0 in
       record {
         letter = m.letter;
@@ -164,8 +164,8 @@ module _ (body : List ℕ) (h : 5 ≤ length body) where
             in_unit_allowed (get_or body i 0)
             (ap is_forbidden (sym (unit_at (i - 3) (omega arith) ∙ ap (λ (j : ℕ). get_or body j 0) k))
             ∙ allowed_in_unit _ (m.unit (i - 3) (omega (arith, unit_length))));
-        sum_tens = within_true 0x30 0x39 (sum_tens_lem body) b.0;
-        sum_ones_lem = within_true 0x30 0x39 (sum_ones body) b.1;
+        sum_tens = within_true 0x30 0x39 (sum_tens body) b.0;
+        sum_ones = within_true 0x30 0x39 (sum_ones body) b.1;
       }
 
   pub allowed_spelt : CharactersAllowed body → is_spelt body ≡ true
@@ -182,7 +182,7 @@ module _ (body : List ℕ) (h : 5 ≤ length body) where
             (ap is_forbidden (unit_at i j)
             ∙ allowed_in_unit (get_or body (3 + i) 0) (a.unit (3 + i) (omega arith) (omega arith)));
       }) in
-      simp (p, within_yes 0x30 0x39 (sum_tens_lem body) a.sum_tens.0 a.sum_tens.1, within_yes 0x30 0x39 (sum_ones body) a.sum_ones_lem.0 a.sum_ones_lem.1)
+      simp (p, within_yes 0x30 0x39 (sum_tens body) a.sum_tens.0 a.sum_tens.1, within_yes 0x30 0x39 (sum_ones body) a.sum_ones.0 a.sum_ones.1)
 
   -- the packet in bytes that are allowed at their places
   pub spelt_proper : CharactersAllowed body → Proper (packet_in body)
@@ -195,12 +195,12 @@ unfolding is_spelt
 parts_allowed p x y k d e =
     let b = parts p x y in
     let q : is_proper (packet_in b) ≡ true = ap is_proper (parts_packet p x y) ∙ proper_is p k in
-    let t : is_digit (sum_tens_lem b) ≡ true =
+    let t : is_digit (sum_tens b) ≡ true =
     ap is_digit (ends_tens (p.letter ∷ p.tens ∷ p.ones ∷ p.unit) x y) ∙ within_yes 0x30 0x39 x d.0 d.1 in
     let o : is_digit (sum_ones b) ≡ true =
     ap is_digit (ends_ones (p.letter ∷ p.tens ∷ p.ones ∷ p.unit) x y) ∙ within_yes 0x30 0x39 y e.0 e.1 in
     spelt_allowed b (omega (arith, parts_length p x y))
-    (ap (λ (z : Bool). pick z (pick (is_digit (sum_tens_lem b)) (is_digit (sum_ones b)) false) false) q
+    (ap (λ (z : Bool). pick z (pick (is_digit (sum_tens b)) (is_digit (sum_ones b)) false) false) q
     ∙ ap (λ (z : Bool). pick z (is_digit (sum_ones b)) false) t ∙ o)
 
 -- ---- no flag stands in a packet whose bytes are allowed
@@ -229,4 +229,4 @@ pub spelt_flagless : (body : List ℕ) → 5 ≤ length body → is_spelt body �
 spelt_flagless body h e =
     let a = spelt_allowed body h e in
     ap flagless (in_parts body h)
-    ∙ proper_flagless (packet_in body) (sum_tens_lem body) (sum_ones body) (spelt_proper body h a) a.sum_tens a.sum_ones_lem
+    ∙ proper_flagless (packet_in body) (sum_tens body) (sum_ones body) (spelt_proper body h a) a.sum_tens a.sum_ones

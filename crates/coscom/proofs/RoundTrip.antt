@@ -45,7 +45,7 @@ written_sound p k l =
         characters = parts_allowed p (tens_digit n) (ones_digit n) k d.0 d.1;
         sum = (covered p, refl);
       };
-      spells = record { sum_tens = tens_digit n; sum_ones_lem = ones_digit n; spelt = refl };
+      spells = record { sum_tens = tens_digit n; sum_ones = ones_digit n; spelt = refl };
     }
 
 -- What is sound as a packet is that packet as it is written, and its bytes are allowed.
@@ -58,7 +58,7 @@ sound_written w p s =
     let y = ones_digit (checksum c.0) in
     let k = s.spells in
     let e : covered p ≡ c.0 =
-    sym (ends_front (covered p) k.sum_tens k.sum_ones_lem)
+    sym (ends_front (covered p) k.sum_tens k.sum_ones)
     ∙ ap (λ (l : List ℕ). take (length l - 2) l) (sym k.spelt ∙ c.1) ∙ ends_front c.0 x y in (
       ap (λ (l : List ℕ). candidate_of (l ++ two_digits (checksum l))) e ∙ ap candidate_of (sym c.1) ∙ sym t.shape,
       s.slice.limit,

@@ -15,7 +15,7 @@ use Rattle.answer.specs.Answer.{Answer, result, refused}
 use Rattle.answer.specs.Draft.{Writes, draft_out}
 use Rattle.answer.proofs.Drafts.{writes_refusal, writes_no_room, writes_done, lines_exactly}
 use Rattle.coscom.specs.Packet.{Packet, is_proper, wire_of}
-use Rattle.coscom.specs.Verdict.{Verdict, packet_in, sum_tens_lem, sum_ones, is_spelt, is_summed, judge, body_of}
+use Rattle.coscom.specs.Verdict.{Verdict, packet_in, sum_tens, sum_ones, is_spelt, is_summed, judge, body_of}
 use Rattle.coscom.specs.Verdict.{is_terminated, verdict}
 use Rattle.coscom.specs.Answers.{packet_draft, PacketOutline, read_answer, read_out, Reads}
 use Rattle.coscom.specs.Conditions.{Terminated, WithinLimit, LongEnough, CharactersAllowed, Sound}
@@ -50,7 +50,7 @@ module _ (w : List ℕ) (t : Terminated w) where
 
 -- the packet that bytes spell
 pub spells_in : (body : List ℕ) (p : Packet) → Spells body p → packet_in body ≡ p
-spells_in body p s = ap packet_in s.spelt ∙ parts_packet p s.sum_tens s.sum_ones_lem
+spells_in body p s = ap packet_in s.spelt ∙ parts_packet p s.sum_tens s.sum_ones
 
 -- ---- the table of verdicts
 
@@ -88,7 +88,7 @@ sound_packet w s =
       packet_in b,
       record {
         slice = s;
-        spells = record { sum_tens = sum_tens_lem b; sum_ones_lem = sum_ones b; spelt = in_parts b s.enough };
+        spells = record { sum_tens = sum_tens b; sum_ones = sum_ones b; spelt = in_parts b s.enough };
       },
     )
 

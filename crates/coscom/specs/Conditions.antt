@@ -40,7 +40,7 @@ pub record CharactersAllowed (body : List ℕ) : Type 0 where
   pub ones : Digit (get_or body 2 0)
   pub unit : (i : ℕ) → 3 ≤ i → i + 2 < length body → InUnit (get_or body i 0)
   pub sum_tens : Digit (get_or body (length body - 2) 0)
-  pub sum_ones_lem : Digit (get_or body (length body - 1) 0)
+  pub sum_ones : Digit (get_or body (length body - 1) 0)
 
 -- The last two bytes are the digits of the sum modulo 100 of all bytes before them.
 abbrev pub ChecksumRight : List ℕ → Type 0
@@ -57,8 +57,8 @@ pub record Sound (w : List ℕ) : Type 0 where
 -- The bytes are a packet's header and data unit, and two more.
 pub record Spells (body : List ℕ) (p : Packet) : Type 0 where
   pub sum_tens : ℕ
-  pub sum_ones_lem : ℕ
-  pub spelt : body ≡ p.letter ∷ p.tens ∷ p.ones ∷ (p.unit ++ (sum_tens ∷ sum_ones_lem ∷ []))
+  pub sum_ones : ℕ
+  pub spelt : body ≡ p.letter ∷ p.tens ∷ p.ones ∷ (p.unit ++ (sum_tens ∷ sum_ones ∷ []))
 
 -- A slice that demand 2 accepts, and the packet that it is.
 pub record SoundPacket (w : List ℕ) (p : Packet) : Type 0 where

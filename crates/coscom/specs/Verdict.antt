@@ -13,20 +13,20 @@ Verdict = Answer Packet
 unfoldable pub packet_in : List ℕ → Packet
 packet_in body = packet (get_or body 0 0) (get_or body 1 0) (get_or body 2 0) (take (length body - 5) (drop 3 body))
 
-abbrev pub sum_tens_lem : List ℕ → ℕ
-sum_tens_lem body = get_or body (length body - 2) 0
+abbrev pub sum_tens : List ℕ → ℕ
+sum_tens body = get_or body (length body - 2) 0
 
 abbrev pub sum_ones : List ℕ → ℕ
 sum_ones body = get_or body (length body - 1) 0
 
 -- Whether every byte is allowed at its place.
 unfoldable pub is_spelt : List ℕ → Bool
-is_spelt body = pick (is_proper (packet_in body)) (pick (is_digit (sum_tens_lem body)) (is_digit (sum_ones body)) false) false
+is_spelt body = pick (is_proper (packet_in body)) (pick (is_digit (sum_tens body)) (is_digit (sum_ones body)) false) false
 
 -- Whether the last two bytes are the digits of the packet's checksum.
 unfoldable pub is_summed : List ℕ → Bool
 is_summed body =
-    pick (eqb (sum_tens_lem body) (tens_digit (checksum (covered (packet_in body)))))
+    pick (eqb (sum_tens body) (tens_digit (checksum (covered (packet_in body)))))
     (eqb (sum_ones body) (ones_digit (checksum (covered (packet_in body))))) false
 
 -- The verdict on what stands between the flags: refusals 2, 4, 22 and 5.

@@ -7,6 +7,7 @@ use native.Mathlib.Omega.{arith}
 use Prim.Native.Nat.{ℕ}
 use lib.ListN.{length, take}
 use contract.Lifetimes.{Lfts}
+use denote.MutBor.{MutBor}
 use denote.Ref.{Bor}
 use Rattle.lists.specs.Choice.{Every, Exactly}
 use Rattle.lists.specs.Machine.{left_after, RanBy, Through, AnsweredBy}
@@ -49,15 +50,15 @@ use Rattle.coscom_exports.proofs.csafe_packet_finish.Reads as finish-reads
 -- A call of the portal that feeds, the bytes that it was given, how many of them it took, the outcome as the portal has
 -- it, and the array and the state that it left.
 pub data ExportedFed : LentLine → (given : List ℕ) → (taken : ℕ) → Outcome → LentLine → Type 0 where
-  fed : (κs : Lfts 4) (bytes bytes' : Bor (List ℕ)) (state state' : Bor ℕ) (input : Bor (List ℕ))
-      (taken taken' : Bor ℕ) (n : ℕ)
+  fed : (κs : Lfts 4) (bytes bytes' : MutBor (List ℕ)) (state state' : MutBor ℕ) (input : Bor (List ℕ))
+      (taken taken' : MutBor ℕ) (n : ℕ)
       → feed-reads.Learnt κs (bytes, (state, (input, (taken, tt)))) n (bytes', (state', (input, (taken', tt))))
       → ExportedFed (lent_line bytes.now state.now) input.now taken'.now (told_outcome n bytes'.now)
       (lent_line bytes'.now state'.now)
 
 -- A call that ends the input, its outcome, and the array and the state that it left.
 pub data ExportedEnd : LentLine → Outcome → LentLine → Type 0 where
-  ended : (κs : Lfts 1) {bytes : List ℕ} (state state' : Bor ℕ) (n : ℕ)
+  ended : (κs : Lfts 1) {bytes : List ℕ} (state state' : MutBor ℕ) (n : ℕ)
       → finish-reads.Learnt κs (state, tt) n (state', tt)
       → ExportedEnd (lent_line bytes state.now) (told_outcome n bytes) (lent_line bytes state'.now)
 

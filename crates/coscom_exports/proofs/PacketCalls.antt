@@ -5,6 +5,7 @@ use mathlib.Core.Path.{◌≡◌}
 use mathlib.Core.List.{List, ◌++◌}
 use lib.ListN.{length, take, drop}
 use contract.Lifetimes.{Lfts}
+use denote.MutBor.{MutBor}
 use denote.Ref.{Bor}
 use Rattle.lists.specs.Choice.{Exactly}
 use Rattle.answer.specs.Answer.{Answer, result}
@@ -24,14 +25,14 @@ use Rattle.coscom_exports.proofs.csafe_packet_read.Reads as read-reads
 
 -- A call that writes a packet: the answer that its number tells, and the output before and after.
 pub data ExportedWrite : Packet → (out : List ℕ) → Answer ℕ → (last : List ℕ) → Type 0 where
-  wrote : {letter tens ones : ℕ} (n : ℕ) (κs : Lfts 2) (unit out out' : Bor (List ℕ))
+  wrote : {letter tens ones : ℕ} (n : ℕ) (κs : Lfts 2) (unit : Bor (List ℕ)) (out out' : MutBor (List ℕ))
       → write-reads.Learnt κs (letter, (tens, (ones, (unit, (out, tt))))) n
       (letter, (tens, (ones, (unit, (out', tt)))))
       → ExportedWrite (packet letter tens ones unit.now) out.now (told_written n) out'.now
 
 -- A call that reads a slice: the answer that its number tells, and the output before and after.
 pub data ExportedRead : (w out : List ℕ) → Answer PacketOutline → (last : List ℕ) → Type 0 where
-  read_slice : (n : ℕ) (κs : Lfts 2) (wire out out' : Bor (List ℕ))
+  read_slice : (n : ℕ) (κs : Lfts 2) (wire : Bor (List ℕ)) (out out' : MutBor (List ℕ))
       → read-reads.Learnt κs (wire, (out, tt)) n (wire, (out', tt))
       → ExportedRead wire.now out.now (told_packet n) out'.now
 

@@ -1,6 +1,8 @@
 // The portal's functions for treadmills: packets and their line reader, called with numbers and byte slices. Their answers
 // are numbers of the same layout as those of `exports`. They are a static library of their own, which a portal without
 // treadmills does without. Document 02, No. 3.
+#![tactic(auto)]
+
 mod answers;
 mod line_state;
 

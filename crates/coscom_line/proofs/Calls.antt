@@ -5,7 +5,6 @@ use mathlib.Core.List.{List, map}
 use Prim.Native.Nat.{ℕ}
 use contract.Lifetimes.{Lfts}
 use denote.MutBor.{MutBor}
-use denote.Ref.{Bor}
 use Rattle.lists.specs.Machine.{run, Answered}
 use Rattle.lists.proofs.Machines.{run_told, ran-run}
 use Rattle.framing.specs.Reference.{Call, byte, finish}

@@ -28,7 +28,7 @@ by_body flag body b s e = ap₂ (λ (x y : ℕ). x ∷ (body ++ y ∷ [])) (role
 pub coscom_suits : Suits coscom coscom_bounds
 coscom_suits = record {
   held = λ flag body b s e. ap (λ (w : List ℕ). judged (verdict w)) (by_body flag body b s e);
-  too_long_lem = λ flag body b s f e l. ap judged
+  too_long = λ flag body b s f e l. ap judged
       (ap verdict (by_body flag body b s e) ∙ whole_flagless body (free_flagless body f) ∙ judge_long body l);
   kept = λ kind len bytes e. left_length len bytes ∙ e;
 }

@@ -8,6 +8,7 @@ use native.Mathlib.Omega.{arith}
 use lib.ListN.{length, set, take, length-set, length-append, length-map}
 use lib.Seq.{map-set_same, take_at}
 use contract.Lifetimes.{Lfts}
+use denote.MutBor.{MutBor}
 use denote.Ref.{Bor}
 use Rattle.lists.specs.Machine.{run, Answered, AnsweredBy, left_after}
 use Rattle.lists.proofs.Machines.{run_length}
@@ -95,7 +96,7 @@ module _ (p o : Origin) (w : List ℕ) (f : Frame) (i b : ℕ) (c : OneChange w 
 
   -- A slice begins with the changed candidate, whatever follows it: `read_leading` takes that candidate and answers it as
   -- a call on it alone is answered.
-  pub leading_damaged : (κs : Lfts 2) (ρ out out' : Bor (List ℕ)) (r : Leading) (rest : List ℕ)
+  pub leading_damaged : (κs : Lfts 2) (ρ : Bor (List ℕ)) (out out' : MutBor (List ℕ)) (r : Leading) (rest : List ℕ)
       → read-leading-reads.Learnt κs (o, (ρ, (out, tt))) r (o, (ρ, (out', tt))) → SoundFrame p w f
       → ρ.now ≡ set w i b ++ rest
       → (r.taken ≡ length w) × ReadShows out.now (read_means r.read) out'.now (effect_at w f i b)
@@ -114,7 +115,7 @@ module _ (p o : Origin) (w : List ℕ) (f : Frame) (i b : ℕ) (c : OneChange w 
       )
 
   -- The bytes between the flags of the changed candidate, judged in place.
-  pub judged_damaged : (κs : Lfts 1) (kind : Kind) (ρ ρ' : Bor (List ℕ)) (len : ℕ) (r : Read)
+  pub judged_damaged : (κs : Lfts 1) (kind : Kind) (ρ ρ' : MutBor (List ℕ)) (len : ℕ) (r : Read)
       → judge-array-reads.Learnt κs (o, (kind, (ρ, (len, tt)))) r (o, (kind, (ρ', (len, tt)))) → SoundFrame p w f
       → set w i b ≡ candidate_of kind (take len ρ.now)
       → Shows (λ (g : Frame). Tells g ρ.now (read_means r) ρ'.now) (Catches ρ.now (read_means r) ρ'.now)

@@ -21,6 +21,8 @@ ghost use Rattle.exports.specs.Packed.{Tells};
 ghost use Rattle.exports.specs.Answers.{write_fields, read_fields, lease_fields};
 ghost use Rattle.exports.specs.LineAnswers.{fed_to, finished, FedAs, FinishedAs};
 
+use frame::Origin;
+
 // Refuses a standard frame with 17, so that a caller that writes one is told why.
 #[unsafe(no_mangle)]
 pub extern "C" fn csafe_write_standard(contents: &[u8], out: &mut [u8]) -> u64

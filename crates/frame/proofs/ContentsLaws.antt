@@ -21,7 +21,7 @@ use Rattle.lists.proofs.Lists.{back_in}
 use Rattle.frame.specs.Checksum.{checksum}
 use Rattle.frame.specs.Frame.{Frame, contents_of, standard, extended, frame_of}
 use Rattle.frame.specs.Answers.{left_in, judge_answer, frame_read, read_answer, read_out}
-use Rattle.frame.specs.Private.{read_as, unstuffed_bytes, is_sound_lem, is_escape, last_at, SoundAt, judge_whole}
+use Rattle.frame.specs.Private.{read_as, unstuffed_bytes, is_sound, is_escape, last_at, SoundAt, judge_whole}
 use Rattle.frame.specs.Origin.{admit}
 use Rattle.frame.specs.declared.Origin.{Origin}
 use Rattle.frame.specs.declared.Kind.{Kind}
@@ -109,8 +109,8 @@ module _ (rest : List ℕ) (len : ℕ) (n : length (unstuffed_bytes (unstuff fal
       ∙ before_last rest all some (some_bytes (unstuff false rest) len n)
       ∙ ap (λ (k : ℕ). bytes (take k all)) m
 
-  pub front_sound : is_sound_lem (unstuff false (take end rest)) ≡ true
-  front_sound = ap is_sound_lem front
+  pub front_sound : is_sound (unstuff false (take end rest)) ≡ true
+  front_sound = ap is_sound front
 
   front_bytes : unstuffed_bytes (unstuff false (take end rest)) ≡ take len all
   unfolding unstuffed_bytes

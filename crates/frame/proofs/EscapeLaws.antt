@@ -19,7 +19,7 @@ use Rattle.lists.proofs.Tests.{count_at, count_end, count_most}
 use Rattle.frame.specs.Stuffing.{Unstuffed, bad_escape, bytes, prepend, unstuff}
 use Rattle.frame.specs.Checksum.{sum_from, checksum}
 use Rattle.frame.specs.Flags.{is_flag, flagless}
-use Rattle.frame.specs.Private.{is_sound_lem, good_pair, lower_byte, lowered, scan_from, scan_of, unstuffed_bytes, Tallied}
+use Rattle.frame.specs.Private.{is_sound, good_pair, lower_byte, lowered, scan_from, scan_of, unstuffed_bytes, Tallied}
 use Rattle.frame.specs.declared.candidate.Scan.TheVariants.{Flagged, Fault, Good}
 use Rattle.frame.specs.declared.candidate.Tally.{Tally}
 use Rattle.frame.proofs.ChecksumLaws.{sum_escape}
@@ -73,22 +73,22 @@ unfolding good
 good_plain e [] n = simp n
 good_plain e (c ∷ s) n = simp n
 
-sound_prepend : (b : ℕ) (r : Unstuffed) → is_sound_lem (prepend b r) ≡ is_sound_lem r
+sound_prepend : (b : ℕ) (r : Unstuffed) → is_sound (prepend b r) ≡ is_sound r
 unfolding prepend
 sound_prepend b bad_escape = refl
 sound_prepend b (bytes u) = refl
 
-pub good_unstuff : (s : List ℕ) → good s ≡ is_sound_lem (unstuff false s)
+pub good_unstuff : (s : List ℕ) → good s ≡ is_sound (unstuff false s)
 unfolding good unstuff prepend
 good_unstuff [] = refl
 good_unstuff (b ∷ []) = by_bool (eqb b 0xF3) (λ y. simp y) (λ n. simp n)
 good_unstuff (b ∷ e ∷ s) =
     by_bool (eqb b 0xF3)
     (λ y. by_bool (leb e 3)
-    (λ z. let rest : good (e ∷ s) ≡ is_sound_lem (prepend (0xF0 + e) (unstuff false s)) =
+    (λ z. let rest : good (e ∷ s) ≡ is_sound (prepend (0xF0 + e) (unstuff false s)) =
     good_plain e s (low_no e z) ∙ good_unstuff s ∙ sym (sound_prepend (0xF0 + e) (unstuff false s)) in simp (y, z) rest)
     (λ z. simp (y, z)))
-    (λ n. let rest : good (e ∷ s) ≡ is_sound_lem (prepend b (unstuff false (e ∷ s))) =
+    (λ n. let rest : good (e ∷ s) ≡ is_sound (prepend b (unstuff false (e ∷ s))) =
     good_unstuff (e ∷ s) ∙ sym (sound_prepend b (unstuff false (e ∷ s))) in simp n rest)
 
 -- a list that ends with an escape is not sound
@@ -144,7 +144,7 @@ paired_more s bad i hit h e p =
     both false g x = refl
 
 pub paired_all : (s : List ℕ) (bad i : ℕ) → i + 1 ≡ length s → (get_or s i 0 ≡ 0xF3 → ⊥) → Paired s bad i
-    → eqb bad 0 ≡ is_sound_lem (unstuff false s)
+    → eqb bad 0 ≡ is_sound (unstuff false s)
 paired_all s bad i h n p =
     let t = p.0 in
     ap (λ (m : ℕ). eqb m 0) p.1 ∙ mark_all t ∙ sym (alone t)
@@ -285,12 +285,12 @@ scan_as_is s n len sum p q =
     ap (λ (m : ℕ). Good m sum) (p ∙ sym (zero-add (length s))) ∙ ap (Good (0 + length s)) q
     ∙ sym (ap (scan_from 0 0) (unstuff_plain s n))
 
-pub sound_bytes : (r : Unstuffed) → is_sound_lem r ≡ true → r ≡ bytes (unstuffed_bytes r)
+pub sound_bytes : (r : Unstuffed) → is_sound r ≡ true → r ≡ bytes (unstuffed_bytes r)
 unfolding unstuffed_bytes
 sound_bytes bad_escape h = absurd (true≢false (sym h))
 sound_bytes (bytes u) h = refl
 
-unsound_bad : (r : Unstuffed) → is_sound_lem r ≡ false → r ≡ bad_escape
+unsound_bad : (r : Unstuffed) → is_sound r ≡ false → r ≡ bad_escape
 unsound_bad bad_escape h = refl
 unsound_bad (bytes u) h = absurd (true≢false h)
 
@@ -298,11 +298,11 @@ module _ (s : List ℕ) where
   pub scan_flagged : flagless s ≡ false → Flagged ≡ scan_of s
   scan_flagged f = simp f
 
-  pub scan_unsound : flagless s ≡ true → is_sound_lem (unstuff false s) ≡ false → Fault ≡ scan_of s
+  pub scan_unsound : flagless s ≡ true → is_sound (unstuff false s) ≡ false → Fault ≡ scan_of s
   unfolding scan_from
   scan_unsound f n = simp f (sym (ap (scan_from 0 0) (unsound_bad (unstuff false s) n)))
 
-  pub scan_sound : (count sum : ℕ) → flagless s ≡ true → is_sound_lem (unstuff false s) ≡ true
+  pub scan_sound : (count sum : ℕ) → flagless s ≡ true → is_sound (unstuff false s) ≡ true
       → count ≡ count_of (within 0xF3 0xF3) s → sum ≡ checksum (lowered s)
       → Good (length s - count) sum ≡ scan_of s
   unfolding scan_from
@@ -315,7 +315,7 @@ module _ (s : List ℕ) where
       simp f (ap (λ (m : ℕ). Good m sum) len_is ∙ ap (Good (0 + length u)) sum_is ∙ sym (ap (scan_from 0 0) e))
 
   -- a list that ends with an escape
-  pub ends_unsound : 1 ≤ length s → get_or s (length s - 1) 0 ≡ 0xF3 → is_sound_lem (unstuff false s) ≡ false
+  pub ends_unsound : 1 ≤ length s → get_or s (length s - 1) 0 ≡ 0xF3 → is_sound (unstuff false s) ≡ false
   ends_unsound some e =
       sym (good_unstuff s)
       ∙ ap good (last_apart s some ∙ ap (λ (b : ℕ). take (length s - 1) s ++ (b ∷ [])) e)

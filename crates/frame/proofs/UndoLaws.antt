@@ -15,7 +15,7 @@ use Rattle.lists.specs.Splice.{splice}
 use Rattle.lists.proofs.Cases.{by_bool}
 use Rattle.lists.proofs.Lists.{set_over, drop_behind, drop_two}
 use Rattle.frame.specs.Stuffing.{Unstuffed, bad_escape, bytes, prepend, unstuff}
-use Rattle.frame.specs.Private.{is_escape, lifts, good_pair, is_sound_lem, last_at, unstuffed_bytes}
+use Rattle.frame.specs.Private.{is_escape, lifts, good_pair, is_sound, last_at, unstuffed_bytes}
 use Rattle.frame.proofs.StuffingLaws.{prepend_inv}
 use Rattle.frame.proofs.EscapeLaws.{low_no, sound_bytes, good, good_unstuff}
 
@@ -336,7 +336,7 @@ before_last s u some e =
         let parts : s ≡ take k s ++ (x ∷ t) = sym (take-append-drop k s) ∙ ap (λ (l : List ℕ). take k s ++ l) d in
         let whole : unstuff false (take k s ++ (x ∷ t)) ≡ bytes u = ap (unstuff false) (sym parts) ∙ e in
         let g : good (take k s) ≡ true =
-        good_first (take k s) x t (good_unstuff (take k s ++ (x ∷ t)) ∙ ap is_sound_lem whole) f in
+        good_first (take k s) x t (good_unstuff (take k s ++ (x ∷ t)) ∙ ap is_sound whole) f in
         let p = split_bytes (take k s) (x ∷ t) u whole g in
         first_bytes (take k s) (x ∷ t) u whole g p.0 p.1 (o p.0 p.1)
 

@@ -62,9 +62,9 @@ scan_from len sum bad_escape = Fault
 scan_from len sum (bytes u) = Good (len + length u) (sum_from sum u)
 
 -- Whether no escape is bad.
-abbrev pub is_sound_lem : Unstuffed → Bool
-is_sound_lem bad_escape = false
-is_sound_lem (bytes u) = true
+abbrev pub is_sound : Unstuffed → Bool
+is_sound bad_escape = false
+is_sound (bytes u) = true
 
 -- Whether a byte may stand after another.
 abbrev pub good_pair : ℕ → ℕ → Bool
@@ -85,7 +85,7 @@ scan_of s = pick (flagless s) (scan_from 0 0 (unstuff false s)) Flagged
 -- What one pass over all bytes but the last finds, told with the last.
 pub record Tallied (s : List ℕ) (t : Tally) : Type 0 where
   pub flagged : t.flags ≡ pick (flagless (take (length s - 1) s)) 0 1
-  pub sound : (get_or s (length s - 1) 0 ≡ 0xF3 → ⊥) → eqb t.unsound 0 ≡ is_sound_lem (unstuff false s)
+  pub sound : (get_or s (length s - 1) 0 ≡ 0xF3 → ⊥) → eqb t.unsound 0 ≡ is_sound (unstuff false s)
   pub counted : t.escapes + pick (within 0xF3 0xF3 (get_or s (length s - 1) 0)) 1 0 ≡ count_of (within 0xF3 0xF3) s
   pub summed : bit_xor t.sum (lower_byte (get_or s (length s - 1) 0)) ≡ checksum (lowered s)
 

@@ -8,7 +8,7 @@ ghost use Rattle.frame.specs.Flags.{is_flag};
 ghost use Rattle.frame.specs.Stuffing.{unstuff, prepend, is_stuffed};
 ghost use Rattle.frame.specs.Checksum.{checksum};
 ghost use Rattle.frame.specs.Verdict.{address_count};
-ghost use Rattle.frame.specs.Private.{is_bounded, next_at, scan_of, is_sound_lem, good_pair, lower_byte, is_escape, lifts};
+ghost use Rattle.frame.specs.Private.{is_bounded, next_at, scan_of, is_sound, good_pair, lower_byte, is_escape, lifts};
 ghost use Rattle.frame.specs.Private.{unstuffed_bytes, last_at, header_kind, AddressesIn, EndsPlain};
 ghost use Rattle.frame.specs.Private.{Tallied, WithoutHeader, ExaminesWhole, admits};
 
@@ -389,7 +389,7 @@ fn fills(b: u8) -> usize
 // Puts sound stuffed bytes, unstuffed, first in the output. An escape is written too, and the byte after it takes its
 // place, so the loop has no branch on the bytes.
 pub(crate) fn unstuff_into(s: &[u8], out: &mut [u8])
-    requires s_value { is_sound_lem (unstuff false s.now) ≡ true }
+    requires s_value { is_sound (unstuff false s.now) ≡ true }
     requires s_in_bounds { length (unstuffed_bytes (unstuff false s.now)) ≤ length out.old }
     ensures { out.new ≡ splice out.old 0
         (unstuffed_bytes (unstuff false s.now)) }
@@ -410,7 +410,7 @@ pub(crate) fn unstuff_into(s: &[u8], out: &mut [u8])
 pub(crate) fn unstuff_front(s: &mut [u8], from: usize, end: usize)
     requires from_le_end { from ≤ end }
     requires end_in_bounds { end ≤ length s.old }
-    requires s_value { is_sound_lem (unstuff false (drop from (take end s.old))) ≡ true }
+    requires s_value { is_sound (unstuff false (drop from (take end s.old))) ≡ true }
     ensures { s.new ≡ splice s.old 0
         (unstuffed_bytes (unstuff false (drop from (take end s.old)))) }
 {

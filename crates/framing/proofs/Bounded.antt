@@ -66,7 +66,7 @@ module _ {K A : Type 0} (P : Protocol A) (B : Bounds K A) (suits : Suits P B) wh
       rw h.holds (sym (judged ∙ ap (λ (x : K). B.judge x (take len bytes)) h.opens))
   terminated_at overlong bytes len k b e n s =
       let h = s.3 in
-      rw h.holds (sym (suits.too_long_lem h.flag s.1 b h.starting h.flag_free e s.2))
+      rw h.holds (sym (suits.too_long h.flag s.1 b h.starting h.flag_free e s.2))
 
   kept_at : (m : BoundedMode K) (bytes : List ℕ) (len : ℕ) → length bytes ≡ B.capacity
       → length (left_by_stop P B m bytes len) ≡ B.capacity

@@ -36,7 +36,7 @@ module _ {K A : Type 0} (P : Protocol A) (B : Bounds K A) where
   pub record Suits : Type 0 where
     pub held : (flag : ℕ) (body : List ℕ) (b : ℕ) → P.role flag ≡ starts → P.role b ≡ stops
         → P.judge (flag ∷ (body ++ b ∷ [])) ≡ B.judge (B.kind flag) body
-    pub too_long_lem : (flag : ℕ) (body : List ℕ) (b : ℕ) → P.role flag ≡ starts → FlagFree P.role body
+    pub too_long : (flag : ℕ) (body : List ℕ) (b : ℕ) → P.role flag ≡ starts → FlagFree P.role body
         → P.role b ≡ stops
         → B.capacity < length body → P.judge (flag ∷ (body ++ b ∷ [])) ≡ B.long
     pub kept : (kind : K) (len : ℕ) (bytes : List ℕ) → length bytes ≡ B.capacity

@@ -110,19 +110,19 @@ module _ (es : List Exchange) (a t token : ℕ) (k : Knows a token es) where
       record {
         accepted = met q (owner m);
         outside = unmet (other (result []) (refused 9) q refl) (λ c. c i);
-        not-holder = unmet (other (result []) (refused 11) q refl) (λ c. c.1 (owner m));
+        not_holder = unmet (other (result []) (refused 11) q refl) (λ c. c.1 (owner m));
       })
       (λ m. let q : x ≡ refused 11 = e ∙ simp (r, m) in
       record {
         accepted = unmet (other (refused 11) (result []) q refl) (not_owner m);
         outside = unmet (other (refused 11) (refused 9) q refl) (λ c. c i);
-        not-holder = met q (i, not_owner m);
+        not_holder = met q (i, not_owner m);
       }))
       (λ r. let o = out_of_range a r in let q : x ≡ refused 9 = e ∙ simp r in
       record {
         accepted = unmet (other (refused 9) (result []) q refl) (λ l. o (in_range_held l));
         outside = met q o;
-        not-holder = unmet (other (refused 9) (refused 11) q refl) (λ c. o c.0);
+        not_holder = unmet (other (refused 9) (refused 11) q refl) (λ c. o c.0);
       })
 
   pub stop_gets : (room : ℕ) (x : Answer (List ℕ)) → x ≡ answer_of token (stop a t room) → StopGets es a t room x
@@ -139,28 +139,28 @@ module _ (es : List Exchange) (a t token : ℕ) (k : Knows a token es) where
           (λ c. q ∙ ap result (sym c.0)),
         );
         outside = unmet (other (result (stop_frame a)) (refused 9) q refl) (λ c. c i);
-        not-holder = unmet (other (result (stop_frame a)) (refused 11) q refl) (λ c. c.1 (owner m));
-        no_room_lem = unmet (other (result (stop_frame a)) (refused 1) q refl) (λ c. omega (arith, fits, c.0));
+        not_holder = unmet (other (result (stop_frame a)) (refused 11) q refl) (λ c. c.1 (owner m));
+        no_room = unmet (other (result (stop_frame a)) (refused 1) q refl) (λ c. omega (arith, fits, c.0));
       })
       (λ f. let q : x ≡ refused 1 = e ∙ simp (r, m, f) in
       let short = leb-false (length (stop_frame a)) room f in
       record {
         written = λ w. unmet (other (refused 1) (result w) q refl) (λ c. omega (arith, short, ap length c.0, c.1));
         outside = unmet (other (refused 1) (refused 9) q refl) (λ c. c i);
-        not-holder = unmet (other (refused 1) (refused 11) q refl) (λ c. c.1 (owner m));
-        no_room_lem = met q (short, owner m);
+        not_holder = unmet (other (refused 1) (refused 11) q refl) (λ c. c.1 (owner m));
+        no_room = met q (short, owner m);
       }))
       (λ m. let q : x ≡ refused 11 = e ∙ simp (r, m) in
       record {
         written = λ w. unmet (other (refused 11) (result w) q refl) (λ c. not_owner m c.2);
         outside = unmet (other (refused 11) (refused 9) q refl) (λ c. c i);
-        not-holder = met q (i, not_owner m);
-        no_room_lem = unmet (other (refused 11) (refused 1) q refl) (λ c. not_owner m c.1);
+        not_holder = met q (i, not_owner m);
+        no_room = unmet (other (refused 11) (refused 1) q refl) (λ c. not_owner m c.1);
       }))
       (λ r. let o = out_of_range a r in let q : x ≡ refused 9 = e ∙ simp r in
       record {
         written = λ w. unmet (other (refused 9) (result w) q refl) (λ c. o (in_range_held c.2));
         outside = met q o;
-        not-holder = unmet (other (refused 9) (refused 11) q refl) (λ c. o c.0);
-        no_room_lem = unmet (other (refused 9) (refused 1) q refl) (λ c. o (in_range_held c.1));
+        not_holder = unmet (other (refused 9) (refused 11) q refl) (λ c. o c.0);
+        no_room = unmet (other (refused 9) (refused 1) q refl) (λ c. o (in_range_held c.1));
       })

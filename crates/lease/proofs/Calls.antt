@@ -5,6 +5,7 @@ use mathlib.Core.List.{List}
 use lib.ListN.{length, take, drop}
 use lib.Seq.{take-append_seam}
 use contract.Lifetimes.{Lfts}
+use denote.MutBor.{MutBor}
 use denote.Ref.{Bor}
 use Rattle.lists.specs.Machine.{Ran, Answered}
 use Rattle.lists.proofs.Machines.{ran-run, ran_every}
@@ -48,7 +49,7 @@ pub data Called : LeaseTable → LeaseCall → Answer (List ℕ) → LeaseTable 
       → Called t (hold a u) (lease_means r.answer) r.table
   released : {t : LeaseTable} {a u : ℕ} (r : Leased) → release-reads.Learnt tt (t, (a, (u, tt))) r (t, (a, (u, tt)))
       → Called t (release a u) (lease_means r.answer) r.table
-  stopped : {t : LeaseTable} {a u : ℕ} (r : Written) (κs : Lfts 1) (out out' : Bor (List ℕ))
+  stopped : {t : LeaseTable} {a u : ℕ} (r : Written) (κs : Lfts 1) (out out' : MutBor (List ℕ))
       → stop-reads.Learnt κs (t, (a, (u, (out, tt)))) r (t, (a, (u, (out', tt))))
       → Called t (stop a u (length out.now)) (stop_told (written_means r) out'.now) t
 
@@ -102,13 +103,13 @@ table_leases =
 
 -- A call on lent bytes, with its answer and the bytes afterwards: what its contract tells the caller.
 pub data CalledLent : List ℕ → LeaseCall → Answer (List ℕ) → List ℕ → Type 0 where
-  lent_held : {a u : ℕ} (r : LeaseAnswer) (κs : Lfts 1) (s s' : Bor (List ℕ))
+  lent_held : {a u : ℕ} (r : LeaseAnswer) (κs : Lfts 1) (s s' : MutBor (List ℕ))
       → hold-lent-reads.Learnt κs (s, (a, (u, tt))) r (s', (a, (u, tt)))
       → CalledLent s.now (hold a u) (lease_means r) s'.now
-  lent_released : {a u : ℕ} (r : LeaseAnswer) (κs : Lfts 1) (s s' : Bor (List ℕ))
+  lent_released : {a u : ℕ} (r : LeaseAnswer) (κs : Lfts 1) (s s' : MutBor (List ℕ))
       → release-lent-reads.Learnt κs (s, (a, (u, tt))) r (s', (a, (u, tt)))
       → CalledLent s.now (release a u) (lease_means r) s'.now
-  lent_stopped : {a u : ℕ} (r : Written) (κs : Lfts 2) (s out out' : Bor (List ℕ))
+  lent_stopped : {a u : ℕ} (r : Written) (κs : Lfts 2) (s : Bor (List ℕ)) (out out' : MutBor (List ℕ))
       → stop-lent-reads.Learnt κs (s, (a, (u, (out, tt)))) r (s, (a, (u, (out', tt))))
       → CalledLent s.now (stop a u (length out.now)) (stop_told (written_means r) out'.now) s.now
 

@@ -22,15 +22,15 @@ pub record HoldGets (history : List Exchange) (a t : ℕ) (x : Answer (List ℕ)
 pub record ReleaseGets (history : List Exchange) (a t : ℕ) (x : Answer (List ℕ)) : Type 0 where
   pub accepted : Exactly (x ≡ result []) (LastHold a t history)
   pub outside : Exactly (x ≡ refused 9) (InRange a → ⊥)
-  pub not-holder : Exactly (x ≡ refused 11) (InRange a × (LastHold a t history → ⊥))
+  pub not_holder : Exactly (x ≡ refused 11) (InRange a × (LastHold a t history → ⊥))
 
 -- What a stop at address a with token t and an output of length `room` is answered: the bytes that it writes, or a
 -- refusal.
 pub record StopGets (history : List Exchange) (a t room : ℕ) (x : Answer (List ℕ)) : Type 0 where
   pub written : (w : List ℕ) → Exactly (x ≡ result w) ((w ≡ stop_frame a) × (length w ≤ room) × LastHold a t history)
   pub outside : Exactly (x ≡ refused 9) (InRange a → ⊥)
-  pub not-holder : Exactly (x ≡ refused 11) (InRange a × (LastHold a t history → ⊥))
-  pub no_room_lem : Exactly (x ≡ refused 1) ((room < length (stop_frame a)) × LastHold a t history)
+  pub not_holder : Exactly (x ≡ refused 11) (InRange a × (LastHold a t history → ⊥))
+  pub no_room : Exactly (x ≡ refused 1) ((room < length (stop_frame a)) × LastHold a t history)
 
 -- The holder t releases, then any token u but 0 holds, then v stops: the release and the hold are accepted, and the
 -- stop is written exactly where v is u and there is room.

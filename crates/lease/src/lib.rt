@@ -129,6 +129,7 @@ fn is_holder(token: u64, held: u64) -> bool
 }
 
 // What hold answers where `held` is the address's token.
+#[tactic(auto, unfolding(crate::specs::Lease::answer_of))]
 fn judge_hold(address: u32, token: u64, held: u64) -> LeaseAnswer
     ensures { lease_means result ≡ answer_of held (hold address token) }
 {
@@ -145,6 +146,7 @@ fn judge_hold(address: u32, token: u64, held: u64) -> LeaseAnswer
 }
 
 // What release answers where `held` is the address's token.
+#[tactic(auto, unfolding(crate::specs::Lease::answer_of))]
 fn judge_release(address: u32, token: u64, held: u64) -> LeaseAnswer
     ensures { lease_means result ≡ answer_of held (release address token) }
 {

@@ -14,7 +14,7 @@ use contract.Lifetimes.{Lfts}
 use contract.Monad.{Fun, fact}
 use denote.MutBor.{MutBor}
 use denote.Ref.{Bor}
-use Rattle.lists.specs.Machine.{run, Ran, RanBy, AnsweredBy}
+use Rattle.lists.specs.Machine.{Ran, RanBy, AnsweredBy}
 use Rattle.lists.proofs.Machines.{ran-run}
 use Rattle.framing.specs.Reference.{Call}
 use Rattle.framing.specs.Demand3.{feed}

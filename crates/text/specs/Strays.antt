@@ -10,23 +10,23 @@ use Rattle.candidate.specs.Rowing.{rowing}
 -- ---- as a count
 
 -- 1 for a byte that is stray, by its role and by whether a candidate is open before it.
-abbrev pub stray_at : Role → (is_open_lem : Bool) → ℕ
-stray_at starts is_open_lem = 0
+abbrev pub stray_at : Role → (is_open : Bool) → ℕ
+stray_at starts is_open = 0
 stray_at stops true = 0
 stray_at stops false = 1
 stray_at plain true = 0
 stray_at plain false = 1
 
 -- Whether a candidate is open after it.
-abbrev pub open_after : Role → (is_open_lem : Bool) → Bool
-open_after starts is_open_lem = true
-open_after stops is_open_lem = false
-open_after plain is_open_lem = is_open_lem
+abbrev pub open_after : Role → (is_open : Bool) → Bool
+open_after starts is_open = true
+open_after stops is_open = false
+open_after plain is_open = is_open
 
 -- How many of the bytes are stray.
-abbrev pub strays : (is_open_lem : Bool) → List ℕ → ℕ
-strays is_open_lem [] = 0
-strays is_open_lem (b ∷ bytes) = stray_at (role_of b) is_open_lem + strays (open_after (role_of b) is_open_lem) bytes
+abbrev pub strays : (is_open : Bool) → List ℕ → ℕ
+strays is_open [] = 0
+strays is_open (b ∷ bytes) = stray_at (role_of b) is_open + strays (open_after (role_of b) is_open) bytes
 
 -- ---- said of the bytes alone
 

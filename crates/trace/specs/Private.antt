@@ -61,7 +61,7 @@ pub record Advances (s : Listing) (rest bytes out : List ℕ) (at : ℕ) (out' :
 
 -- The stray bytes among those up to an answer: a candidate that is open ends only there, so they stand before the first
 -- start flag.
-abbrev pub stray_count : (is_open_lem : Bool) → List ℕ → ℕ
+abbrev pub stray_count : (is_open : Bool) → List ℕ → ℕ
 stray_count true bytes = 0
 stray_count false bytes = count_before is_start bytes
 

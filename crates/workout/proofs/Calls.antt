@@ -6,6 +6,7 @@ use mathlib.Core.Logic.{◌⊎◌}
 use mathlib.Core.List.{List}
 use lib.ListN.{take}
 use contract.Lifetimes.{Lfts}
+use denote.MutBor.{MutBor}
 use denote.Ref.{Bor}
 use Rattle.lists.specs.Choice.{Exactly}
 use Rattle.answer.specs.Answer.{Answer, result, refused}
@@ -38,13 +39,13 @@ pub data CalledRead : (contents : List ℕ) → Answer Programmed → Type 0 whe
 
 -- A call that writes a workout: its answer, and the output before and after.
 pub data CalledWrite : Programmed → (out : List ℕ) → Answer ℕ → (last : List ℕ) → Type 0 where
-  wrote_workout : (r : Written) (κs : Lfts 1) (w : Workout) (out out' : Bor (List ℕ))
+  wrote_workout : (r : Written) (κs : Lfts 1) (w : Workout) (out out' : MutBor (List ℕ))
       → write-workout-reads.Learnt κs (w, (out, tt)) r (w, (out', tt))
       → CalledWrite (programmed w) out.now (written_means r) out'.now
 
 -- A call that writes a workout in a frame to an address: its answer, and the output before and after.
 pub data CalledWriteFrame : (to : ℕ) → Programmed → (out : List ℕ) → Answer ℕ → (last : List ℕ) → Type 0 where
-  wrote_frame : (r : Written) (κs : Lfts 1) (to : ℕ) (w : Workout) (out out' : Bor (List ℕ))
+  wrote_frame : (r : Written) (κs : Lfts 1) (to : ℕ) (w : Workout) (out out' : MutBor (List ℕ))
       → write-workout-frame-reads.Learnt κs (to, (w, (out, tt))) r (to, (w, (out', tt)))
       → CalledWriteFrame to (programmed w) out.now (written_means r) out'.now
 

@@ -1,5 +1,7 @@
 // Programmed workouts: read from a frame's contents, and written as contents or as a whole frame.
 // Document 01, "Workout card"; the frame: document 02, No. 9.
+#![tactic(auto)]
+
 mod layout;
 mod limits;
 
@@ -183,7 +185,7 @@ fn write_within(limits: Limits, workout: Workout, out: &mut [u8]) -> Written
         return Written::Refused(Refusal::NoRoom);
     }
     let contents = contents_of(workout);
-    bytes::copy(&contents, out);
+    lists::copy(&contents, out, 0);
     Written::Length(layout::LEN)
 }
 

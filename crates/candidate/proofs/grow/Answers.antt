@@ -1,7 +1,3 @@
-use mathlib.Core.Path.{refl}
-use Rattle.candidate.specs.declared.Mode.TheVariants.{InStandard, InExtended}
-use Rattle.candidate.proofs.HolderLaws.{held_step}
-use borrow.Author.Rules.{rules}
 use Rattle.candidate.proofs.grow.Goals as goal
 
 pub returns-in-Outside : goal.returns-in-Outside

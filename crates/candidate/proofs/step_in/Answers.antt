@@ -1,5 +1,4 @@
 use borrow.Author.Tests.{eq-eqb, ne_eqb}
-use borrow.Author.Rules.{rules}
 use Rattle.candidate.proofs.step_in.Goals as goal
 
 pub returns-then-b-eq-EXTENDED_START : goal.returns-then-b-eq-EXTENDED_START

@@ -1,10 +1,5 @@
-use mathlib.Core.Path.{◌≡◌, refl, sym, ap, ◌∙◌}
-use mathlib.Core.Logic.{⊎_elim}
-use Rattle.framing.specs.Bounded.{inside}
+use mathlib.Core.Path.{refl}
 use Rattle.frame.specs.Answers.{judge_answer, left_in}
-use Rattle.candidate.specs.Outcome.{tells}
-use Rattle.candidate.specs.Holder.{mode_seen}
-use borrow.Author.Rules.{rules}
 use Rattle.candidate.proofs.terminated.Goals as goal
 
 pub returns-in-Overlong-clause-result_value : goal.returns-in-Overlong-clause-result_value

@@ -1,5 +1,4 @@
 use Rattle.frame.specs.Answers.{judge_answer}
-use borrow.Author.Rules.{rules}
 use Rattle.candidate.proofs.truncated.Goals as goal
 
 pub returns-in-InStandard : goal.returns-in-InStandard

@@ -1,7 +1,6 @@
 use native.Mathlib.Omega.{arith}
 use Rattle.candidate.specs.Outcome.{capacity}
 use borrow.Author.Tests.{lt-ltb, le-ltb}
-use borrow.Author.Rules.{rules}
 use Rattle.candidate.proofs.with_byte.Goals as goal
 
 pub returns-then-len-lt-ROOM : goal.returns-then-len-lt-ROOM

@@ -1,10 +1,7 @@
 use mathlib.Core.Path.{sym, ap, ◌∙◌}
-use Rattle.coscom.specs.Answers.{read_means, judge_answer}
+use Rattle.coscom.specs.Answers.{judge_answer}
 use Rattle.coscom.proofs.VerdictLaws.{whole_flagged, whole_flagless}
 use Rattle.coscom.proofs.CodeLaws.{packet-flagless}
-use borrow.Author.Rules.{rules}
-use Rattle.coscom.proofs.check.is_flagless.Reads as is-flagless-reads
-use Rattle.coscom.proofs.judge_body.Reads as judge-body-reads
 use Rattle.coscom.proofs.examine.Goals as goal
 
 pub returns-then-is_flagless : goal.returns-then-is_flagless

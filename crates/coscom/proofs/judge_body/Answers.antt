@@ -8,9 +8,6 @@ use borrow.Author.Tests.{not-true, not-false}
 use Rattle.coscom.specs.Answers.{judge_answer}
 use Rattle.coscom.proofs.VerdictLaws.{judge_long, judge_short, judge_character, judge-sum, judge_sound}
 use Rattle.coscom.proofs.CodeLaws.{answer_packet}
-use borrow.Author.Rules.{rules}
-use Rattle.coscom.proofs.check.is_spelt.Reads as is-spelt-reads
-use Rattle.coscom.proofs.check.is_summed.Reads as is-summed-reads
 use Rattle.coscom.proofs.judge_body.Goals as goal
 use Rattle.coscom.proofs.judge_body.Goals.{Else-not-is_spelt}
 

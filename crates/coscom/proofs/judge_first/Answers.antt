@@ -9,12 +9,8 @@ use Rattle.lists.proofs.Lists.{take_lesser}
 use Rattle.lists.proofs.Splices.{shifted_fits}
 use Rattle.coscom.specs.Flags.{candidate_of}
 use Rattle.coscom.specs.Verdict.{verdict}
-use Rattle.coscom.specs.Answers.{PacketOutline, outline, read_means, judge_answer}
+use Rattle.coscom.specs.Answers.{PacketOutline, outline, judge_answer}
 use Rattle.coscom.proofs.CodeLaws.{ToldIn, told_means_lem, refused_means, left_refused, left_done, unit_whole}
-use borrow.Author.Rules.{rules}
-use Rattle.coscom.proofs.examine.Reads as examine-reads
-use Rattle.lists.proofs.shift.Reads as shift-reads
-use Rattle.lists.proofs.lesser.Reads as lesser-reads
 use Rattle.coscom.proofs.judge_first.Goals as goal
 use Rattle.coscom.proofs.judge_first.Goals.{In-Packet}
 
@@ -55,7 +51,7 @@ returns-in-Packet-clause-s_after c =
     let n = c.lesser-n.result in
     let h : 3 + (O (goal.at.returns-in-Packet-clause-s_after c).In-Packet).len ≤ length (S (goal.at.returns-in-Packet-clause-s_after c).In-Packet) = omega (arith, u.fits, m.1, length-take-le n (S (goal.at.returns-in-Packet-clause-s_after c).In-Packet) m.1) in
     left_done _ (S (goal.at.returns-in-Packet-clause-s_after c).In-Packet) _ u.packet_is (O (goal.at.returns-in-Packet-clause-s_after c).In-Packet).len
-          (ap (λ (l : List ℕ). verdict (candidate_of l)) (sym m.0) ∙ u.judged) u.counted
-          (c.shift.ensures ∙ sym (shifted_fits (S (goal.at.returns-in-Packet-clause-s_after c).In-Packet) _ 3 (O (goal.at.returns-in-Packet-clause-s_after c).In-Packet).len h refl)
-          ∙ ap (λ (l : List ℕ). l ++ drop (O (goal.at.returns-in-Packet-clause-s_after c).In-Packet).len (S (goal.at.returns-in-Packet-clause-s_after c).In-Packet))
-          (sym (u.unit_is ∙ unit_whole (S (goal.at.returns-in-Packet-clause-s_after c).In-Packet) n (O (goal.at.returns-in-Packet-clause-s_after c).In-Packet).len m.1 u.fits)))
+    (ap (λ (l : List ℕ). verdict (candidate_of l)) (sym m.0) ∙ u.judged) u.counted
+    (c.shift.ensures ∙ sym (shifted_fits (S (goal.at.returns-in-Packet-clause-s_after c).In-Packet) _ 3 (O (goal.at.returns-in-Packet-clause-s_after c).In-Packet).len h refl)
+    ∙ ap (λ (l : List ℕ). l ++ drop (O (goal.at.returns-in-Packet-clause-s_after c).In-Packet).len (S (goal.at.returns-in-Packet-clause-s_after c).In-Packet))
+    (sym (u.unit_is ∙ unit_whole (S (goal.at.returns-in-Packet-clause-s_after c).In-Packet) n (O (goal.at.returns-in-Packet-clause-s_after c).In-Packet).len m.1 u.fits)))

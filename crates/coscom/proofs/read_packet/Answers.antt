@@ -10,13 +10,9 @@ use Rattle.lists.specs.Splice.{copied}
 use Rattle.lists.proofs.Splices.{copied_fits}
 use Rattle.coscom.specs.Flags.{candidate_of}
 use Rattle.coscom.specs.Verdict.{is_bounded, verdict}
-use Rattle.coscom.specs.Answers.{PacketOutline, outline, read_means}
+use Rattle.coscom.specs.Answers.{PacketOutline, outline}
 use Rattle.coscom.proofs.VerdictLaws.{bounded_long, bounded_part, verdict_unbounded}
 use Rattle.coscom.proofs.CodeLaws.{ToldIn, told_means_lem, refused_means, read_refused, read_no_room, read_done}
-use borrow.Author.Rules.{rules}
-use Rattle.coscom.proofs.check.is_bounded.Reads as is-bounded-reads
-use Rattle.coscom.proofs.examine.Reads as examine-reads
-use Rattle.lists.proofs.copy.Reads as copy-reads
 use Rattle.coscom.proofs.read_packet.Goals as goal
 use Rattle.coscom.proofs.read_packet.Goals.{Else-not-is_bounded, In-Packet}
 

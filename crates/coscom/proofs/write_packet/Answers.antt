@@ -9,12 +9,6 @@ use Rattle.answer.proofs.Drafts.{writes_refusal, writes_no_room, writes_done}
 use Rattle.coscom.specs.Packet.{Packet, packet, wire_of}
 use Rattle.coscom.specs.Answers.{packet_draft}
 use Rattle.coscom.proofs.CodeLaws.{wire_length, draft_long, draft_character, draft_fits, put-packet}
-use borrow.Author.Rules.{rules}
-use Rattle.coscom.proofs.check.checksum_of.Reads as checksum-of-reads
-use Rattle.coscom.proofs.check.is_proper.Reads as is-proper-reads
-use Rattle.coscom.proofs.put_head.Reads as put-head-reads
-use Rattle.coscom.proofs.put_tail.Reads as put-tail-reads
-use Rattle.lists.proofs.copy.Reads as copy-reads
 use Rattle.coscom.proofs.write_packet.Goals as goal
 use Rattle.coscom.proofs.write_packet.Goals.{Else-not-is_proper}
 

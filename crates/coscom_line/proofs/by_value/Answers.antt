@@ -3,7 +3,6 @@ use Rattle.coscom_line.specs.Outcome.{Summary, summary_of}
 use Rattle.coscom_line.specs.Private.{beside_told}
 use Rattle.coscom_line.specs.declared.LineReader.{LineReader}
 use Rattle.coscom_line.proofs.ValueLaws.{value_means}
-use borrow.Author.Rules.{rules}
 use Rattle.coscom_line.proofs.by_value.Goals as goal
 
 pub returns : goal.returns

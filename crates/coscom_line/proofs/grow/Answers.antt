@@ -1,5 +1,3 @@
-use Rattle.coscom_line.proofs.ReaderLaws.{held_step}
-use borrow.Author.Rules.{rules}
 use Rattle.coscom_line.proofs.grow.Goals as goal
 
 pub returns-in-Outside : goal.returns-in-Outside

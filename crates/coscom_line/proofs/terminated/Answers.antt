@@ -1,7 +1,5 @@
-use mathlib.Core.Path.{refl, ap, ◌∙◌}
+use mathlib.Core.Path.{refl}
 use Rattle.coscom.specs.Answers.{judge_answer, left_in}
-use Rattle.coscom_line.specs.Outcome.{tells}
-use borrow.Author.Rules.{rules}
 use Rattle.coscom_line.proofs.terminated.Goals as goal
 
 pub returns-in-Overlong-clause-result_value : goal.returns-in-Overlong-clause-result_value

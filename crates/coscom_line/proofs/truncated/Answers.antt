@@ -1,5 +1,4 @@
 use Rattle.coscom.specs.Answers.{judge_answer}
-use borrow.Author.Rules.{rules}
 use Rattle.coscom_line.proofs.truncated.Goals as goal
 
 pub returns-in-Inside : goal.returns-in-Inside

@@ -1,7 +1,6 @@
 use native.Mathlib.Omega.{arith}
 use borrow.Author.Tests.{lt-ltb, le-ltb}
 use Rattle.coscom_line.specs.Outcome.{capacity}
-use borrow.Author.Rules.{rules}
 use Rattle.coscom_line.proofs.with_byte.Goals as goal
 
 pub returns-then-len-lt-ROOM : goal.returns-then-len-lt-ROOM

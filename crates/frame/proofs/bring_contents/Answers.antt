@@ -9,10 +9,9 @@ use Rattle.lists.specs.Splice.{splice}
 use Rattle.lists.proofs.Lists.{drop-take}
 use Rattle.lists.proofs.Splices.{shifted_fits}
 use Rattle.frame.specs.Stuffing.{unstuff}
-use Rattle.frame.specs.Private.{unstuffed_bytes, is_sound_lem, last_at}
+use Rattle.frame.specs.Private.{unstuffed_bytes, is_sound, last_at}
 use Rattle.frame.proofs.StuffingLaws.{unstuff_shrinks}
 use Rattle.frame.proofs.ContentsLaws.{shifted_plain, front_sound, front_inside, front_put}
-use borrow.Author.Rules.{rules}
 use Rattle.frame.proofs.bring_contents.Goals as goal
 use Rattle.frame.proofs.bring_contents.Goals.{After-last_at}
 
@@ -62,8 +61,8 @@ returns-then-start-eq2 c =
 pub unstuff_front-requires-clause-s_value : goal.unstuff_front-requires-clause-s_value
 unstuff_front-requires-clause-s_value c =
     let a = c.args in
-    ap (λ (t : List ℕ). is_sound_lem (unstuff false t)) (drop-take a.start c.last_at.result a.s.now (inside (goal.at.unstuff_front-requires-clause-s_value c).After-last_at))
-            ∙ front_sound (drop a.start a.s.now) a.len c.requires.s_len _ (end (goal.at.unstuff_front-requires-clause-s_value c).After-last_at)
+    ap (λ (t : List ℕ). is_sound (unstuff false t)) (drop-take a.start c.last_at.result a.s.now (inside (goal.at.unstuff_front-requires-clause-s_value c).After-last_at))
+    ∙ front_sound (drop a.start a.s.now) a.len c.requires.s_len _ (end (goal.at.unstuff_front-requires-clause-s_value c).After-last_at)
 
 pub returns : goal.returns
 returns c =

@@ -1,10 +1,8 @@
-use mathlib.Core.Path.{sym}
 use native.Mathlib.Omega.{arith}
 use lib.ListN.{take}
 use lib.Seq.{length-take-le}
 use Rattle.lists.proofs.Splices.{copied_fits}
-use Rattle.frame.proofs.ContentsLaws.{copied_plain, front_sound, front_length, front_inside, front_put}
-use borrow.Author.Rules.{rules}
+use Rattle.frame.proofs.ContentsLaws.{copied_plain, front_sound, front_length, front_put}
 use Rattle.frame.proofs.copy_contents.Goals as goal
 
 pub returns-then-rest-len : goal.returns-then-rest-len
@@ -23,10 +21,10 @@ unstuff_into-requires-clause-s_value c =
 pub unstuff_into-requires-clause-s_in_bounds : goal.unstuff_into-requires-clause-s_in_bounds
 unstuff_into-requires-clause-s_in_bounds c =
     omega (
-        arith,
-        front_length c.args.rest.now c.args.len c.requires.rest_len _ c.last_at-end.ensures,
-        c.requires.len_in_bounds,
-      )
+      arith,
+      front_length c.args.rest.now c.args.len c.requires.rest_len _ c.last_at-end.ensures,
+      c.requires.len_in_bounds,
+    )
 
 pub returns : goal.returns
 returns c =

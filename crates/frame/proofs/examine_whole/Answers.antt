@@ -2,7 +2,6 @@ use mathlib.Core.Path.{◌≡◌}
 use mathlib.Core.Bool.{true}
 use Rattle.frame.specs.Private.{Unescaped}
 use Rattle.frame.proofs.VerdictLaws.{whole_examined, plain_flagless, looked_clear}
-use borrow.Author.Rules.{rules}
 use Rattle.frame.proofs.examine_whole.Goals as goal
 use Rattle.frame.proofs.examine_whole.Goals.{After-look_plain-looked}
 
@@ -15,5 +14,3 @@ returns-then-looked c =
     let a = c.args in
     whole_examined a.kind a.body.now (plain_flagless _ _ (unescaped (goal.at.returns-then-looked c).After-look_plain-looked c.if-looked.true))
     c.examine_plain.result c.examine_plain.ensures
-
-

@@ -1,4 +1,4 @@
-use mathlib.Core.Path.{◌≡◌, sym, ap, ◌∙◌}
+use mathlib.Core.Path.{◌≡◌, ap, ◌∙◌}
 use Prim.Native.Nat.{ℕ, ◌≤◌}
 use mathlib.Core.List.{List}
 use lib.ListN.{length, take}
@@ -7,9 +7,8 @@ use Rattle.lists.proofs.Lists.{take_lesser}
 use Rattle.frame.specs.Flags.{candidate_of}
 use Rattle.frame.specs.Verdict.{verdict}
 use Rattle.frame.specs.Origin.{admit}
-use Rattle.frame.specs.Answers.{judge_answer, left_in}
+use Rattle.frame.specs.Answers.{left_in}
 use Rattle.frame.proofs.ContentsLaws.{left_part}
-use borrow.Author.Rules.{rules}
 use Rattle.frame.proofs.judge_first.Goals as goal
 use Rattle.frame.proofs.judge_first.Goals.{After-lesser-n}
 
@@ -24,8 +23,6 @@ returns-clause-s_after c =
     let a = c.args in
     let n = c.lesser-n.result in
     left_part _ a.s.now _ n (part (goal.at.returns-clause-s_after c).After-lesser-n).1
-          (c.judge_whole.auto.s ∙ length-take-le n a.s.now (part (goal.at.returns-clause-s_after c).After-lesser-n).1)
-          c.judge_whole.ensures.s_after
-          ∙ ap (λ (l : List ℕ). left_in (admit a.origin (verdict (candidate_of a.kind l))) a.s.now) (part (goal.at.returns-clause-s_after c).After-lesser-n).0
-
-
+    (c.judge_whole.auto.s ∙ length-take-le n a.s.now (part (goal.at.returns-clause-s_after c).After-lesser-n).1)
+    c.judge_whole.ensures.s_after
+    ∙ ap (λ (l : List ℕ). left_in (admit a.origin (verdict (candidate_of a.kind l))) a.s.now) (part (goal.at.returns-clause-s_after c).After-lesser-n).0

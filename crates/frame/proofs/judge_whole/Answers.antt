@@ -1,16 +1,12 @@
 use mathlib.Core.Path.{◌≡◌, sym, ◌∙◌, subst}
-use mathlib.Core.List.{List}
-use Prim.Native.Nat.{ℕ}
 use Rattle.frame.specs.Flags.{candidate_of}
 use Rattle.frame.specs.Verdict.{Verdict, verdict}
 use Rattle.frame.specs.Origin.{admit}
 use Rattle.frame.specs.Private.{Examines, SoundAt}
-use Rattle.frame.specs.declared.Header.{Header}
 use Rattle.frame.specs.declared.candidate.Examined.{Examined}
 use Rattle.frame.proofs.OriginLaws.{admit_refused, sound_admitted, sound_unnamed}
 use Rattle.frame.proofs.VerdictLaws.{judge_refused, judge_accepted, header_as, candidate_verdict}
 use Rattle.frame.proofs.ContentsLaws.{rest_length, rest_first, left_refused, left_accepted}
-use borrow.Author.Rules.{rules}
 use Rattle.frame.proofs.judge_whole.Goals as goal
 use Rattle.frame.proofs.judge_whole.Goals.{After-examine_whole-found, In-Sound, Then-is_admitted}
 

@@ -2,7 +2,6 @@ use mathlib.Core.Path.{◌≡◌, sym, ap, ◌∙◌}
 use Prim.Native.Nat.{ℕ, ◌-◌}
 use native.Mathlib.Omega.{arith}
 use mathlib.Core.Bool.{true}
-use mathlib.Core.List.{List}
 use lib.ListN.{length, take, drop}
 use borrow.Author.Tests.{not-true, not-false}
 use Rattle.frame.specs.Private.{is_bounded, judge_whole, Unescaped}
@@ -12,7 +11,6 @@ use Rattle.frame.specs.Answers.{read_answer, read_out}
 use Rattle.frame.proofs.VerdictLaws.{bounded_no, bounded_long, bounded_judged, plain_whole, answer_refused}
 use Rattle.frame.proofs.VerdictLaws.{looked_clear}
 use Rattle.frame.proofs.OriginLaws.{admit_refused}
-use borrow.Author.Rules.{rules}
 use Rattle.frame.proofs.read_frame.Goals as goal
 use Rattle.frame.proofs.read_frame.Goals.{After-kind_of-kind, After-look_plain-looked, Else-not-is_bounded}
 
@@ -81,5 +79,3 @@ returns-clause-out_after c =
     let out = c.args.out.now in
     let same = ap (admit c.args.origin) (judged (goal.at.returns-clause-out_after c).After-kind_of-kind) in
     c.read_stuffed.ensures.out_after ∙ ap (λ (v : Verdict). read_out v out) same
-
-

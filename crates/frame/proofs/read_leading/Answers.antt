@@ -2,7 +2,6 @@ use mathlib.Core.Path.{◌≡◌, sym, ap, ap₂, ◌∙◌}
 use mathlib.Core.Bool.{true}
 use mathlib.Core.List.{List}
 use Prim.Native.Nat.{ℕ, ◌-◌}
-use native.Mathlib.Omega.{arith}
 use lib.ListN.{length, take, drop, get_or}
 use borrow.Author.Tests.{not-true, not-false}
 use Rattle.lists.proofs.Lists.{rest_part}
@@ -14,8 +13,7 @@ use Rattle.frame.specs.Leading.{open_count}
 use Rattle.frame.specs.Private.{open_verdict}
 use Rattle.frame.proofs.VerdictLaws.{answer_refused}
 use Rattle.frame.proofs.OriginLaws.{admit_refused}
-use Rattle.frame.proofs.LeadingLaws.{start_some, leading_none, leading_some, open_verdict_lem}
-use borrow.Author.Rules.{rules}
+use Rattle.frame.proofs.LeadingLaws.{leading_none, leading_some, open_verdict_lem}
 use Rattle.frame.proofs.read_leading.Goals as goal
 use Rattle.frame.proofs.read_leading.Goals.{Else-not-starts}
 

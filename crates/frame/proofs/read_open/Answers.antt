@@ -1,10 +1,8 @@
 use mathlib.Core.Path.{◌≡◌, sym, ap, ◌∙◌}
 use mathlib.Core.Bool.{true}
 use mathlib.Core.List.{List}
-use Prim.Native.Nat.{ℕ, ◌<◌}
-use native.Mathlib.Omega.{arith}
+use Prim.Native.Nat.{ℕ}
 use lib.ListN.{length}
-use lib.Seq.{length-take-le}
 use borrow.Author.Tests.{not-true, not-false}
 use Rattle.frame.specs.Verdict.{Verdict}
 use Rattle.frame.specs.Origin.{admit}
@@ -12,8 +10,7 @@ use Rattle.frame.specs.Answers.{read_answer, read_out}
 use Rattle.frame.specs.Leading.{is_stop_at}
 use Rattle.frame.proofs.VerdictLaws.{plain_whole, answer_refused}
 use Rattle.frame.proofs.OriginLaws.{admit_refused}
-use Rattle.frame.proofs.LeadingLaws.{open_plain, open_inside, open_none, open_some}
-use borrow.Author.Rules.{rules}
+use Rattle.frame.proofs.LeadingLaws.{open_plain, open_none, open_some}
 use Rattle.frame.proofs.read_open.Goals as goal
 use Rattle.frame.proofs.read_open.Goals.{Else-not-is_stop_at}
 

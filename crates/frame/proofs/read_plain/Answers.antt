@@ -6,15 +6,13 @@ use lib.Seq.{length-take-le}
 use borrow.Author.Tests.{not-true, not-false}
 use Rattle.lists.specs.Splice.{copied}
 use Rattle.lists.proofs.Splices.{copied_fits}
-use Rattle.frame.specs.Verdict.{Verdict, judge}
+use Rattle.frame.specs.Verdict.{judge}
 use Rattle.frame.specs.Origin.{admit}
 use Rattle.frame.specs.Private.{Examines, SoundAt}
-use Rattle.frame.specs.declared.Header.{Header}
 use Rattle.frame.specs.declared.candidate.Examined.{Examined}
 use Rattle.frame.proofs.OriginLaws.{admit_refused, sound_admitted, sound_unnamed}
 use Rattle.frame.proofs.VerdictLaws.{answer_refused, plain_rest}
 use Rattle.frame.proofs.ContentsLaws.{rest_length, read_no_room, read_first, copied_plain}
-use borrow.Author.Rules.{rules}
 use Rattle.frame.proofs.read_plain.Goals as goal
 use Rattle.frame.proofs.read_plain.Goals.{After-examine_plain-found, Else-not-is_admitted, In-Sound}
 

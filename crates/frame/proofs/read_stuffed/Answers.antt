@@ -9,12 +9,10 @@ use borrow.Author.Tests.{not-true, not-false}
 use Rattle.frame.specs.Stuffing.{unstuff}
 use Rattle.frame.specs.Origin.{admit}
 use Rattle.frame.specs.Private.{judge_whole, ExaminesWhole, SoundAt, unstuffed_bytes}
-use Rattle.frame.specs.declared.Header.{Header}
 use Rattle.frame.specs.declared.candidate.Examined.{Examined}
 use Rattle.frame.proofs.OriginLaws.{admit_refused, sound_admitted, sound_unnamed}
 use Rattle.frame.proofs.VerdictLaws.{answer_refused}
 use Rattle.frame.proofs.ContentsLaws.{rest_length, read_no_room, read_first}
-use borrow.Author.Rules.{rules}
 use Rattle.frame.proofs.read_stuffed.Goals as goal
 use Rattle.frame.proofs.read_stuffed.Goals.{After-examine_stuffed-found, Else-not-is_admitted, In-Sound}
 
@@ -107,5 +105,3 @@ returns-else-out-len-clause-out_after c =
     (c.copy_contents.ensures
     ∙ ap (λ (l : List ℕ). take c.in-Sound.len (unstuffed_bytes (unstuff false l)) ++ drop c.in-Sound.len out) (rest (goal.at.returns-else-out-len-clause-out_after c).In-Sound)) in
     put.1
-
-

@@ -5,7 +5,6 @@ use Rattle.line.specs.Answers.{located_as}
 use Rattle.line.specs.Private.{beside_told}
 use Rattle.line.specs.declared.LineReader.{LineReader}
 use Rattle.line.proofs.ValueLaws.{value_means}
-use borrow.Author.Rules.{rules}
 use Rattle.line.proofs.by_value.Goals as goal
 
 pub returns : goal.returns

@@ -1,11 +1,9 @@
-use mathlib.Core.Path.{◌≡◌, sym}
+use mathlib.Core.Path.{◌≡◌}
 use native.Mathlib.Omega.{arith}
 use Prim.Native.Nat.{◌-◌, ◌≤◌}
 use lib.ListN.{length, take}
-use lib.Seq.{length-take-le}
 use Rattle.line.specs.Rowing.{most_bytes}
 use Rattle.line.proofs.FeedLaws.{part_cut, part_fits, chunk_advances}
-use borrow.Author.Rules.{rules}
 use Rattle.framing.specs.Chunk.{cut_chunk}
 use Rattle.line.proofs.feed_in.Goals as goal
 use Rattle.line.proofs.feed_in.Goals.{After-lesser-part}

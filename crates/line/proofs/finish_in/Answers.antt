@@ -1,5 +1,4 @@
 use mathlib.Core.Path.{refl, sym, subst}
-use borrow.Author.Rules.{rules}
 use Rattle.candidate.specs.Holder.{holder, finish_held}
 use Rattle.line.specs.Reader.{finish_of, lent_reader, LentStepIs}
 use Rattle.line.specs.declared.State.{State}

@@ -4,8 +4,7 @@ use Rattle.frame.specs.Answers.{judge_answer}
 use Rattle.line.specs.Reader.{lent_reader}
 use Rattle.line.specs.Feed.{chunk_of, ChunkStepIs}
 use Rattle.line.specs.declared.ChunkStep.{ChunkStep}
-use Rattle.line.proofs.FeedLaws.{chunk_none, chunk_full}
-use borrow.Author.Rules.{rules}
+use Rattle.line.proofs.FeedLaws.{chunk_full}
 use Rattle.line.proofs.refuse.Goals as goal
 
 pub returns : goal.returns

@@ -1,10 +1,7 @@
 use mathlib.Core.Path.{sym, subst}
-use Prim.Native.Nat.{◌+◌}
 use native.Mathlib.Omega.{arith}
-use borrow.Author.Rules.{rules}
-use Rattle.candidate.specs.Holder.{holder, step_held}
 use Rattle.line.specs.Reader.{lent_reader, LentStepIs}
-use Rattle.line.proofs.StepLaws.{step_taken, step_full, located_step}
+use Rattle.line.proofs.StepLaws.{step_full}
 use Rattle.line.proofs.step_in.Goals as goal
 
 pub returns-then-count : goal.returns-then-count

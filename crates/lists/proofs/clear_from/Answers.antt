@@ -1,11 +1,6 @@
-use mathlib.Core.Path.{◌≡◌, refl, ◌∙◌}
-use mathlib.Core.List.{◌++◌}
-use Prim.Native.Nat.{◌-◌}
-use native.Mathlib.Omega.{arith}
-use lib.ListN.{length, take, replicate, length-set}
-use Rattle.lists.specs.Splice.{cleared}
-use Rattle.lists.proofs.Splices.{clear_more, clear_none, clear_all}
-use borrow.Author.Rules.{rules}
+use mathlib.Core.Path.{◌∙◌}
+use lib.ListN.{length-set}
+use Rattle.lists.proofs.Splices.{clear_more}
 use Rattle.lists.proofs.clear_from.Goals as goal
 
 pub loop-i-preserved : goal.loop-i-preserved

@@ -1,9 +1,7 @@
-use mathlib.Core.Path.{◌≡◌, refl, ◌∙◌}
-use Prim.Native.Nat.{◌+◌, ◌-◌, ◌≤◌}
-use native.Mathlib.Omega.{arith}
-use lib.ListN.{length, length-set}
-use lib.Seq.{paste, paste-zero}
-use Rattle.lists.proofs.Splices.{paste_more, paste_all}
+use mathlib.Core.Path.{◌∙◌}
+use Prim.Native.Nat.{◌+◌}
+use lib.ListN.{length-set}
+use Rattle.lists.proofs.Splices.{paste_more}
 use borrow.Author.Rules.{rules}
 use Rattle.lists.proofs.copy_each.Goals as goal
 

@@ -1,9 +1,6 @@
-use mathlib.Core.Path.{◌≡◌, sym}
+use mathlib.Core.Path.{sym}
 use native.Mathlib.Nat.{zero-add}
 use native.Mathlib.Omega.{arith}
-use lib.ListN.{length, drop}
-use Prim.Native.Nat.{◌+◌, ◌-◌, ◌≤◌}
-use Rattle.lists.specs.Choice.{within, count_before}
 use Rattle.lists.proofs.Before.{marked, unmarked, before_here, before_more, before_end}
 use borrow.Author.Rules.{rules}
 use Rattle.lists.proofs.count_before.Goals as goal
@@ -22,12 +19,11 @@ returns-then-mark-eq1-2 c =
     (marked _ _ c.mark-in-loop-i.ensures c.if-mark-eq1-2.true) c.loop-i.invariant.1
 
 pub loop-i-preserved : goal.loop-i-preserved
-loop-i-preserved c =
-    (
-      search rules,
-      before_more _ _ c.loop-i.i c.loop-i-test.true
-          (unmarked _ _ c.mark-in-loop-i.ensures c.if-mark-eq1-2.false) c.loop-i.invariant.1,
-    )
+loop-i-preserved c = (
+  search rules,
+  before_more _ _ c.loop-i.i c.loop-i-test.true
+      (unmarked _ _ c.mark-in-loop-i.ensures c.if-mark-eq1-2.false) c.loop-i.invariant.1,
+)
 
 pub returns : goal.returns
 returns c = before_end _ _ c.loop-i.i c.loop-i-test.false c.loop-i.invariant.1

@@ -1,11 +1,7 @@
-use mathlib.Core.Path.{◌≡◌, sym}
-use native.Mathlib.Nat.{zero-add}
-use native.Mathlib.Omega.{arith}
+use mathlib.Core.Path.{◌≡◌}
 use lib.ListN.{length, drop}
 use Prim.Native.Nat.{◌+◌, ◌-◌, ◌≤◌}
 use Rattle.lists.specs.Choice.{within, count_before}
-use Rattle.lists.proofs.Before.{marked, unmarked, before_here, before_more, before_end}
-use borrow.Author.Rules.{rules}
 use Rattle.lists.proofs.count_before.Given as goal
 
 abbrev pub invariant-loop-i : goal.invariant-loop-i

@@ -1,10 +1,6 @@
-use mathlib.Core.Path.{◌≡◌, refl, ap, ◌∙◌}
-use Prim.Native.Nat.{ℕ, ◌-◌, ◌≤◌}
-use lib.ListN.{length, take}
-use lib.Dec.{eqb}
-use lib.Seq.{take_all}
-use Rattle.lists.specs.Choice.{pick, within, none_of}
-use Rattle.lists.proofs.Tests.{mark_more, mark_all}
+use mathlib.Core.Path.{refl}
+use Rattle.lists.specs.Choice.{within, none_of}
+use Rattle.lists.proofs.Tests.{mark_more}
 use borrow.Author.Rules.{rules}
 use Rattle.lists.proofs.none_within.Goals as goal
 

@@ -1,11 +1,7 @@
-use mathlib.Core.Path.{◌≡◌, refl, ap, ◌∙◌}
-use Prim.Native.Nat.{ℕ, ◌-◌, ◌≤◌}
+use mathlib.Core.Path.{◌≡◌}
+use Prim.Native.Nat.{◌-◌, ◌≤◌}
 use lib.ListN.{length, take}
-use lib.Dec.{eqb}
-use lib.Seq.{take_all}
 use Rattle.lists.specs.Choice.{pick, within, none_of}
-use Rattle.lists.proofs.Tests.{mark_more, mark_all}
-use borrow.Author.Rules.{rules}
 use Rattle.lists.proofs.none_within.Given as goal
 
 abbrev pub invariant-loop-i : goal.invariant-loop-i

@@ -1,12 +1,7 @@
-use mathlib.Core.Path.{◌≡◌, refl, ◌∙◌}
-use native.Mathlib.Nat.{add-mod_right}
-use native.Mathlib.Omega.{arith}
+use mathlib.Core.Path.{◌≡◌}
 use lib.ListN.{length, drop}
 use Prim.Native.Nat.{◌+◌, ◌-◌, ◌%◌, ◌≤◌}
-use borrow.Author.Tests.{not-true, not-false}
 use Rattle.lists.specs.Choice.{within, count_before}
-use Rattle.lists.proofs.Before.{before_block, block_inside, rest_inside}
-use borrow.Author.Rules.{rules}
 use Rattle.lists.proofs.pass_blocks.Given as goal
 
 abbrev pub invariant-loop-i : goal.invariant-loop-i

@@ -2,7 +2,6 @@ use Prim.Native.Nat.{ℕ, ◌+◌, ◌*◌, ◌^◌, ◌<◌}
 use mathlib.Core.Path.{sym, ap₂, ◌∙◌}
 use native.Mathlib.Omega.{arith}
 use Rattle.numbers.proofs.Numbers.{number-add, number_bound}
-use borrow.Author.Rules.{rules}
 use Rattle.numbers.proofs.eight_at.Goals as goal
 use Rattle.numbers.proofs.eight_at.Goals.{After-four_at-2}
 

@@ -1,7 +1,4 @@
-use Prim.Native.Nat.{◌+◌}
-use native.Mathlib.Omega.{arith}
 use Rattle.numbers.proofs.Numbers.{number-four}
-use borrow.Author.Rules.{rules}
 use Rattle.numbers.proofs.four_at.Goals as goal
 
 pub returns : goal.returns

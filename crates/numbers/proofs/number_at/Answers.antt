@@ -2,13 +2,13 @@ use borrow.Author.Tests.{leb-true}
 use native.Mathlib.Nat.{sub_self}
 use Rattle.numbers.specs.Number.{Bytes, number}
 use Rattle.lists.proofs.Cases.{by_bool}
-use Rattle.numbers.proofs.Numbers.{number_down, number_down_bound, number_all}
+use Rattle.numbers.proofs.Numbers.{number_down, number_down_bound}
 use Rattle.lists.specs.Choice.{pick}
 use borrow.Author.Rules.{rules}
 use lib.Dec.{leb}
 use native.Mathlib.Omega.{arith}
 use Prim.Native.Nat.{ℕ, ◌+◌, ◌-◌, ◌^◌, ◌<◌, ◌≤◌}
-use mathlib.Core.Path.{◌≡◌, sym, ap, ◌∙◌}
+use mathlib.Core.Path.{sym, ap, ◌∙◌}
 use Rattle.numbers.proofs.number_at.Goals as goal
 use Rattle.numbers.proofs.number_at.Goals.{After-byte_at}
 

@@ -1,9 +1,7 @@
 use borrow.Author.Rules.{rules}
-use mathlib.Core.Path.{◌≡◌, refl, ◌∙◌}
-use Prim.Native.Nat.{◌+◌, ◌-◌, ◌≤◌}
-use lib.ListN.{length, take, length-set}
-use Rattle.text.specs.Writing.{Wrote}
-use Rattle.text.proofs.Writing.{wrote_nothing, copy_more, copy_all}
+use mathlib.Core.Path.{◌∙◌}
+use lib.ListN.{length-set}
+use Rattle.text.proofs.Writing.{copy_more}
 use Rattle.text.proofs.put_bytes.Goals as goal
 
 pub loop-i-preserved : goal.loop-i-preserved
@@ -14,5 +12,3 @@ loop-i-preserved c =
           c.loop-i-test.true c.loop-i.invariant.1,
       (simp length-set) ∙ c.loop-i.invariant.2,
     )
-
-

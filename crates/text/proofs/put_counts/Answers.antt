@@ -1,7 +1,6 @@
 use native.Mathlib.Omega.{arith}
 use Rattle.text.specs.Lines.{totals}
 use Rattle.text.proofs.Writing.{next}
-use borrow.Author.Rules.{rules}
 use Rattle.text.proofs.put_counts.Goals as goal
 
 pub returns-clause-wrote : goal.returns-clause-wrote

@@ -4,7 +4,6 @@ use Rattle.text.proofs.Writing.{next}
 use Prim.Native.Nat.{◌≤◌}
 use lib.ListN.{length}
 use Rattle.text.proofs.DigitLaws.{field_short}
-use borrow.Author.Rules.{rules}
 use Rattle.text.proofs.put_extended.Goals as goal
 use Rattle.text.proofs.put_extended.Goals.{Start}
 
@@ -38,4 +37,4 @@ returns-clause-upper_bound c =
     let d = c.put_short_field-c.ensures in
     let l = len-fits (goal.at.returns-clause-upper_bound c).Start in
     omega
-          (arith, l, d.ends)
+    (arith, l, d.ends)

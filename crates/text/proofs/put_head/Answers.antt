@@ -2,7 +2,6 @@ use native.Mathlib.Omega.{arith}
 use Rattle.text.specs.Lines.{ascii, head}
 use Rattle.text.proofs.DigitLaws.{field_32}
 use Rattle.text.proofs.Writing.{next}
-use borrow.Author.Rules.{rules}
 use Rattle.text.proofs.put_head.Goals as goal
 
 pub put_short_field-requires : goal.put_short_field-requires

@@ -1,5 +1,4 @@
 use Rattle.text.proofs.DigitLaws.{wrote_hex-field}
-use borrow.Author.Rules.{rules}
 use Rattle.text.proofs.put_hex_field.Goals as goal
 
 pub returns-clause-wrote : goal.returns-clause-wrote

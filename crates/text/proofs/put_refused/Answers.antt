@@ -2,7 +2,6 @@ use mathlib.Core.Path.{ap, ◌∙◌}
 use native.Mathlib.Omega.{arith}
 use Rattle.text.specs.Lines.{field, refused_body}
 use Rattle.text.proofs.Writing.{next, wrote_as}
-use borrow.Author.Rules.{rules}
 use Rattle.text.proofs.put_refused.Goals as goal
 
 pub returns-clause-wrote : goal.returns-clause-wrote

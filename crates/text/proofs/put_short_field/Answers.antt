@@ -1,6 +1,5 @@
 use native.Mathlib.Omega.{arith}
 use Rattle.text.proofs.DigitLaws.{length-field, wrote_field}
-use borrow.Author.Rules.{rules}
 use Rattle.text.proofs.put_short_field.Goals as goal
 
 pub put_bytes-a-requires : goal.put_bytes-a-requires

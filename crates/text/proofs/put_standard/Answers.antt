@@ -4,7 +4,6 @@ use Rattle.text.proofs.Writing.{next}
 use Prim.Native.Nat.{◌≤◌}
 use lib.ListN.{length}
 use Rattle.text.proofs.DigitLaws.{field_short}
-use borrow.Author.Rules.{rules}
 use Rattle.text.proofs.put_standard.Goals as goal
 use Rattle.text.proofs.put_standard.Goals.{Start}
 

@@ -2,8 +2,7 @@ use mathlib.Core.Path.{ap}
 use native.Mathlib.Omega.{arith}
 use Rattle.frame.specs.Answers.{frame_read}
 use Rattle.text.specs.Lines.{standard_body, extended_body}
-use Rattle.text.proofs.Writing.{part_fits, wrote_nothing, wrote_as, next}
-use borrow.Author.Rules.{rules}
+use Rattle.text.proofs.Writing.{wrote_as, next}
 use Rattle.text.proofs.put_told.Goals as goal
 
 pub returns-in-Refused-clause-wrote : goal.returns-in-Refused-clause-wrote

@@ -3,7 +3,6 @@ use native.Mathlib.Omega.{arith}
 use Rattle.answer.specs.Answer.{result}
 use Rattle.answer.proofs.Drafts.{writes_no_room}
 use Rattle.text.proofs.Writing.{wrote_here}
-use borrow.Author.Rules.{rules}
 use Rattle.text.proofs.write_bytes.Goals as goal
 
 pub returns-then-out-s-clause-result_value : goal.returns-then-out-s-clause-result_value

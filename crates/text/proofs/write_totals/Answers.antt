@@ -1,8 +1,5 @@
 use native.Mathlib.Omega.{arith}
-use lib.Seq.{length-take-le}
-use mathlib.Core.Path.{sym}
-use Rattle.text.proofs.Writing.{wrote_here, wrote_copy}
-use borrow.Author.Rules.{rules}
+use Rattle.text.proofs.Writing.{wrote_here}
 use Rattle.text.proofs.write_totals.Goals as goal
 
 pub returns-clause-result_value : goal.returns-clause-result_value

@@ -1,7 +1,6 @@
 use mathlib.Core.Path.{subst}
 use Rattle.writer.specs.Private.{Measures}
 use Rattle.writer.proofs.MeasureLaws.{long_length, fits_length}
-use borrow.Author.Rules.{rules}
 use Rattle.writer.proofs.wire_length.Goals as goal
 
 pub returns-in-TooLong : goal.returns-in-TooLong

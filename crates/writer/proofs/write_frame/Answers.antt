@@ -1,14 +1,11 @@
 use mathlib.Core.Path.{subst, ◌∙◌}
-use mathlib.Core.List.{List}
-use Prim.Native.Nat.{ℕ, ◌≤◌}
+use Prim.Native.Nat.{◌≤◌}
 use native.Mathlib.Omega.{arith}
 use lib.ListN.{length}
 use Rattle.writer.specs.Private.{Measures}
-use Rattle.frame.specs.declared.Header.{Header}
 use Rattle.writer.specs.declared.measure.Measured.TheVariants.{Fits}
 use Rattle.writer.proofs.MeasureLaws.{long_written, no_room_written, header_room, contents_room, end_room}
 use Rattle.writer.proofs.MeasureLaws.{parts_written}
-use borrow.Author.Rules.{rules}
 use Rattle.writer.proofs.write_frame.Goals as goal
 use Rattle.writer.proofs.write_frame.Goals.{After-put_header-a, In-Fits}
 

@@ -1,11 +1,8 @@
-use mathlib.Core.Path.{sym, ap, ◌∙◌}
-use lib.ListN.{length}
-use Rattle.answer.specs.Draft.{draft_answer, draft_out}
+use mathlib.Core.Path.{ap}
 use Rattle.answer.proofs.Drafts.{writes_refusal}
 use Rattle.frame.specs.Frame.{standard}
 use Rattle.writer.specs.Answers.{sent_draft}
 use Rattle.frame.specs.declared.Origin.{Origin}
-use borrow.Author.Rules.{rules}
 use Rattle.writer.proofs.write_standard.Goals as goal
 
 pub returns-in-Live-clause-result_value : goal.returns-in-Live-clause-result_value

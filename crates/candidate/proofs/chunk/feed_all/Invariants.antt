@@ -1,17 +1,9 @@
-use mathlib.Core.Path.{◌≡◌, refl, sym, ap, ◌∙◌}
-use native.Mathlib.Omega.{arith}
-use lib.ListN.{length, take, drop, get_or}
-use Prim.Native.Nat.{ℕ, ◌+◌, ◌≤◌, ◌-◌}
-use Rattle.framing.specs.Counting.{start_after}
+use mathlib.Core.Path.{◌≡◌}
+use lib.ListN.{length, take, drop}
+use Prim.Native.Nat.{◌≤◌, ◌-◌}
 use Rattle.framing.specs.Chunk.{later_by}
-use Rattle.framing.proofs.Chunk.{plus_zero}
-use Rattle.frame.specs.Flags.{role_of}
-use borrow.Author.Rules.{rules}
-use Rattle.candidate.specs.declared.Held.{Held}
 use Rattle.candidate.specs.Holder.{holder}
 use Rattle.candidate.specs.Feed.{feed_held, last_start}
-use Rattle.candidate.proofs.FeedLaws.{start_more, goes_on, answers, ends}
-use Rattle.candidate.proofs.WholeLaws.{whole_inside, whole_answers, unmoved}
 use Rattle.candidate.proofs.chunk.feed_all.Given as goal
 
 abbrev pub invariant-loop-i : goal.invariant-loop-i

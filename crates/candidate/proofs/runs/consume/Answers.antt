@@ -5,8 +5,7 @@ use Prim.Native.Nat.{◌-◌}
 use Rattle.framing.proofs.Chunk.{run_inside}
 use Rattle.frame.specs.Flags.{is_flag}
 use Rattle.candidate.specs.Holder.{holder}
-use Rattle.candidate.proofs.RunLaws.{stays, run_reaches, unheld_run}
-use borrow.Author.Rules.{rules}
+use Rattle.candidate.proofs.RunLaws.{run_reaches, unheld_run}
 use Rattle.candidate.proofs.runs.consume.Goals as goal
 
 pub slice_bounds-hold-end : goal.slice_bounds-hold-end

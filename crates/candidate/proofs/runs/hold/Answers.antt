@@ -1,8 +1,6 @@
-use mathlib.Core.Path.{◌≡◌, sym, ap, ◌∙◌}
+use mathlib.Core.Path.{◌≡◌, ap, ◌∙◌}
 use Prim.Native.Nat.{ℕ}
-use native.Mathlib.Omega.{arith}
 use lib.ListN.{length}
-use lib.Seq.{length-take-le}
 use Rattle.candidate.specs.Outcome.{capacity}
 use Rattle.candidate.specs.Holder.{holder_of}
 use Rattle.framing.proofs.Growth.{kept_all, kept_first, full-run}

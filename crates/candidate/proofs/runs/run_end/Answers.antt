@@ -1,7 +1,6 @@
 use native.Mathlib.Omega.{arith}
 use Rattle.framing.proofs.Chunk.{search_ends, run_inside}
 use Rattle.frame.specs.Flags.{is_flag}
-use borrow.Author.Rules.{rules}
 use Rattle.candidate.proofs.runs.run_end.Goals as goal
 
 pub overflow_add-result : goal.overflow_add-result

@@ -3,9 +3,6 @@ use Prim.Native.Nat.{◌+◌}
 use native.Mathlib.Omega.{arith}
 use Rattle.coscom.specs.Packet.{sum_of}
 use Rattle.coscom.proofs.CodeLaws.{sum-packet}
-use borrow.Author.Rules.{rules}
-use Rattle.coscom.proofs.check.added.Reads as added-reads
-use Rattle.coscom.proofs.check.sum_of.Reads as sum-of-reads
 use Rattle.coscom.proofs.check.checksum_of.Goals as goal
 
 pub returns-clause-value : goal.returns-clause-value

@@ -1,5 +1,4 @@
 use Rattle.coscom.proofs.CodeLaws.{bounded_short, bounded_start, bounded_stop}
-use borrow.Author.Rules.{rules}
 use Rattle.coscom.proofs.check.is_bounded.Goals as goal
 
 pub returns-then-n-lt2 : goal.returns-then-n-lt2

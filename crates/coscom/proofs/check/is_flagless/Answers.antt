@@ -1,8 +1,6 @@
 use mathlib.Core.Path.{sym, ◌∙◌}
 use borrow.Author.Tests.{not-true, not-false}
 use Rattle.coscom.proofs.FlagLaws.{clear_flagless, flagless_each}
-use borrow.Author.Rules.{rules}
-use Rattle.lists.proofs.none_within.Reads as none-within-reads
 use Rattle.coscom.proofs.check.is_flagless.Goals as goal
 
 pub returns-then-none_within : goal.returns-then-none_within

@@ -3,10 +3,6 @@ use mathlib.Core.Bool.{true}
 use borrow.Author.Tests.{not-true, not-false}
 use Rattle.coscom.specs.Packet.{is_letter, is_digit}
 use Rattle.coscom.proofs.CodeLaws.{bad_letter, bad_tens, bad_ones, proper_unit}
-use borrow.Author.Rules.{rules}
-use Rattle.coscom.proofs.check.is_digit.Reads as is-digit-reads
-use Rattle.coscom.proofs.check.is_within.Reads as is-within-reads
-use Rattle.coscom.proofs.check.none_forbidden.Reads as none-forbidden-reads
 use Rattle.coscom.proofs.check.is_proper.Goals as goal
 use Rattle.coscom.proofs.check.is_proper.Goals.{Else-not-is_digit, Else-not-is_within}
 

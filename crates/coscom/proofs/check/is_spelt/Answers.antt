@@ -4,9 +4,6 @@ use lib.ListN.{length}
 use mathlib.Core.Path.{sym, ◌∙◌}
 use borrow.Author.Tests.{not-true, not-false}
 use Rattle.coscom.proofs.CodeLaws.{spelt_front, spelt_tens, spelt_ones}
-use borrow.Author.Rules.{rules}
-use Rattle.coscom.proofs.check.is_digit.Reads as is-digit-reads
-use Rattle.coscom.proofs.check.is_proper.Reads as is-proper-reads
 use Rattle.coscom.proofs.check.is_spelt.Goals as goal
 use Rattle.coscom.proofs.check.is_spelt.Goals.{Else-not-is_proper}
 

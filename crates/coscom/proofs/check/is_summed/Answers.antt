@@ -1,6 +1,4 @@
 use Rattle.coscom.proofs.CodeLaws.{summed_tens, summed_ones}
-use borrow.Author.Rules.{rules}
-use Rattle.coscom.proofs.check.checksum_of.Reads as checksum-of-reads
 use Rattle.coscom.proofs.check.is_summed.Goals as goal
 
 pub returns-then-body-n : goal.returns-then-body-n

@@ -1,13 +1,8 @@
-use mathlib.Core.Path.{◌≡◌, refl, ap, ◌∙◌}
-use Prim.Native.Nat.{ℕ, ◌-◌, ◌≤◌}
-use lib.ListN.{length, take}
-use lib.Dec.{eqb}
-use lib.Seq.{take_all}
-use Rattle.lists.specs.Choice.{pick, none_of}
-use Rattle.lists.proofs.Tests.{mark_more, mark_all}
+use mathlib.Core.Path.{refl}
+use Rattle.lists.specs.Choice.{none_of}
+use Rattle.lists.proofs.Tests.{mark_more}
 use Rattle.coscom.specs.Packet.{is_forbidden}
 use borrow.Author.Rules.{rules}
-use Rattle.coscom.proofs.check.forbidden_mark.Reads as forbidden-mark-reads
 use Rattle.coscom.proofs.check.none_forbidden.Goals as goal
 
 pub loop-i-init : goal.loop-i-init
@@ -15,8 +10,7 @@ unfolding none_of
 loop-i-init c = (search rules, refl)
 
 pub loop-i-preserved : goal.loop-i-preserved
-loop-i-preserved c =
-    (
-      search rules,
-      mark_more is_forbidden _ _ _ _ c.loop-i-test.true c.loop-i.invariant.1 c.forbidden_mark-seen.ensures,
-    )
+loop-i-preserved c = (
+  search rules,
+  mark_more is_forbidden _ _ _ _ c.loop-i-test.true c.loop-i.invariant.1 c.forbidden_mark-seen.ensures,
+)

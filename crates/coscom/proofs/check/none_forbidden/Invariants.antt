@@ -1,13 +1,8 @@
-use mathlib.Core.Path.{◌≡◌, refl, ap, ◌∙◌}
-use Prim.Native.Nat.{ℕ, ◌-◌, ◌≤◌}
+use mathlib.Core.Path.{◌≡◌}
+use Prim.Native.Nat.{◌-◌, ◌≤◌}
 use lib.ListN.{length, take}
-use lib.Dec.{eqb}
-use lib.Seq.{take_all}
 use Rattle.lists.specs.Choice.{pick, none_of}
-use Rattle.lists.proofs.Tests.{mark_more, mark_all}
 use Rattle.coscom.specs.Packet.{is_forbidden}
-use borrow.Author.Rules.{rules}
-use Rattle.coscom.proofs.check.forbidden_mark.Reads as forbidden-mark-reads
 use Rattle.coscom.proofs.check.none_forbidden.Given as goal
 
 abbrev pub invariant-loop-i : goal.invariant-loop-i

@@ -1,12 +1,10 @@
-use mathlib.Core.Path.{◌≡◌, ap, ◌∙◌}
-use Prim.Native.Nat.{ℕ, ◌+◌, ◌-◌, ◌*◌, ◌≤◌}
-use native.Mathlib.Nat.{zero-add}
+use mathlib.Core.Path.{ap, ◌∙◌}
+use Prim.Native.Nat.{ℕ, ◌+◌}
 use native.Mathlib.Omega.{arith}
-use lib.ListN.{length, drop}
+use lib.ListN.{drop}
 use Rattle.coscom.specs.Packet.{sum_of}
 use Rattle.coscom.proofs.CodeLaws.{sum_more, sum_end}
 use borrow.Author.Rules.{rules}
-use Rattle.coscom.proofs.check.added.Reads as added-reads
 use Rattle.coscom.proofs.check.sum_of.Goals as goal
 
 pub loop-i-preserved : goal.loop-i-preserved

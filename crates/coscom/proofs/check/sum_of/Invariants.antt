@@ -1,12 +1,7 @@
-use mathlib.Core.Path.{◌≡◌, ap, ◌∙◌}
-use Prim.Native.Nat.{ℕ, ◌+◌, ◌-◌, ◌*◌, ◌≤◌}
-use native.Mathlib.Nat.{zero-add}
-use native.Mathlib.Omega.{arith}
+use mathlib.Core.Path.{◌≡◌}
+use Prim.Native.Nat.{◌+◌, ◌-◌, ◌*◌, ◌≤◌}
 use lib.ListN.{length, drop}
 use Rattle.coscom.specs.Packet.{sum_of}
-use Rattle.coscom.proofs.CodeLaws.{sum_more, sum_end}
-use borrow.Author.Rules.{rules}
-use Rattle.coscom.proofs.check.added.Reads as added-reads
 use Rattle.coscom.proofs.check.sum_of.Given as goal
 
 abbrev pub invariant-loop-i : goal.invariant-loop-i

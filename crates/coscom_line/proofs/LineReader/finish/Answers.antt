@@ -1,6 +1,5 @@
 use Rattle.framing.specs.Reference.{finish}
 use Rattle.coscom_line.proofs.ValueLaws.{call_whole}
-use borrow.Author.Rules.{rules}
 use Rattle.coscom_line.proofs.LineReader.finish.Goals as goal
 
 pub returns : goal.returns

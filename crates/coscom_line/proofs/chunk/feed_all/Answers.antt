@@ -1,12 +1,5 @@
-use mathlib.Core.Path.{◌≡◌, sym, ◌∙◌}
-use native.Mathlib.Omega.{arith}
-use lib.ListN.{length, drop}
-use Prim.Native.Nat.{◌≤◌, ◌-◌}
+use mathlib.Core.Path.{sym, ◌∙◌}
 use borrow.Author.Rules.{rules}
-use Rattle.coscom_line.specs.Reader.{lent_reader}
-use Rattle.framing.specs.Chunk.{later_by}
-use Rattle.framing.proofs.Chunk.{plus_zero}
-use Rattle.coscom_line.specs.Chunk.{feed_of}
 use Rattle.coscom_line.proofs.FeedLaws.{goes_on, answers, ends}
 use Rattle.coscom_line.proofs.chunk.feed_all.Goals as goal
 
@@ -22,13 +15,12 @@ returns-then-is_answer c =
     (sym c.is_answer.ensures ∙ c.if-is_answer.true) _ c.fed-then-is_answer.ensures
 
 pub loop-i-preserved : goal.loop-i-preserved
-loop-i-preserved c =
-    (
-      search rules,
-      goes_on _ _ c.args.input.now c.consume-run.result.at c.if-input-j.false
-          (c.loop-i.invariant.1 ∙ c.consume-run.ensures.same) _ c.step_in-step.result c.step_in-step.ensures
-          (sym c.is_answer.ensures ∙ c.if-is_answer.false),
-    )
+loop-i-preserved c = (
+  search rules,
+  goes_on _ _ c.args.input.now c.consume-run.result.at c.if-input-j.false
+      (c.loop-i.invariant.1 ∙ c.consume-run.ensures.same) _ c.step_in-step.result c.step_in-step.ensures
+      (sym c.is_answer.ensures ∙ c.if-is_answer.false),
+)
 
 pub returns : goal.returns
 returns c =

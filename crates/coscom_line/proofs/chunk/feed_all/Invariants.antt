@@ -1,13 +1,9 @@
-use mathlib.Core.Path.{◌≡◌, sym, ◌∙◌}
-use native.Mathlib.Omega.{arith}
+use mathlib.Core.Path.{◌≡◌}
 use lib.ListN.{length, drop}
 use Prim.Native.Nat.{◌≤◌, ◌-◌}
-use borrow.Author.Rules.{rules}
 use Rattle.coscom_line.specs.Reader.{lent_reader}
 use Rattle.framing.specs.Chunk.{later_by}
-use Rattle.framing.proofs.Chunk.{plus_zero}
 use Rattle.coscom_line.specs.Chunk.{feed_of}
-use Rattle.coscom_line.proofs.FeedLaws.{goes_on, answers, ends}
 use Rattle.coscom_line.proofs.chunk.feed_all.Given as goal
 
 abbrev pub invariant-loop-i : goal.invariant-loop-i

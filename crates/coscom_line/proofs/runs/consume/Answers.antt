@@ -7,8 +7,7 @@ use Rattle.coscom_line.specs.Private.{ends_run, after_run}
 use Rattle.coscom_line.specs.declared.Mode.{Mode}
 use Rattle.framing.proofs.Chunk.{run_inside}
 use Rattle.coscom_line.proofs.ReaderLaws.{is_held}
-use Rattle.coscom_line.proofs.RunLaws.{stays, run_reaches, unheld_run}
-use borrow.Author.Rules.{rules}
+use Rattle.coscom_line.proofs.RunLaws.{run_reaches, unheld_run}
 use Rattle.coscom_line.proofs.runs.consume.Goals as goal
 
 pub slice_bounds-hold-end : goal.slice_bounds-hold-end

@@ -1,7 +1,6 @@
-use mathlib.Core.Path.{◌≡◌, sym}
+use mathlib.Core.Path.{◌≡◌}
 use native.Mathlib.Omega.{arith}
 use lib.ListN.{length}
-use lib.Seq.{length-take-le}
 use Rattle.coscom_line.specs.Outcome.{capacity}
 use Rattle.framing.proofs.Growth.{kept_all, kept_first, full-run}
 use Rattle.coscom_line.proofs.RunLaws.{candidate_grows}

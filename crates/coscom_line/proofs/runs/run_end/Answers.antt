@@ -1,7 +1,6 @@
 use native.Mathlib.Omega.{arith}
 use Rattle.framing.proofs.Chunk.{search_ends, run_inside}
 use Rattle.coscom_line.specs.Private.{ends_run}
-use borrow.Author.Rules.{rules}
 use Rattle.coscom_line.proofs.runs.run_end.Goals as goal
 
 pub overflow_add-result : goal.overflow_add-result

@@ -1,11 +1,6 @@
-use mathlib.Core.Path.{◌≡◌, refl, sym, ap, ◌∙◌}
-use Prim.Native.Nat.{ℕ, ◌-◌, ◌≤◌}
-use lib.ListN.{length, take, drop}
-use lib.Dec.{eqb}
-use lib.Seq.{take_all}
-use Rattle.lists.specs.Choice.{pick, within, none_of}
-use Rattle.lists.proofs.Tests.{see_more, mark_all}
-use Rattle.frame.specs.Checksum.{sum_from}
+use mathlib.Core.Path.{refl, sym, ◌∙◌}
+use Rattle.lists.specs.Choice.{within, none_of}
+use Rattle.lists.proofs.Tests.{see_more}
 use Rattle.frame.proofs.ChecksumLaws.{sum_from_at, sum_from_end}
 use borrow.Author.Rules.{rules}
 use Rattle.frame.proofs.bytes.look.Goals as goal

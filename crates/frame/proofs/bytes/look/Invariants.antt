@@ -1,13 +1,8 @@
-use mathlib.Core.Path.{◌≡◌, refl, sym, ap, ◌∙◌}
-use Prim.Native.Nat.{ℕ, ◌-◌, ◌≤◌}
+use mathlib.Core.Path.{◌≡◌}
+use Prim.Native.Nat.{◌-◌, ◌≤◌}
 use lib.ListN.{length, take, drop}
-use lib.Dec.{eqb}
-use lib.Seq.{take_all}
 use Rattle.lists.specs.Choice.{pick, within, none_of}
-use Rattle.lists.proofs.Tests.{see_more, mark_all}
 use Rattle.frame.specs.Checksum.{sum_from}
-use Rattle.frame.proofs.ChecksumLaws.{sum_from_at, sum_from_end}
-use borrow.Author.Rules.{rules}
 use Rattle.frame.proofs.bytes.look.Given as goal
 
 abbrev pub invariant-loop-i : goal.invariant-loop-i

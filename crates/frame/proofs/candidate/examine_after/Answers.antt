@@ -47,5 +47,3 @@ returns c =
     (Sound c.args.header c.args.next (c.without_header-rest.result.len - 1))
     (rest_sound c.args.header _ c.args.next c.requires.body_len_bound c.requires.addresses_in.2 _ _ (after (goal.at.returns c).After-without_header-rest)
     c.if-rest-lt1.false c.if-rest-ne0.false c.requires.addresses_in.0)
-
-

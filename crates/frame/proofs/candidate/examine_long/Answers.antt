@@ -1,6 +1,5 @@
 use mathlib.Core.Path.{sym, ◌∙◌}
 use Rattle.frame.proofs.VerdictLaws.{judge_long, whole_judged}
-use borrow.Author.Rules.{rules}
 use Rattle.frame.proofs.candidate.examine_long.Goals as goal
 
 pub returns-then-none_within : goal.returns-then-none_within

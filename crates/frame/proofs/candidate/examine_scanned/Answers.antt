@@ -1,11 +1,9 @@
-use mathlib.Core.Path.{◌≡◌, refl, subst, ◌∙◌}
+use mathlib.Core.Path.{◌≡◌, subst, ◌∙◌}
 use native.Mathlib.Omega.{arith}
-use Rattle.frame.specs.Private.{AddressesIn, ExaminesWhole}
-use Rattle.frame.specs.declared.Kind.{Kind}
+use Rattle.frame.specs.Private.{AddressesIn}
 use Rattle.frame.specs.declared.candidate.Addresses.{Addresses}
-use Rattle.frame.specs.declared.candidate.Addresses.TheVariants.{Broken, Missing, Found}
+use Rattle.frame.specs.declared.candidate.Addresses.TheVariants.{Broken, Missing}
 use Rattle.frame.proofs.VerdictLaws.{judge_escape, judge_short, whole_judged, scan_clean}
-use borrow.Author.Rules.{rules}
 use Rattle.frame.proofs.candidate.examine_scanned.Goals as goal
 use Rattle.frame.proofs.candidate.examine_scanned.Goals.{After-addresses_in-found}
 
@@ -24,5 +22,3 @@ returns-in-Missing c =
     let m = found (goal.at.returns-in-Missing c).After-addresses_in-found Missing c.in-Missing.is in
     whole_judged _ _ (scan_clean _ _ _ c.requires.sum_value).0
     ∙ judge_short _ _ c.requires.body_len_bound m.0 m.1 (omega (arith, m.2))
-
-

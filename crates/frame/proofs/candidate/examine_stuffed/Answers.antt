@@ -1,6 +1,5 @@
 use mathlib.Core.Path.{sym, ◌∙◌}
 use Rattle.frame.proofs.VerdictLaws.{scan_flags, scan_faults}
-use borrow.Author.Rules.{rules}
 use Rattle.frame.proofs.candidate.examine_stuffed.Goals as goal
 
 pub returns-in-Flagged : goal.returns-in-Flagged

@@ -1,6 +1,5 @@
 use borrow.Author.Tests.{le-leb, lt-leb, eq-eqb, ne_eqb}
 use Rattle.frame.specs.Private.{is_bounded}
-use borrow.Author.Rules.{rules}
 use Rattle.frame.proofs.candidate.is_bounded.Goals as goal
 
 pub returns-then-n-lt2 : goal.returns-then-n-lt2

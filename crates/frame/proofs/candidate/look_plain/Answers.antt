@@ -1,12 +1,7 @@
 use mathlib.Core.Path.{refl, sym, ◌∙◌}
-use Prim.Native.Nat.{◌-◌}
-use native.Mathlib.Omega.{arith}
-use lib.ListN.{length}
-use lib.Seq.{length-take-le}
 use Rattle.lists.proofs.Tests.{none_last}
 use Rattle.frame.specs.Stuffing.{is_stuffed}
 use Rattle.frame.proofs.ChecksumLaws.{sum_last}
-use borrow.Author.Rules.{rules}
 use Rattle.frame.proofs.candidate.look_plain.Goals as goal
 
 pub returns-clause-clear_value : goal.returns-clause-clear_value

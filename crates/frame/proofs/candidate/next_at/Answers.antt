@@ -3,7 +3,6 @@ use native.Mathlib.Omega.{arith}
 use lib.ListN.{get_or}
 use borrow.Author.Tests.{le-leb, lt-leb, lt-ltb, le-ltb, eq-eqb, ne_eqb}
 use Rattle.frame.specs.Private.{next_at}
-use borrow.Author.Rules.{rules}
 use Rattle.frame.proofs.candidate.next_at.Goals as goal
 
 pub returns-then-s-at : goal.returns-then-s-at

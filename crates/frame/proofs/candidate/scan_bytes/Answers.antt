@@ -9,7 +9,6 @@ use Rattle.frame.specs.Checksum.{sum_from}
 use Rattle.frame.specs.Private.{scan_from, scan_of}
 use Rattle.frame.specs.declared.candidate.Scan.TheVariants.{Good}
 use Rattle.frame.proofs.EscapeLaws.{tally_flagged, last_flagged, last_escape, tally_unsound, tally_sound, tally_few}
-use borrow.Author.Rules.{rules}
 use Rattle.frame.proofs.candidate.scan_bytes.Goals as goal
 use Rattle.frame.proofs.candidate.scan_bytes.Goals.{After-tally_pairs-found}
 

@@ -1,9 +1,7 @@
-use mathlib.Core.Path.{◌≡◌, refl}
+use mathlib.Core.Path.{◌≡◌}
 use Prim.Native.Nat.{◌+◌, ◌-◌, ◌≤◌}
 use lib.ListN.{length}
-use native.Mathlib.Omega.{arith}
-use Rattle.frame.proofs.EscapeLaws.{TalliedTo, tallied_none, tallied_more, tallied_all}
-use borrow.Author.Rules.{rules}
+use Rattle.frame.proofs.EscapeLaws.{TalliedTo}
 use Rattle.frame.proofs.candidate.tally_pairs.Given as goal
 
 abbrev pub invariant-loop-i : goal.invariant-loop-i

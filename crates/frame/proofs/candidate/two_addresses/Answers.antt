@@ -2,7 +2,6 @@ use native.Mathlib.Omega.{arith}
 use mathlib.Core.List.{[]}
 use Rattle.frame.proofs.ScanLaws.{after_next, told}
 use Rattle.frame.specs.declared.candidate.Next.TheVariants.{End, Bad}
-use borrow.Author.Rules.{rules}
 use Rattle.frame.proofs.candidate.two_addresses.Goals as goal
 
 pub source_after-requires : goal.source_after-requires
@@ -25,5 +24,3 @@ unfolding after_next
 returns-in-Bad c =
     told c.args.body.now 0 _ c.next_at-first.ensures Bad
     c.in-Bad.is
-
-

@@ -1,19 +1,18 @@
 use mathlib.Core.Path.{◌≡◌, refl, sym, ap, ◌∙◌, subst}
-use Prim.Native.Nat.{ℕ, ◌+◌, ◌-◌, ◌≤◌}
+use Prim.Native.Nat.{ℕ, ◌+◌, ◌≤◌}
 use native.Mathlib.Nat.{add-zero}
-use mathlib.Core.Bool.{Bool, false}
+use mathlib.Core.Bool.{false}
 use mathlib.Core.List.{List}
 use native.Mathlib.Omega.{arith}
 use lib.ListN.{length, get_or, set, take, drop, length-drop}
 use lib.Seq.{get_or-take, get_or-drop, length-take-le}
 use Rattle.lists.specs.Choice.{pick}
 use Rattle.frame.specs.Stuffing.{unstuff}
-use Rattle.frame.specs.Private.{unstuffed_bytes, lifts, is_escape}
+use Rattle.frame.specs.Private.{unstuffed_bytes, is_escape}
 use Rattle.frame.proofs.StuffingLaws.{unstuff_shrinks}
 use Rattle.frame.proofs.EscapeLaws.{sound_bytes}
-use Rattle.frame.proofs.UndoLaws.{Undone, undone_none, undone_place, undone_low, undone_more, undone_all}
+use Rattle.frame.proofs.UndoLaws.{Undone, undone_none, undone_low, undone_more, undone_all}
 use Rattle.frame.proofs.UndoLaws.{undone_behind, lift_fits, fill_most}
-use borrow.Author.Rules.{rules}
 use Rattle.frame.proofs.candidate.unstuff_front.Goals as goal
 use Rattle.frame.proofs.candidate.unstuff_front.Goals.{At-loop-i}
 
@@ -75,7 +74,6 @@ overflow_add-s c =
             arith,
             same (goal.at.overflow_add-s c).At-loop-i h,
             get_or-take a.end a.s.now c.loop-i.i 0 (omega arith),
-
           )),
     )
 
@@ -109,5 +107,3 @@ returns c =
     undone_all (take a.end a.s.now) _ _ inv.0 c.loop-i.i _ _ inv.3
     (room a.s.now a.from a.end c.requires.end_in_bounds)
     (omega (arith, length-take-le a.end a.s.now c.requires.end_in_bounds, c.loop-i-test.false))
-
-

@@ -1,19 +1,12 @@
-use mathlib.Core.Path.{◌≡◌, refl, sym, ap, ◌∙◌, subst}
+use mathlib.Core.Path.{◌≡◌}
 use Prim.Native.Nat.{ℕ, ◌+◌, ◌-◌, ◌≤◌}
-use native.Mathlib.Nat.{add-zero}
 use mathlib.Core.Bool.{Bool, false}
 use mathlib.Core.List.{List}
-use native.Mathlib.Omega.{arith}
-use lib.ListN.{length, get_or, set, take, drop, length-drop}
-use lib.Seq.{get_or-take, get_or-drop, length-take-le}
+use lib.ListN.{take, drop}
 use Rattle.lists.specs.Choice.{pick}
 use Rattle.frame.specs.Stuffing.{unstuff}
-use Rattle.frame.specs.Private.{unstuffed_bytes, lifts, is_escape}
-use Rattle.frame.proofs.StuffingLaws.{unstuff_shrinks}
-use Rattle.frame.proofs.EscapeLaws.{sound_bytes}
-use Rattle.frame.proofs.UndoLaws.{Undone, undone_none, undone_place, undone_low, undone_more, undone_all}
-use Rattle.frame.proofs.UndoLaws.{undone_behind, lift_fits, fill_most}
-use borrow.Author.Rules.{rules}
+use Rattle.frame.specs.Private.{unstuffed_bytes, lifts}
+use Rattle.frame.proofs.UndoLaws.{Undone}
 use Rattle.frame.proofs.candidate.unstuff_front.Given as goal
 
 abbrev U : List ℕ → ℕ → ℕ → List ℕ

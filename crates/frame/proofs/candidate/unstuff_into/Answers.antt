@@ -1,13 +1,13 @@
-use mathlib.Core.Path.{◌≡◌, refl, sym, subst}
-use Prim.Native.Nat.{ℕ, ◌+◌, ◌-◌, ◌≤◌}
-use mathlib.Core.Bool.{Bool, false}
+use mathlib.Core.Path.{refl, sym, subst}
+use Prim.Native.Nat.{ℕ, ◌+◌}
+use mathlib.Core.Bool.{false}
 use mathlib.Core.List.{List}
 use native.Mathlib.Omega.{arith}
-use lib.ListN.{length, get_or, set}
+use lib.ListN.{get_or, set}
 use Rattle.frame.specs.Stuffing.{unstuff}
-use Rattle.frame.specs.Private.{unstuffed_bytes, lifts, is_escape}
+use Rattle.frame.specs.Private.{unstuffed_bytes, is_escape}
 use Rattle.frame.proofs.EscapeLaws.{sound_bytes}
-use Rattle.frame.proofs.UndoLaws.{Undone, undone_none, undone_place, undone_low, undone_more, undone_all, lift_fits, fill_most}
+use Rattle.frame.proofs.UndoLaws.{Undone, undone_none, undone_place, undone_low, undone_more, undone_all, lift_fits}
 use borrow.Author.Rules.{rules}
 use Rattle.frame.proofs.candidate.unstuff_into.Goals as goal
 
@@ -15,11 +15,10 @@ abbrev U : List ℕ → List ℕ
 U s = unstuffed_bytes (unstuff false s)
 
 pub loop-i-init : goal.loop-i-init
-loop-i-init c =
-    (
-      omega arith,
-      (false, refl, undone_none _ _ _ 0 (sound_bytes (unstuff false c.args.s.now) c.requires.s_value)),
-    )
+loop-i-init c = (
+  omega arith,
+  (false, refl, undone_none _ _ _ 0 (sound_bytes (unstuff false c.args.s.now) c.requires.s_value)),
+)
 
 pub overflow_add-out : goal.overflow_add-out
 overflow_add-out c =

@@ -1,14 +1,11 @@
-use mathlib.Core.Path.{◌≡◌, refl, sym, subst}
-use Prim.Native.Nat.{ℕ, ◌+◌, ◌-◌, ◌≤◌}
+use mathlib.Core.Path.{◌≡◌}
+use Prim.Native.Nat.{ℕ, ◌-◌, ◌≤◌}
 use mathlib.Core.Bool.{Bool, false}
 use mathlib.Core.List.{List}
-use native.Mathlib.Omega.{arith}
-use lib.ListN.{length, get_or, set}
+use lib.ListN.{length}
 use Rattle.frame.specs.Stuffing.{unstuff}
-use Rattle.frame.specs.Private.{unstuffed_bytes, lifts, is_escape}
-use Rattle.frame.proofs.EscapeLaws.{sound_bytes}
-use Rattle.frame.proofs.UndoLaws.{Undone, undone_none, undone_place, undone_low, undone_more, undone_all, lift_fits, fill_most}
-use borrow.Author.Rules.{rules}
+use Rattle.frame.specs.Private.{unstuffed_bytes, lifts}
+use Rattle.frame.proofs.UndoLaws.{Undone}
 use Rattle.frame.proofs.candidate.unstuff_into.Given as goal
 
 abbrev U : List ℕ → List ℕ

@@ -6,7 +6,6 @@ use Rattle.lists.specs.Choice.{count_before}
 use Rattle.lists.proofs.Before.{before_fits}
 use Rattle.frame.specs.Flags.{is_flag}
 use Rattle.frame.proofs.LeadingLaws.{flag_after, stop_here}
-use borrow.Author.Rules.{rules}
 use Rattle.frame.proofs.front.first_flag.Goals as goal
 use Rattle.frame.proofs.front.first_flag.Goals.{After-count_before}
 
@@ -37,5 +36,3 @@ overflow_add-result c =
 
 pub returns : goal.returns
 returns c = ends c
-
-

@@ -1,18 +1,13 @@
 use mathlib.Core.Path.{sym, ◌∙◌}
-use native.Mathlib.Omega.{arith}
-use lib.ListN.{length}
-use Prim.Native.Nat.{◌-◌}
 use Rattle.lists.proofs.Before.{before_here, before_end}
 use Rattle.frame.specs.Stuffing.{is_stuffed}
-use Rattle.frame.specs.Private.{PlainTo}
 use Rattle.frame.proofs.LeadingLaws.{plain_byte}
-use borrow.Author.Rules.{rules}
 use Rattle.frame.proofs.front.plain_run.Goals as goal
 
 pub returns-then-is_stuffed-clause-at_value : goal.returns-then-is_stuffed-clause-at_value
 returns-then-is_stuffed-clause-at_value c =
     before_here is_stuffed _ c.loop-i.i c.loop-i-test.true (sym c.is_stuffed.ensures ∙ c.if-is_stuffed.true)
-          c.loop-i.invariant.none_before
+    c.loop-i.invariant.none_before
 
 pub loop-i-preserved : goal.loop-i-preserved
 loop-i-preserved c =

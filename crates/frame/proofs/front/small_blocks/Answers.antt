@@ -1,10 +1,6 @@
 use native.Mathlib.Omega.{arith}
-use lib.ListN.{length}
-use Prim.Native.Nat.{◌-◌}
 use borrow.Author.Tests.{not-false}
-use Rattle.frame.specs.Private.{PlainTo}
 use Rattle.frame.proofs.LeadingLaws.{plain_block}
-use borrow.Author.Rules.{rules}
 use Rattle.frame.proofs.front.small_blocks.Goals as goal
 
 pub loop-i-preserved : goal.loop-i-preserved

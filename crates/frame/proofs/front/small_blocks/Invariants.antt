@@ -1,10 +1,6 @@
-use native.Mathlib.Omega.{arith}
 use lib.ListN.{length}
 use Prim.Native.Nat.{◌-◌}
-use borrow.Author.Tests.{not-false}
 use Rattle.frame.specs.Private.{PlainTo}
-use Rattle.frame.proofs.LeadingLaws.{plain_block}
-use borrow.Author.Rules.{rules}
 use Rattle.frame.proofs.front.small_blocks.Given as goal
 
 abbrev pub invariant-loop-i : goal.invariant-loop-i

@@ -1,9 +1,7 @@
-use mathlib.Core.Path.{refl, sym, ap, ◌∙◌, subst}
+use mathlib.Core.Path.{refl, ap, ◌∙◌}
 use Rattle.frame.specs.Verdict.{judge}
-use Rattle.frame.specs.Private.{Examines}
 use Rattle.frame.specs.declared.Kind.{Kind}
 use Rattle.frame.proofs.VerdictLaws.{plain_standard, plain_short, plain_extended}
-use borrow.Author.Rules.{rules}
 use Rattle.frame.proofs.plain.examine_plain.Goals as goal
 
 pub examine_summed-requires : goal.examine_summed-requires

@@ -1,5 +1,4 @@
 use Rattle.frame.proofs.VerdictLaws.{after_short, after_sum, after_sound}
-use borrow.Author.Rules.{rules}
 use Rattle.frame.proofs.plain.examine_summed.Goals as goal
 
 pub returns-then-n-start : goal.returns-then-n-start
@@ -12,5 +11,3 @@ returns-then-sum-ne0 c =
 pub returns : goal.returns
 returns c =
     after_sound _ _ _ _ c.requires c.if-n-start.false c.if-sum-ne0.false
-
-

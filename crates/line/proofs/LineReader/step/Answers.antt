@@ -1,6 +1,5 @@
 use Rattle.framing.specs.Reference.{byte}
 use Rattle.line.proofs.ValueLaws.{call_whole}
-use borrow.Author.Rules.{rules}
 use Rattle.line.proofs.LineReader.step.Goals as goal
 
 pub returns : goal.returns

@@ -1,6 +1,6 @@
 use native.Mathlib.Omega.{arith}
 use Rattle.text.proofs.DigitLaws.{length_fours, wrote_fours}
-use Prim.Native.Nat.{◌/◌, ◌<◌, ◌≤◌}
+use Prim.Native.Nat.{◌≤◌}
 use Rattle.text.proofs.digits.+put_decimal.Goals as goal
 
 pub put_decimal-end-requires : goal.put_decimal-end-requires

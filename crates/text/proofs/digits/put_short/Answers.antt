@@ -1,6 +1,5 @@
 use native.Mathlib.Omega.{arith}
 use Rattle.text.proofs.DigitLaws.{length_hundreds, wrote_hundreds}
-use borrow.Author.Rules.{rules}
 use Rattle.text.proofs.digits.put_short.Goals as goal
 
 pub put_small-end-requires-clause-v_in_bounds : goal.put_small-end-requires-clause-v_in_bounds

@@ -2,7 +2,6 @@ use mathlib.Core.Path.{sym}
 use native.Mathlib.Omega.{arith}
 use Rattle.text.proofs.Writing.{wrote_as}
 use Rattle.text.proofs.DigitLaws.{decimal-pair, length_small, length-pair, wrote_small}
-use borrow.Author.Rules.{rules}
 use Rattle.text.proofs.digits.put_small.Goals as goal
 
 pub bounds-out-at : goal.bounds-out-at
@@ -19,5 +18,3 @@ put_pair-requires-clause-at_in_bounds c =
 pub returns : goal.returns
 returns c =
     wrote_as (sym (decimal-pair c.args.v c.if-v-lt10.false c.requires.v_bound)) c.put_pair.ensures
-
-

@@ -1,11 +1,7 @@
-use mathlib.Core.Path.{◌≡◌, refl, sym, ◌∙◌}
-use Prim.Native.Nat.{◌+◌, ◌-◌, ◌≤◌}
-use native.Mathlib.Nat.{zero-add}
+use mathlib.Core.Path.{sym, ◌∙◌}
 use native.Mathlib.Omega.{arith}
-use lib.ListN.{length, drop}
-use Rattle.lists.specs.Choice.{within, count_of}
+use Rattle.lists.specs.Choice.{within}
 use Rattle.lists.proofs.Tests.{count_at, count_end, count_most}
-use Rattle.frame.specs.Checksum.{sum_from}
 use Rattle.frame.proofs.ChecksumLaws.{sum_from_at, sum_from_end}
 use borrow.Author.Rules.{rules}
 use Rattle.writer.proofs.bytes.count_within.Goals as goal

@@ -1,7 +1,5 @@
-use mathlib.Core.Path.{refl}
 use native.Mathlib.Omega.{arith}
 use Rattle.writer.proofs.WireLaws.{contents_long}
-use borrow.Author.Rules.{rules}
 use Rattle.writer.proofs.measure.measure.Goals as goal
 
 pub returns-then-contents-gt-CONTENTS_LIMIT : goal.returns-then-contents-gt-CONTENTS_LIMIT

@@ -3,7 +3,6 @@ use native.Mathlib.Omega.{arith}
 use Rattle.numbers.specs.Number.{bytes_of}
 use Rattle.numbers.proofs.Numbers.{length-bytes_of}
 use Rattle.writer.proofs.WireLaws.{contents_long}
-use borrow.Author.Rules.{rules}
 use Rattle.writer.proofs.measure.measure_number.Goals as goal
 
 pub returns-then-width-gt-CONTENTS_LIMIT : goal.returns-then-width-gt-CONTENTS_LIMIT

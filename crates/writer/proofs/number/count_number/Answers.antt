@@ -1,10 +1,7 @@
 use Prim.Native.Nat.{◌+◌, ◌-◌, ◌/◌, ◌%◌}
-use mathlib.Core.Path.{refl}
-use native.Mathlib.Nat.{zero-add}
 use native.Mathlib.Omega.{arith}
 use lib.Bits.{bit_xor}
 use Rattle.writer.proofs.NumberLaws.{Counts, counts_more, counts_few, counts_all}
-use borrow.Author.Rules.{rules}
 use Rattle.writer.proofs.number.count_number.Goals as goal
 use Rattle.writer.proofs.number.count_number.Goals.{After-mark-count}
 

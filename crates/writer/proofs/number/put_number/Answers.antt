@@ -1,7 +1,5 @@
-use mathlib.Core.Path.{refl}
 use native.Mathlib.Omega.{arith}
-use Rattle.writer.proofs.NumberLaws.{Puts, puts_room, puts_more, puts_all}
-use borrow.Author.Rules.{rules}
+use Rattle.writer.proofs.NumberLaws.{puts_room, puts_more, puts_all}
 use Rattle.writer.proofs.number.put_number.Goals as goal
 
 pub put_byte-at-requires : goal.put_byte-at-requires

@@ -1,7 +1,4 @@
-use mathlib.Core.Path.{refl}
-use native.Mathlib.Omega.{arith}
-use Rattle.writer.proofs.NumberLaws.{Puts, puts_room, puts_more, puts_all}
-use borrow.Author.Rules.{rules}
+use Rattle.writer.proofs.NumberLaws.{Puts}
 use Rattle.writer.proofs.number.put_number.Given as goal
 
 abbrev pub invariant-loop-left : goal.invariant-loop-left

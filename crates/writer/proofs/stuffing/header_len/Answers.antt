@@ -1,11 +1,5 @@
-use mathlib.Core.Path.{ap}
 use native.Mathlib.Omega.{arith}
-use lib.ListN.{length, length-append}
-use Rattle.frame.specs.Stuffing.{stuff_byte}
-use Rattle.writer.specs.Private.{header_wire}
-use Rattle.frame.specs.declared.Header.{Header}
 use Rattle.writer.proofs.StuffingLaws.{width_few}
-use borrow.Author.Rules.{rules}
 use Rattle.writer.proofs.stuffing.header_len.Goals as goal
 
 pub overflow_add-result : goal.overflow_add-result

@@ -7,8 +7,6 @@ use Rattle.frame.specs.Stuffing.{stuff_byte}
 use Rattle.frame.proofs.StuffingLaws.{stuff_byte_yes, stuff_byte_no}
 use Rattle.lists.specs.Splice.{splice}
 use Rattle.lists.proofs.Splices.{set-splice, set2_splice}
-use Rattle.lists.proofs.Tests.{within_true}
-use borrow.Author.Rules.{rules}
 use Rattle.writer.proofs.stuffing.put_byte.Goals as goal
 use Rattle.writer.proofs.stuffing.put_byte.Goals.{Else-is_stuffed, Then-is_stuffed}
 
@@ -34,7 +32,7 @@ pub returns-then-is_stuffed-clause-out_after : goal.returns-then-is_stuffed-clau
 returns-then-is_stuffed-clause-out_after c =
     let a = c.args in
     set2_splice a.out.now a.at _ (a.b - 0xF0) (omega (arith, ap length (two c)))
-          ∙ ap (splice a.out.now a.at) (sym (two c))
+    ∙ ap (splice a.out.now a.at) (sym (two c))
 
 pub bounds-out-at-2 : goal.bounds-out-at-2
 bounds-out-at-2 c = omega (arith, ap length (one c))
@@ -48,4 +46,4 @@ pub returns-clause-out_after : goal.returns-clause-out_after
 returns-clause-out_after c =
     let a = c.args in
     set-splice a.out.now a.at a.b (omega (arith, ap length (one c)))
-          ∙ ap (splice a.out.now a.at) (sym (one c))
+    ∙ ap (splice a.out.now a.at) (sym (one c))

@@ -1,5 +1,5 @@
 use mathlib.Core.Path.{◌≡◌, refl, sym, ap, ◌∙◌}
-use Prim.Native.Nat.{ℕ, ◌+◌, ◌-◌, ◌≤◌}
+use Prim.Native.Nat.{ℕ, ◌+◌, ◌-◌}
 use native.Mathlib.Nat.{add-zero}
 use mathlib.Core.List.{List, [], ◌∷◌}
 use Rattle.lists.specs.Splice.{splice}
@@ -7,7 +7,7 @@ use Rattle.lists.proofs.Splices.{splice_nil}
 use Rattle.frame.specs.Stuffing.{stuff, stuff_byte}
 use native.Mathlib.Omega.{arith}
 use lib.ListN.{length, get_or}
-use Rattle.writer.proofs.StuffingLaws.{Stuffed, stuffed_none, stuffed_more, stuffed_last, stuffed_room}
+use Rattle.writer.proofs.StuffingLaws.{stuffed_none, stuffed_more, stuffed_last, stuffed_room}
 use Rattle.writer.proofs.StuffingLaws.{stuffed_fits}
 use borrow.Author.Rules.{rules}
 use Rattle.writer.proofs.stuffing.put_each.Goals as goal

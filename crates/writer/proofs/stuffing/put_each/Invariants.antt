@@ -1,15 +1,7 @@
-use mathlib.Core.Path.{◌≡◌, refl, sym, ap, ◌∙◌}
-use Prim.Native.Nat.{ℕ, ◌+◌, ◌-◌, ◌≤◌}
-use native.Mathlib.Nat.{add-zero}
-use mathlib.Core.List.{List, [], ◌∷◌}
-use Rattle.lists.specs.Splice.{splice}
-use Rattle.lists.proofs.Splices.{splice_nil}
-use Rattle.frame.specs.Stuffing.{stuff, stuff_byte}
-use native.Mathlib.Omega.{arith}
-use lib.ListN.{length, get_or}
-use Rattle.writer.proofs.StuffingLaws.{Stuffed, stuffed_none, stuffed_more, stuffed_last, stuffed_room}
-use Rattle.writer.proofs.StuffingLaws.{stuffed_fits}
-use borrow.Author.Rules.{rules}
+use mathlib.Core.Path.{◌≡◌}
+use Prim.Native.Nat.{◌+◌, ◌-◌, ◌≤◌}
+use lib.ListN.{length}
+use Rattle.writer.proofs.StuffingLaws.{Stuffed}
 use Rattle.writer.proofs.stuffing.put_each.Given as goal
 
 abbrev pub invariant-loop-i : goal.invariant-loop-i

@@ -2,7 +2,6 @@ use mathlib.Core.List.{[], ◌∷◌}
 use native.Mathlib.Omega.{arith}
 use Rattle.frame.specs.Stuffing.{stuff_byte}
 use Rattle.lists.proofs.Splices.{splice_next, set-splice}
-use borrow.Author.Rules.{rules}
 use Rattle.writer.proofs.stuffing.put_end.Goals as goal
 
 pub returns : goal.returns

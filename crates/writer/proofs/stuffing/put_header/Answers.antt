@@ -1,15 +1,12 @@
-use mathlib.Core.Path.{◌≡◌, sym, ap, ◌∙◌}
-use Prim.Native.Nat.{ℕ, ◌+◌, ◌≤◌}
+use mathlib.Core.Path.{sym, ap, ◌∙◌}
+use Prim.Native.Nat.{◌≤◌}
 use native.Mathlib.Omega.{arith}
-use lib.ListN.{length, length-set}
-use Rattle.frame.specs.Stuffing.{stuff_byte}
+use lib.ListN.{length}
 use Rattle.writer.specs.Private.{header_wire}
 use Rattle.frame.specs.declared.Header.{Header}
 use Rattle.lists.specs.Splice.{splice}
-use Rattle.lists.proofs.Splices.{set-splice}
 use Rattle.frame.specs.declared.Header.TheVariants.{Addressed}
-use Rattle.writer.proofs.WireLaws.{put_addressed, addressed_length, header_between}
-use borrow.Author.Rules.{rules}
+use Rattle.writer.proofs.WireLaws.{put_addressed}
 use Rattle.writer.proofs.stuffing.put_header.Goals as goal
 use Rattle.writer.proofs.stuffing.put_header.Goals.{In-Addressed}
 
@@ -23,4 +20,4 @@ returns-in-Addressed-clause-out_after c =
     let r = put_addressed a.out.now c.in-Addressed.to c.in-Addressed.from (room (goal.at.returns-in-Addressed-clause-out_after c).In-Addressed) _ _ _ _ c.put_byte-a.ensures.value
     c.put_byte-a.ensures.out_after c.put_byte.ensures.value c.put_byte.ensures.out_after in
     r.1
-          ∙ ap (λ (h : Header). splice a.out.now 0 (header_wire h)) (sym e)
+    ∙ ap (λ (h : Header). splice a.out.now 0 (header_wire h)) (sym e)

@@ -1,13 +1,12 @@
 use mathlib.Core.Path.{sym, ap, ◌∙◌}
-use Prim.Native.Nat.{ℕ, ◌+◌, ◌%◌}
+use Prim.Native.Nat.{ℕ, ◌%◌}
 use mathlib.Core.List.{[], ◌∷◌}
 use native.Mathlib.Omega.{arith}
-use lib.ListN.{length, length-set, length-append}
+use lib.ListN.{length, length-append}
 use Rattle.lists.specs.Splice.{splice}
 use Rattle.frame.specs.Stuffing.{stuff_byte}
 use Rattle.lists.proofs.Splices.{set2_splice}
 use Rattle.writer.proofs.StuffingLaws.{pair_put}
-use borrow.Author.Rules.{rules}
 use Rattle.writer.proofs.stuffing.put_pair.Goals as goal
 
 pub overflow_add-result : goal.overflow_add-result
@@ -17,11 +16,10 @@ overflow_add-result c =
 pub returns-clause-put_pair : goal.returns-clause-put_pair
 returns-clause-put_pair c =
     let a = c.args in
-    let p = pair_put a.b in
-    (
-        p.0,
-        sym (ap length p.1),
-        set2_splice a.out.now a.at _ (a.b % 4) c.requires
-            ∙ ap (λ (n : ℕ). splice a.out.now a.at (n ∷ (a.b % 4) ∷ [])) c.first_of.ensures
-            ∙ ap (splice a.out.now a.at) p.1,
-      )
+    let p = pair_put a.b in (
+      p.0,
+      sym (ap length p.1),
+      set2_splice a.out.now a.at _ (a.b % 4) c.requires
+          ∙ ap (λ (n : ℕ). splice a.out.now a.at (n ∷ (a.b % 4) ∷ [])) c.first_of.ensures
+          ∙ ap (splice a.out.now a.at) p.1,
+    )

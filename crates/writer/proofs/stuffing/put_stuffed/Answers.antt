@@ -6,7 +6,6 @@ use lib.ListN.{length}
 use Rattle.lists.specs.Splice.{splice}
 use Rattle.lists.proofs.Splices.{copied_fits}
 use Rattle.writer.proofs.StuffingLaws.{stuff_same, stuff_count}
-use borrow.Author.Rules.{rules}
 use Rattle.writer.proofs.stuffing.put_stuffed.Goals as goal
 
 pub returns-then-escapes-eq0-clause-value : goal.returns-then-escapes-eq0-clause-value
@@ -24,5 +23,5 @@ returns-then-escapes-eq0-clause-out_after c =
     stuff_same a.s.now
     (omega (arith, stuff_count a.s.now, c.requires.escapes_value, c.if-escapes-eq0.true)) in
     copied_fits a.s.now a.out.now _ a.from (omega (arith, c.requires.s_in_bounds, ap length plain))
-          c.copy.ensures
-          ∙ ap (splice a.out.now a.from) (sym plain)
+    c.copy.ensures
+    ∙ ap (splice a.out.now a.from) (sym plain)

@@ -1,7 +1,6 @@
 use mathlib.Core.Path.{sym, ap, ◌∙◌}
 use lib.ListN.{length}
 use Rattle.frame.proofs.StuffingLaws.{stuff_byte_yes, stuff_byte_no}
-use borrow.Author.Rules.{rules}
 use Rattle.writer.proofs.stuffing.width.Goals as goal
 
 pub returns-then-is_stuffed : goal.returns-then-is_stuffed

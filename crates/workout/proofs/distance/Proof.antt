@@ -1,9 +1,0 @@
-use mathlib.Core.Path.{refl}
-use Rattle.workout.proofs.distance.Statement.{statement}
-use Rattle.workout.proofs.distance.Tie as tie
-
-returns : tie.Need-returns
-returns c = refl
-
-pub distance-spec : {M : Type 1} → statement M
-distance-spec = tie.close (tie.spec returns)
