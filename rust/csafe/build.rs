@@ -1,4 +1,4 @@
-//! Makes the three proved static libraries with `rt staticlib` and links them.
+//! Makes the three proved static libraries with `rt lib` and links them.
 //!
 //! Where `CSAFE_STATICLIB` names a directory with a ready `libexports.a`, `libtrace_exports.a` and
 //! `libcoscom_exports.a`, those are linked and `rt` is not run.
@@ -9,8 +9,8 @@ use std::io::{ErrorKind, Write};
 use std::path::{Path, PathBuf};
 use std::process::{exit, Command, Stdio};
 
-/// The crates whose archives are linked: that of the live line, that of stored traces, and that of treadmill packets.
-const CRATES: [&str; 3] = ["exports", "trace_exports", "coscom_exports"];
+/// The archives that are linked: that of the live line, that of stored traces, and that of treadmill packets.
+const ARCHIVES: [&str; 3] = ["exports", "trace_exports", "coscom_exports"];
 const READY_ARCHIVES: &str = "CSAFE_STATICLIB";
 
 /// The target that the kit compiles for: processor, system and the bits of a pointer.
@@ -25,6 +25,14 @@ fn main() {
         None => proved_archives(&package_directory().join("../..")),
     };
     link(&made);
+}
+
+/// The crate that an archive is made of. `exports` is a library for other crates, so a crate of its own exports it.
+fn crate_of(name: &str) -> &str {
+    match name {
+        "exports" => "exports_c",
+        _ => name,
+    }
 }
 
 fn archive_of(name: &str) -> String {
@@ -70,7 +78,7 @@ fn ready_archives(directory: &Path) -> PathBuf {
             directory.display()
         ));
     }
-    for archive in CRATES.map(|name| directory.join(archive_of(name))) {
+    for archive in ARCHIVES.map(|name| directory.join(archive_of(name))) {
         println!("cargo:rerun-if-changed={}", archive.display());
         if !archive.is_file() {
             stop(&format!(
@@ -82,39 +90,53 @@ fn ready_archives(directory: &Path) -> PathBuf {
     directory.to_path_buf()
 }
 
-/// The archives that `rt` proves and compiles in the repository's root.
+/// The archives that `rt` proves and compiles, each in the folder of its crate.
 fn proved_archives(root: &Path) -> PathBuf {
-    println!("cargo:rerun-if-changed=../../crates");
+    watch(&root.join("crates"));
     println!("cargo:rerun-if-changed=../../crates.txt");
-    for name in CRATES {
-        prove(root, name);
+    let directory = PathBuf::from(variable("OUT_DIR"));
+    for name in ARCHIVES {
+        let folder = root.join("crates").join(crate_of(name));
+        prove(&folder);
+        let archive = folder.join("out").join(archive_of(crate_of(name)));
+        copy(&archive, &directory.join(archive_of(name)));
     }
-    root.join("target").join("staticlib")
+    directory
 }
 
-fn prove(root: &Path, name: &str) {
-    let command = format!("rt staticlib {name}");
+/// Has cargo look at the sources of each crate, and not at what `rt` keeps beside them in `out`.
+fn watch(crates: &Path) {
+    let folders = fs::read_dir(crates).into_iter().flatten().flatten();
+    for part in folders.flat_map(|folder| ["src", "specs", "proofs"].map(|part| folder.path().join(part))) {
+        if part.is_dir() {
+            println!("cargo:rerun-if-changed={}", part.display());
+        }
+    }
+}
+
+fn prove(folder: &Path) {
+    let command = format!("rt lib` in `{}", folder.display());
     let run = Command::new("rt")
-        .args(["staticlib", name])
-        .current_dir(root)
+        .arg("lib")
+        .current_dir(folder)
         .stdout(Stdio::piped())
         .stderr(Stdio::piped())
         .spawn()
         .and_then(|proving| {
-            tell(&format!("`{command}` proves and compiles a static library. This takes about 20 seconds, and 2 to 4 minutes where nothing is proved yet."));
+            tell(&format!("`{command}` proves and compiles a static library. This takes about 20 seconds, and some minutes where nothing is proved yet."));
             proving.wait_with_output()
         });
     let output = match run {
         Ok(output) => output,
         Err(error) if error.kind() == ErrorKind::NotFound => stop(&format!(
             "the program `rt` is not on the path. Install the Rattle toolchain, or set {READY_ARCHIVES} to a directory that has {}.",
-            CRATES.map(archive_of).join(", ")
+            ARCHIVES.map(archive_of).join(", ")
         )),
         Err(error) => stop(&format!("`{command}` could not be started: {error}.")),
     };
     if !output.status.success() {
         stop(&format!(
-            "`{command}` failed ({}). Run it in the repository's root and mend what it reports. It said:\n{}{}",
+            "`{command}` failed ({}). Mend what it reports. It said:\n{}{}",
             output.status,
             String::from_utf8_lossy(&output.stdout),
             String::from_utf8_lossy(&output.stderr)
@@ -132,16 +154,22 @@ fn tell(message: &str) {
     }
 }
 
-/// Links copies of the archives. `rt ci` removes the repository's `target`, and the copies outlast that.
+/// Copies an archive to where it is linked.
+fn copy(archive: &Path, to: &Path) {
+    if let Err(error) = fs::copy(archive, to) {
+        stop(&format!(
+            "{} could not be copied: {error}.",
+            archive.display()
+        ));
+    }
+}
+
+/// Links copies of the archives, which outlast what the caller or `rt` does with its own.
 fn link(made: &Path) {
     let directory = PathBuf::from(variable("OUT_DIR"));
-    for name in CRATES {
-        let archive = made.join(archive_of(name));
-        if let Err(error) = fs::copy(&archive, directory.join(archive_of(name))) {
-            stop(&format!(
-                "{} could not be copied: {error}.",
-                archive.display()
-            ));
+    for name in ARCHIVES {
+        if made != directory {
+            copy(&made.join(archive_of(name)), &directory.join(archive_of(name)));
         }
         println!("cargo:rustc-link-lib=static={name}");
     }

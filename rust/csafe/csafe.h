@@ -1,10 +1,10 @@
 /*
  * CSAFE frames of a live line and of stored traces, programmed workouts, machine leases and treadmill packets.
  *
- * Link target/staticlib/libexports.a, which `rt staticlib exports` makes. Two kinds of functions, at the end, stand in
+ * Link target/staticlib/libexports.a, which `tools/staticlibs exports` makes. Two kinds of functions, at the end, stand in
  * libraries of their own: those for stored traces in target/staticlib/libtrace_exports.a, which
- * `rt staticlib trace_exports` makes, and those for treadmill packets in target/staticlib/libcoscom_exports.a, which
- * `rt staticlib coscom_exports` makes.
+ * `tools/staticlibs trace_exports` makes, and those for treadmill packets in target/staticlib/libcoscom_exports.a, which
+ * `tools/staticlibs coscom_exports` makes.
  *
  * A slice is a pointer and a length. Every function takes any numbers and any slices, returns, and answers one
  * 64-bit number: a result or a refusal. A refusal changes no lent byte, but that a packet reader, and a line reader

@@ -10,7 +10,7 @@
 //! difference ends the program with exit status 1 and the input that shows it. At the end stands a table of what each
 //! function answered, so that one sees that each refusal was met.
 //!
-//! The listing program is made with `rt check listing`, unless `CSAFE_LISTING` names a ready one.
+//! The listing program is made with `rt run` in crates/listing, unless `CSAFE_LISTING` names a ready one.
 
 mod answer;
 mod both;

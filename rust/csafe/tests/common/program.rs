@@ -2,33 +2,35 @@
 
 use std::io::ErrorKind;
 use std::path::{Path, PathBuf};
-use std::process::Command;
+use std::process::{Command, Stdio};
 
 /// Where a ready program stands, for machines without the toolchain.
 const READY_PROGRAM: &str = "CSAFE_LISTING";
 
-/// The program that `rt` proves and compiles in the repository's root. What has not changed is not proved again.
+/// The program that `rt` proves and compiles in its crate's folder. What has not changed is not proved again.
 pub fn listing() -> PathBuf {
     if let Some(ready) = std::env::var_os(READY_PROGRAM) {
         return PathBuf::from(ready);
     }
-    let root = Path::new(env!("CARGO_MANIFEST_DIR")).join("../..");
+    let folder = Path::new(env!("CARGO_MANIFEST_DIR")).join("../../crates/listing");
+    // It also runs the program, here on a trace of no bytes.
     let run = Command::new("rt")
-        .args(["check", "listing"])
-        .current_dir(&root)
+        .arg("run")
+        .current_dir(&folder)
+        .stdin(Stdio::null())
         .output();
     let output = match run {
         Ok(output) => output,
         Err(error) if error.kind() == ErrorKind::NotFound => {
             panic!("`rt` is not on the path; install the Rattle toolchain, or set {READY_PROGRAM} to the program")
         }
-        Err(error) => panic!("`rt check listing` could not be started: {error}"),
+        Err(error) => panic!("`rt run` in crates/listing could not be started: {error}"),
     };
     assert!(
         output.status.success(),
-        "`rt check listing` failed: {}{}",
+        "`rt run` in crates/listing failed: {}{}",
         String::from_utf8_lossy(&output.stdout),
         String::from_utf8_lossy(&output.stderr)
     );
-    root.join("target/bin/listing")
+    folder.join("out/listing")
 }
