@@ -8,7 +8,6 @@ use mathlib.Core.List.{List}
 use lib.ListN.{length, take}
 use contract.Lifetimes.{Lfts}
 use denote.MutBor.{MutBor}
-use denote.Ref.{Bor}
 use Rattle.lists.specs.Choice.{Exactly}
 use Rattle.lists.specs.Machine.{AnsweredBy}
 use Rattle.framing.specs.Demand3.{feed}

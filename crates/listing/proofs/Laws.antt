@@ -1,5 +1,6 @@
 -- The laws of the program's loops and of its end.
-use Rattle.std.proofs.Common.{◌≡◌, ℕ, ◌+◌, ◌-◌, ◌≤◌, Bool, true, false, leb, List, [], ◌++◌, length, take, drop, sym, refl, ap, ◌∙◌, subst, inl, inr, arith, length-append, length-drop, length-take-le, take_at, take-add, le-leb, leb-false, leb-true}
+use Rattle.std.specs.declared.io.Error.{Error}
+use Rattle.std.proofs.Common.{◌≡◌, ℕ, ◌+◌, ◌-◌, ◌≤◌, leb, Option, Result, IsOk, IsErr, List, [], ◌++◌, length, take, drop, sym, refl, ap, ◌∙◌, subst, inl, inr, arith, length-append, length-drop, length-take-le, take_at, take-add, le-leb, leb-false, leb-true}
 use lib.Seq.{take-length}
 use Rattle.lists.proofs.Lists.{rest_part}
 use Rattle.lists.specs.Choice.{pick}
@@ -104,7 +105,7 @@ reading_none s e = record {
 
 module _ (s : Listing) (read wrote : ℕ) (g : Reading s read wrote) (chunk : List ℕ) (n : ℕ) (size : n ≡ length chunk)
     (h : read + n ≤ most_bytes) (p : Pumped) (l : Pumps s chunk p) where
-  pub reading_more : p.whole ≡ true → (wrote' : ℕ) → wrote' ≡ add64 wrote p.wrote
+  pub reading_more : IsOk p.whole → (wrote' : ℕ) → wrote' ≡ add64 wrote p.wrote
       → Reading p.next (read + n) wrote'
   reading_more e wrote' w =
       let all : take p.taken chunk ≡ chunk =
@@ -123,7 +124,7 @@ module _ (s : Listing) (read wrote : ℕ) (g : Reading s read wrote) (chunk : Li
       wrapped : (a : ℕ) → add64 0 (add64 0 a) ≡ add64 0 a
       wrapped a = omega arith
 
-  pub write_failed : (all : Bool) → all ≡ false → (out' : List ℕ) (wrote' : ℕ)
+  pub write_failed : (all : Result Unit Error) → IsErr all → (out' : List ℕ) (wrote' : ℕ)
       → Runs out' (ran (LastWrite all) (read + n) wrote')
   write_failed all e out' wrote' = record {
     bytes = g.bytes ++ chunk;
@@ -133,8 +134,8 @@ module _ (s : Listing) (read wrote : ℕ) (g : Reading s read wrote) (chunk : Li
   }
 
 module _ (s : Listing) (read wrote : ℕ) (g : Reading s read wrote) where
-  pub read_failed : (out' : List ℕ) → Runs out' (ran (LastRead Failed) read wrote)
-  read_failed out' =
+  pub read_failed : (e : Error) (out' : List ℕ) → Runs out' (ran (LastRead (Failed e)) read wrote)
+  read_failed e out' =
       record { bytes = g.bytes; read_is = g.read_is; within = g.within; stops = g.after.wrote_is }
 
   told : (out out' : List ℕ) → out' ≡ last_text s ++ drop (length (last_text s)) out
@@ -154,11 +155,12 @@ module _ (s : Listing) (read wrote : ℕ) (g : Reading s read wrote) where
             ∙ take_at (last_text s) (drop (length (last_text s)) out) (length (last_text s)) refl),
       )
 
-  closed : (stop : Stop) (out out' : List ℕ) (r : Ran) → Closes s stop read wrote out out' r
+  closed : (stop : Stop) (out out' : List ℕ) (held held' : Option (List ℕ)) (r : Ran)
+      → Closes s stop read wrote out out' held held' r
       → ((w : ℕ) → TextCounted g.bytes w out' → Stops g.bytes stop w out') → Runs out' r
-  closed stop out out' r (e, inl q) k =
+  closed stop out out' held held' r (e, inl (why, q, given)) k =
       subst (Runs out') (sym q) (record { bytes = g.bytes; read_is = g.read_is; within = g.within; stops = refl })
-  closed stop out out' r (e, inr q) k =
+  closed stop out out' held held' r (e, inr (q, given)) k =
       subst (Runs out') (sym q)
       (record {
         bytes = g.bytes;
@@ -167,14 +169,15 @@ module _ (s : Listing) (read wrote : ℕ) (g : Reading s read wrote) where
         stops = k (add64 wrote (length (last_text s))) (told out out' e);
       })
 
-  pub input_ended : (n : ℕ) → n ≡ 0 → (out out' : List ℕ) (r : Ran)
-      → Closes s (LastRead (Bytes n)) read wrote out out' r → Runs out' r
-  input_ended n e out out' r c =
-      closed (LastRead (Bytes n)) out out' r c
+  pub input_ended : (n : ℕ) → n ≡ 0 → (out out' : List ℕ) (held held' : Option (List ℕ)) (r : Ran)
+      → Closes s (LastRead (Bytes n)) read wrote out out' held held' r → Runs out' r
+  input_ended n e out out' held held' r c =
+      closed (LastRead (Bytes n)) out out' held held' r c
       (λ w t. subst (λ (k : ℕ). Stops g.bytes (LastRead (Bytes k)) w out') (sym e) t)
 
-  pub at_limit : read ≡ most_bytes → (out out' : List ℕ) (r : Ran) → Closes s AtLimit read wrote out out' r → Runs out' r
-  at_limit h out out' r c = closed AtLimit out out' r c (λ w t. (sym g.read_is ∙ h, t))
+  pub at_limit : read ≡ most_bytes → (out out' : List ℕ) (held held' : Option (List ℕ)) (r : Ran)
+      → Closes s AtLimit read wrote out out' held held' r → Runs out' r
+  at_limit h out out' held held' r c = closed AtLimit out out' held held' r c (λ w t. (sym g.read_is ∙ h, t))
 
 -- ---- the finish
 
@@ -194,3 +197,38 @@ pub finish_left : (w out out' : List ℕ) → length w ≤ length out → out' �
     → out' ≡ w ++ drop (length w) out
 unfolding draft_out
 finish_left w out out' room e = simp (le-leb (length w) (length out) room) at e
+
+-- what a finish that answered a length left
+pub record Finished (w out out' : List ℕ) (n : ℕ) : Type 0 where
+  pub size : n ≡ length w
+  pub fits : n ≤ length out'
+  pub out_is : out' ≡ w ++ drop (length w) out
+  pub first : take n out' ≡ w
+
+pub finished_with : (w out out' : List ℕ) (n room : ℕ) → length w ≤ room → room ≤ length out
+    → ◌≡◌ {A = Answer ℕ} (result n) (draft_answer (result w) (length out)) → out' ≡ draft_out (result w) out
+    → length out' ≡ length out → Finished w out out' n
+finished_with w out out' n room short h e left kept =
+    let fits : length w ≤ length out = omega arith in
+    let size : n ≡ length w = finished w out out' (result n) fits e n refl in
+    let is : out' ≡ w ++ drop (length w) out = finish_left w out out' fits left in
+    record {
+      size = size;
+      fits = omega arith;
+      out_is = is;
+      first = ap (take n) is ∙ take_at w (drop (length w) out) n (sym size);
+    }
+
+-- the lines of a call, which stand first in the output, are as many bytes as it counts
+pub lines_counted : (out' : List ℕ) (room n len : ℕ) → n ≤ room → length out' ≡ room → len ≡ length (take n out')
+    → len ≡ n
+lines_counted out' room n len h e k = k ∙ length-take-le n out' (omega arith)
+
+pub first_lines : (s : Listing) (chunk out out' : List ℕ) (taken : ℕ) (r : Listed)
+    → Lists s (take (length chunk - taken) (drop taken chunk)) out out' r
+    → take r.wrote out' ≡ texts s (take r.taken (drop taken chunk))
+first_lines s chunk out out' taken r l =
+    let rest : Lists s (drop taken chunk) out out' r =
+    subst (λ (x : List ℕ). Lists s x out out' r) (rest_part chunk taken) l in
+    ap (take r.wrote) rest.out_is
+    ∙ take_at (texts s (take r.taken (drop taken chunk))) (drop r.wrote out) r.wrote (sym rest.wrote_is)

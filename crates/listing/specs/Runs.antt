@@ -1,5 +1,5 @@
 -- What the program's functions answer, on the bytes that the system gave them.
-use Rattle.std.specs.Prelude.{◌≡◌, ℕ, zero, suc, ◌≤◌, true, false, List, ◌++◌, length, take, drop}
+use Rattle.std.specs.Prelude.{◌≡◌, ℕ, zero, suc, ◌≤◌, IsOk, IsErr, List, ◌++◌, length, take, drop}
 use Rattle.text.specs.Text.{text}
 use Rattle.trace.specs.Machine.{add64, new_listing, listing_after, texts, last_text}
 use Rattle.line.specs.Rowing.{most_bytes}
@@ -17,7 +17,7 @@ pub record Pumps (s : Listing) (chunk : List ℕ) (r : Pumped) : Type 0 where
   pub fits : r.taken ≤ length chunk
   pub next_is : r.next ≡ listing_after s (take r.taken chunk)
   pub wrote_is : r.wrote ≡ add64 0 (length (texts s (take r.taken chunk)))
-  pub all : r.whole ≡ true → r.taken ≡ length chunk
+  pub all : IsOk r.whole → r.taken ≡ length chunk
 
 -- The finish: the last text stands first in the output, and its whole length is counted.
 pub record Finishes (s : Listing) (out out' : List ℕ) (r : Sent) : Type 0 where
@@ -35,9 +35,9 @@ TextCounted bytes wrote out' =
 abbrev pub Stops : (bytes : List ℕ) → Stop → ℕ → (out' : List ℕ) → Type 0
 Stops bytes (LastRead (Bytes zero)) wrote out' = TextCounted bytes wrote out'
 Stops bytes (LastRead (Bytes (suc n))) wrote out' = ⊥
-Stops bytes (LastRead Failed) wrote out' = wrote ≡ add64 0 (length (texts new_listing bytes))
+Stops bytes (LastRead (Failed e)) wrote out' = wrote ≡ add64 0 (length (texts new_listing bytes))
 Stops bytes AtLimit wrote out' = (length bytes ≡ most_bytes) × TextCounted bytes wrote out'
-Stops bytes (LastWrite all) wrote out' = all ≡ false
+Stops bytes (LastWrite all) wrote out' = IsErr all
 
 -- The bytes that the program listed: as many as it counted, at most so many as a trace has, and the reason for which it
 -- stopped fits them. Whether a read or a write failed is the system's word.

@@ -2,23 +2,38 @@
 // answer and the totals (document 01, "Listing"). Input is read and output is written in pieces of up to 65,536 bytes.
 // What is written is what `trace` proves of any cutting. No contract can say what the system read or wrote, or whether it
 // failed: those of this program say which source its arguments name, how many bytes were listed, which state they lead
-// to, how long their text is, and that the reason for which it stopped fits these.
-ghost use Rattle.std.specs.Prelude.{◌≡◌, ◌-◌, ◌<◌, ◌≤◌, length};
+// to, how long their text is, and that the reason for which it stopped fits these; and of a reader that says which bytes
+// it gives, and a writer that says which it holds, that the bytes listed are the first of these and that their text was
+// written.
+#![tactic(auto)]
+
+ghost use Rattle.std.specs.Prelude.{◌≡◌, ◌-◌, ◌<◌, ◌≤◌, length, take};
 ghost use Rattle.text.specs.Writing.{line_room};
-ghost use Rattle.trace.specs.Machine.{last_room};
+ghost use Rattle.trace.specs.Machine.{last_room, last_text, texts};
 ghost use Rattle.listing.specs.Arguments.{source_of_word, source_of};
 ghost use Rattle.listing.specs.Runs.{Pumps, Finishes, Runs};
-ghost use Rattle.listing.specs.Private.{Fetches, Closes};
+ghost use Rattle.listing.specs.Private.{Fetches, Takes, Closes};
+ghost use Rattle.listing.specs.Streams.{Gives, Carries};
 
 use answer::Written;
+use std::env::{Env, FillError};
+use std::fs::File;
+use std::io;
+use std::io::{Cursor, ErrorKind, IsTerminal, Read, Write};
 use trace::Listing;
 
 // The most bytes that are read: as many as a line reader takes.
 const LIMIT: u64 = line::LIMIT as u64;
 
+// The room for a name. A longer one is no path.
+const NAME_ROOM: usize = 4096;
+
+// How much is read, and how much is written, at once.
+const ROOM: usize = 65536;
+
 // What the arguments ask for: to list standard input or the file that the only argument names, or to say that this name
 // is too long, or how the program is used.
-#[derive(Drop)]
+#[derive(Clone, Copy)]
 enum Source {
     StandardInput,
     File,
@@ -26,59 +41,70 @@ enum Source {
     Usage,
 }
 
-// What a read gave: so many bytes, none at the end of the input, or a failure.
-#[derive(Drop)]
+// What a read gave: so many bytes, none at the end of the input, or why it failed.
+#[derive(Clone, Copy)]
 enum Fetched {
     Bytes(usize),
-    Failed,
+    Failed(io::Error),
 }
 
 // Why the program stops: what the last read gave, the limit, or whether the last write took all. Each reason holds the
 // answer that it goes by.
-#[derive(Drop)]
+#[derive(Clone, Copy)]
 enum Stop {
     LastRead(Fetched),
     AtLimit,
-    LastWrite(bool),
+    LastWrite(io::Result<()>),
 }
 
-// How long a text is, and whether all of it was written.
-#[derive(Drop)]
+// How long a text is, and whether all of it was written, or why not.
+#[derive(Clone, Copy)]
 struct Sent {
     len: u64,
-    whole: bool,
+    whole: io::Result<()>,
 }
 
 // How many bytes of a chunk were taken and the state after them, how long their lines are, and whether all of them were
-// written.
-#[derive(Drop)]
+// written, or why not.
+#[derive(Clone, Copy)]
 struct Pumped {
     taken: usize,
     wrote: u64,
-    whole: bool,
+    whole: io::Result<()>,
     next: Listing,
 }
 
 // Why the program stopped, and how many bytes were read and written. The number of bytes written wraps at 2^64.
-#[derive(Drop)]
+#[derive(Clone, Copy)]
 struct Ran {
     stop: Stop,
     read: u64,
     wrote: u64,
 }
 
-// The error's number after `os::arg` is 0 where all of the argument is in the buffer.
-fn main() {
-    let mut word = io::buffer();
-    let len = os::arg(1, &mut word);
-    let whole = os::errno() == 0;
-    let source = choose(os::arg_count(), whole, &word[..len]);
+fn main(rt: HostRuntime) {
+    let mut word = [0u8; NAME_ROOM];
+    let first = rt.arg(1, &mut word);
+    let whole = first.is_ok();
+    let len = first.unwrap_or(0);
+    let source = choose(count_arguments(&rt), whole, &word[..len]);
     match source {
-        Source::StandardInput => list(libc::STDIN_FILENO, b"standard input"),
-        Source::File => list_file(&word[..len]),
-        Source::TooLong => os::fail(b"the file's name"),
-        Source::Usage => say_usage(),
+        Source::StandardInput => list(&rt, &mut rt.stdin(), b"standard input"),
+        Source::File => list_file(&rt, &word[..len]),
+        Source::TooLong => say(&rt, &[b"the file's name: File name too long\n"]),
+        Source::Usage => say_usage(&rt),
     }
+}
+
+// How many arguments there are, the program's own name among them.
+fn count_arguments(env: &impl Env) -> usize {
+    let mut room = [0u8; 1];
+    for i in 0..usize::MAX {
+        if let Err(FillError::NotPresent) = env.arg(i, &mut room) {
+            return i;
+        }
+    }
+    usize::MAX
 }
 
 // What the command line asks for: it has so many words, the program's own name among them, and `word` is the first
@@ -114,103 +140,136 @@ fn source_of_word(word: &[u8]) -> Source
     Source::Usage
 }
 
-fn say_usage() {
-    io::write_all(
-        libc::STDERR_FILENO,
-        b"usage: listing [FILE]  (without FILE, or with -, standard input is read)\n",
+fn say_usage(rt: &HostRuntime) {
+    say(
+        rt,
+        &[b"usage: listing [FILE]  (without FILE, or with -, standard input is read)\n"],
     );
 }
 
-fn list_file(name: &[u8]) {
-    let fd = os::open_read(name);
-    if fd < 0 {
-        os::fail(name);
-        return;
+fn list_file(rt: &HostRuntime, name: &[u8]) {
+    match open(rt, name) {
+        Ok(mut file) => list(rt, &mut file, name),
+        Err(error) => say_error(rt, name, error),
     }
-    list(fd, name);
-    libc::close(fd);
 }
 
-// Lists the trace that a descriptor gives. Whoever sits at a terminal is told that the program waits for it.
-fn list(fd: i32, name: &[u8]) {
-    if libc::isatty(fd) == 1 {
-        say_waiting(name);
+// The system takes a name of any bytes, and the library only one that is text.
+fn open(rt: &HostRuntime, name: &[u8]) -> io::Result<File> {
+    let Ok(path) = str::from_utf8(name) else {
+        return Err(io::Error::new(ErrorKind::InvalidInput, "the name is not UTF-8"));
+    };
+    File::open(rt, path)
+}
+
+// Lists the trace that a reader gives. Whoever sits at a terminal is told that the program waits for it.
+fn list<R: Read + IsTerminal>(rt: &HostRuntime, reader: &mut R, name: &[u8]) {
+    if reader.is_terminal() {
+        say(rt, &[b"listing: waiting for a trace from ", name, b"\n"]);
     }
-    let mut input = io::large_buffer();
-    let mut out = io::large_buffer();
-    let ran = run(fd, &mut input, &mut out);
-    let stop = ran.stop;
-    say_failure(stop, name);
+    let mut input = [0u8; ROOM];
+    let mut out = [0u8; ROOM];
+    let ran = run(reader, &mut rt.stdout(), &mut input, &mut out);
+    say_failure(rt, ran.stop, name);
 }
 
-fn say_waiting(name: &[u8]) {
-    io::write_all(libc::STDERR_FILENO, b"listing: waiting for a trace from ");
-    io::write_all(libc::STDERR_FILENO, name);
-    io::write_all(libc::STDERR_FILENO, b"\n");
-}
-
-fn say_failure(stop: Stop, name: &[u8]) {
+fn say_failure(rt: &HostRuntime, stop: Stop, name: &[u8]) {
     match stop {
-        Stop::LastRead(fetched) => match fetched {
-            Fetched::Bytes(_) => {}
-            Fetched::Failed => os::fail(name),
-        },
-        Stop::AtLimit => {}
-        Stop::LastWrite(_) => os::fail(b"standard output"),
+        Stop::LastRead(Fetched::Failed(error)) => say_error(rt, name, error),
+        Stop::LastWrite(Err(error)) => say_error(rt, b"standard output", error),
+        _ => {}
+    }
+}
+
+fn say_error(rt: &HostRuntime, what: &[u8], error: io::Error) {
+    let mut words = Cursor::new([0u8; 320]);
+    let _ = write!(words, "{error}");
+    let len = (words.position() as usize).min(320);
+    let room = words.into_inner();
+    say(rt, &[what, b": ", plain(&room[..len]), b"\n"]);
+}
+
+// An error's words without the number that stands after those of the system.
+fn plain(words: &[u8]) -> &[u8] {
+    let number = b" (os error ";
+    let at = words
+        .windows(number.len())
+        .position(|part| part == number.as_slice());
+    match at {
+        Some(at) => &words[..at],
+        None => words,
+    }
+}
+
+// Whoever reads standard error gets what can be written there.
+fn say(rt: &HostRuntime, parts: &[&[u8]]) {
+    let mut to = rt.stderr();
+    for part in parts {
+        let _ = to.write_all(part);
     }
 }
 
 // Reads and lists until the input ends, or the limit is reached, and writes the totals. Where a read or a write fails,
 // no totals are written.
-fn run(fd: i32, input: &mut [u8], out: &mut [u8]) -> Ran
+fn run<R: Read, W: Write>(reader: &mut R, writer: &mut W, input: &mut [u8], out: &mut [u8]) -> Ran
     requires input_nonzero { 0 < length input.old }
     requires last_room_in_bounds { last_room ≤ length out.old }
-    ensures { Runs out.new result }
+    ensures runs { Runs out.new result }
+    ensures carries { Carries (R.remaining reader.old) (R.remaining reader.new) (W.contents writer.old)
+        (W.contents writer.new) result }
 {
     let mut state = trace::new();
     let mut read: u64 = 0;
     let mut wrote: u64 = 0;
     while read < LIMIT {
-        let fetched = fetch(fd, input, LIMIT - read);
+        let fetched = fetch(reader, input, LIMIT - read);
         let Fetched::Bytes(n) = fetched else {
-            let stop = Stop::LastRead(Fetched::Failed);
+            let stop = Stop::LastRead(fetched);
             return Ran { stop, read, wrote };
         };
         if n == 0 {
-            return close(state, Stop::LastRead(Fetched::Bytes(n)), read, wrote, out);
+            return close(
+                state,
+                Stop::LastRead(Fetched::Bytes(n)),
+                read,
+                wrote,
+                writer,
+                out,
+            );
         }
-        let pumped = pump(state, &input[..n], out);
+        let pumped = pump(state, &input[..n], writer, out);
         state = pumped.next;
         read = read + n as u64;
-        wrote = std::num::wrapping_add_u64(wrote, pumped.wrote);
-        if !pumped.whole {
+        wrote = wrote.wrapping_add(pumped.wrote);
+        if pumped.whole.is_err() {
             let stop = Stop::LastWrite(pumped.whole);
             return Ran { stop, read, wrote };
         }
     }
-    close(state, Stop::AtLimit, read, wrote, out)
+    close(state, Stop::AtLimit, read, wrote, writer, out)
 }
 
 // Reads once, at most `left` bytes. It asks for at least one byte, so that none is the end of the input.
-fn fetch(fd: i32, input: &mut [u8], left: u64) -> Fetched
+fn fetch<R: Read>(reader: &mut R, input: &mut [u8], left: u64) -> Fetched
     requires input_nonzero { 0 < length input.old }
     requires left_nonzero { 0 < left }
-    ensures { Fetches (length input.old) left result }
+    ensures fetches { Fetches (length input.old) left result }
+    ensures takes { Takes (R.remaining reader.old) (R.remaining reader.new) result input.new }
 {
-    let limit = left as usize;
-    let most = lists::lesser(input.len(), limit);
-    let got = libc::read(fd, &mut input[..most]);
-    if got < 0 {
-        return Fetched::Failed;
+    let most = lists::lesser(input.len(), left as usize);
+    match reader.read(&mut input[..most]) {
+        Ok(n) => Fetched::Bytes(n),
+        Err(error) => Fetched::Failed(error),
     }
-    Fetched::Bytes(lists::lesser(io::count(got, input), limit))
 }
 
 // Lists all of a chunk and writes what it gives. With room for the line of any answer each call takes a byte, so the loop
 // ends.
-fn pump(s: Listing, chunk: &[u8], out: &mut [u8]) -> Pumped
+fn pump<W: Write>(s: Listing, chunk: &[u8], writer: &mut W, out: &mut [u8]) -> Pumped
     requires { line_room ≤ length out.old }
-    ensures { Pumps s chunk.now result }
+    ensures pumps { Pumps s chunk.now result }
+    ensures gives { Gives (W.contents writer.old) (W.contents writer.new) result.whole
+        (texts s (take result.taken chunk.now)) }
 {
     let mut state = s;
     let mut wrote: u64 = 0;
@@ -220,9 +279,9 @@ fn pump(s: Listing, chunk: &[u8], out: &mut [u8]) -> Pumped
         let len = r.wrote;
         state = r.next;
         taken = taken + r.taken;
-        let sent = send(&out[..len]);
-        wrote = std::num::wrapping_add_u64(wrote, sent.len);
-        if !sent.whole {
+        let sent = send(writer, &out[..len]);
+        wrote = wrote.wrapping_add(sent.len);
+        if sent.whole.is_err() {
             return Pumped {
                 taken,
                 wrote,
@@ -234,18 +293,25 @@ fn pump(s: Listing, chunk: &[u8], out: &mut [u8]) -> Pumped
     Pumped {
         taken,
         wrote,
-        whole: true,
+        whole: Ok(()),
         next: state,
     }
 }
 
 // Ends the program: the last text, and why it is the last.
-fn close(s: Listing, stop: Stop, read: u64, wrote: u64, out: &mut [u8]) -> Ran
+fn close<W: Write>(
+    s: Listing,
+    stop: Stop,
+    read: u64,
+    wrote: u64,
+    writer: &mut W,
+    out: &mut [u8],
+) -> Ran
     requires { last_room ≤ length out.old }
-    ensures { Closes s stop read wrote out.old out.new result }
+    ensures { Closes s stop read wrote out.old out.new (W.contents writer.old) (W.contents writer.new) result }
 {
-    let sent = finish(s, out);
-    if !sent.whole {
+    let sent = finish(s, writer, out);
+    if sent.whole.is_err() {
         let failed = Stop::LastWrite(sent.whole);
         return Ran {
             stop: failed,
@@ -256,28 +322,45 @@ fn close(s: Listing, stop: Stop, read: u64, wrote: u64, out: &mut [u8]) -> Ran
     Ran {
         stop,
         read,
-        wrote: std::num::wrapping_add_u64(wrote, sent.len),
+        wrote: wrote.wrapping_add(sent.len),
     }
 }
 
-fn finish(s: Listing, out: &mut [u8]) -> Sent
+fn finish<W: Write>(s: Listing, writer: &mut W, out: &mut [u8]) -> Sent
     requires { last_room ≤ length out.old }
-    ensures { Finishes s out.old out.new result }
+    ensures finishes { Finishes s out.old out.new result }
+    ensures gives { Gives (W.contents writer.old) (W.contents writer.new) result.whole (last_text s) }
 {
     let written = trace::finish(s, out);
     match written {
-        Written::Length(n) => send(&out[..n]),
-        Written::Refused(_) => Sent {
-            len: 0,
-            whole: false,
-        },
+        Written::Length(n) => send(writer, &out[..n]),
+        Written::Refused(_) => unreachable!(),
     }
 }
 
-fn send(text: &[u8]) -> Sent
-    ensures { result.len ≡ length text.now }
+fn send<W: Write>(writer: &mut W, text: &[u8]) -> Sent
+    ensures len { result.len ≡ length text.now }
+    ensures gives { Gives (W.contents writer.old) (W.contents writer.new) result.whole text.now }
 {
-    let whole = io::write_all(libc::STDOUT_FILENO, text);
+    let whole = write_all(writer, text);
     let len = text.len() as u64;
     Sent { len, whole }
+}
+
+// Writes all of a text, or stops at the first write that takes nothing or fails.
+fn write_all<W: Write>(writer: &mut W, text: &[u8]) -> io::Result<()>
+    ensures { Gives (W.contents writer.old) (W.contents writer.new) result text.now }
+{
+    let mut done: usize = 0;
+    while done < text.len() {
+        match writer.write(&text[done..]) {
+            Ok(0) => {
+                let why = "failed to write whole buffer";
+                return Err(io::Error::new(ErrorKind::WriteZero, why));
+            }
+            Ok(n) => done += n,
+            Err(error) => return Err(error),
+        }
+    }
+    Ok(())
 }

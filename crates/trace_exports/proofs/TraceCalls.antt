@@ -4,6 +4,7 @@
 use Prim.Native.Nat.{ℕ}
 use mathlib.Core.List.{List}
 use contract.Lifetimes.{Lfts}
+use denote.MutBor.{MutBor}
 use denote.Ref.{Bor}
 use Rattle.frame.specs.Frame.{standard}
 use Rattle.frame.specs.declared.Origin.TheVariants.{Trace}
@@ -18,7 +19,7 @@ use Rattle.trace_exports.proofs.csafe_trace_read.Reads as read-reads
 use Rattle.trace_exports.proofs.csafe_trace_feed.Reads as feed-reads
 
 -- A call that writes a standard frame of a trace.
-pub trace_writes : (n : ℕ) (κs : Lfts 2) (contents out out' : Bor (List ℕ))
+pub trace_writes : (n : ℕ) (κs : Lfts 2) (contents : Bor (List ℕ)) (out out' : MutBor (List ℕ))
     → write-standard-reads.Learnt κs (contents, (out, tt)) n (contents, (out', tt))
     → ExportedWrite Trace (standard contents.now) out.now (told_written n) out'.now
 trace_writes n κs contents out out' e = wrote_standard_at n κs contents out out' e
@@ -30,14 +31,14 @@ pub trace_measures : (n : ℕ) (κs : Lfts 1) (contents : Bor (List ℕ))
 trace_measures n κs contents e = measured_standard_at n κs contents e
 
 -- A call that reads a slice of a trace.
-pub trace_reads : (n : ℕ) (κs : Lfts 2) (wire out out' : Bor (List ℕ))
+pub trace_reads : (n : ℕ) (κs : Lfts 2) (wire : Bor (List ℕ)) (out out' : MutBor (List ℕ))
     → read-reads.Learnt κs (wire, (out, tt)) n (wire, (out', tt))
     → ExportedRead Trace wire.now out.now (told_read n) out'.now
 trace_reads n κs wire out out' e = read_at n κs wire out out' e
 
 -- A call that feeds a chunk of a trace to a line reader.
-module _ (κs : Lfts 6) (bytes bytes' : Bor (List ℕ)) (state state' counts counts' : Bor ℕ) (input : Bor (List ℕ))
-    (taken taken' position position' : Bor ℕ) (n : ℕ)
+module _ (κs : Lfts 6) (bytes bytes' : MutBor (List ℕ)) (state state' counts counts' : MutBor ℕ) (input : Bor (List ℕ))
+    (taken taken' position position' : MutBor ℕ) (n : ℕ)
     (k : feed-reads.Learnt κs (bytes, (state, (counts, (input, (taken, (position, tt)))))) n
     (bytes', (state', (counts', (input, (taken', (position', tt))))))) where
   pub trace_feeds : ExportedFed Trace (lent_line bytes.now state.now counts.now) input.now taken'.now

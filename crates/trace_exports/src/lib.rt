@@ -1,6 +1,8 @@
 // The functions for stored traces, called with numbers and byte slices: in a trace standard frames are read as they
 // stand. Their answers are numbers of the same layout as those of `exports`. They are a static library of their own, so
 // that the portal's has no function that takes a standard frame. Document 02, No. 9.
+#![tactic(auto)]
+
 ghost use Rattle.std.specs.Prelude.{◌≡◌, length};
 ghost use Rattle.answer.specs.Answer.{through};
 ghost use Rattle.answer.specs.Draft.{draft_answer, draft_out};

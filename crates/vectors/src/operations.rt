@@ -80,7 +80,7 @@ pub(crate) const COUNT: usize = 37;
 pub(crate) fn named(name: &[u8]) -> usize {
     let names =
         b"frame contents standard extended number command inside step item status distance time lease line line-at chunks \
-        chunks-at names standard-length extended-length live-frame live_standard live-length live-line live-line-at live-chunks \
+        chunks-at names standard-length extended-length live-frame live-standard live-length live-line live-line-at live-chunks \
         live-chunks-at distance-frame time-frame packet-read packet-write packets packet-chunks hold release stop bytes";
     words::index_among(names, COUNT, name)
 }

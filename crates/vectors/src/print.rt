@@ -1,7 +1,8 @@
-// Text on standard output: forms with numbers in them, and bytes.
+// Text on an output: forms with numbers in them, and bytes.
 use crate::words;
 use answer::Refusal;
-use libc::STDOUT_FILENO;
+use std::io;
+use std::io::Write;
 
 // Forms, by their index in the text of `say`.
 pub(crate) const FIRST: usize = 0;
@@ -105,7 +106,13 @@ pub(crate) const LINE_END: usize = 48;
 // Prints a form. In it #, $ and & stand for the first, second and third number, % and ^ for the two digits of the
 // first and of the second. The checker's work grows with the calls and the literals of each function, so all forms
 // stand in one text, and one call prints as much as it can.
-pub(crate) fn say(form: usize, a: usize, b: usize, c: usize) {
+pub(crate) fn say(
+    out: &mut impl Write,
+    form: usize,
+    a: usize,
+    b: usize,
+    c: usize,
+) -> io::Result<()> {
     let forms =
         b"|,|refused:#| kind=std len=& contents=| kind=ext to=% from=^ len=& contents=| kind=refused code=#\
         | contents=| written=| number=#\
@@ -115,52 +122,54 @@ pub(crate) fn say(form: usize, a: usize, b: usize, c: usize) {
         | workout=|distance:#,split:$,watts:&,written:|time:#,split:$,watts:&,written:\
         | hold=| release=| stop=| bytes=|done| step:| feed_in:| by=#| at=#| nonzero=#| taken=#| finish:\
         | length=#| length=refused:#| kind=packet header=| len=# unit=|?|\n";
-    fill(words::nth(forms, b'|', form), a, b, c);
+    fill(out, words::nth(forms, b'|', form), a, b, c)
 }
 
-fn fill(form: &[u8], a: usize, b: usize, c: usize) {
+fn fill(out: &mut impl Write, form: &[u8], a: usize, b: usize, c: usize) -> io::Result<()> {
     let mut i = 0;
     while i < form.len() {
-        put(form[i], a, b, c);
+        put(out, form[i], a, b, c)?;
         i += 1;
     }
+    Ok(())
 }
 
-fn put(mark: u8, a: usize, b: usize, c: usize) {
+fn put(out: &mut impl Write, mark: u8, a: usize, b: usize, c: usize) -> io::Result<()> {
     match mark {
-        b'#' => decimal(a),
-        b'$' => decimal(b),
-        b'&' => decimal(c),
-        b'%' => hex_byte((a % 256) as u8),
-        b'^' => hex_byte((b % 256) as u8),
-        _ => text(&[mark]),
+        b'#' => decimal(out, a),
+        b'$' => decimal(out, b),
+        b'&' => decimal(out, c),
+        b'%' => hex_byte(out, (a % 256) as u8),
+        b'^' => hex_byte(out, (b % 256) as u8),
+        _ => text(out, &[mark]),
     }
 }
 
-fn decimal(n: usize) {
-    io::print_decimal(STDOUT_FILENO, n as u64);
+fn decimal(out: &mut impl Write, n: usize) -> io::Result<()> {
+    write!(out, "{n}")
 }
 
 // Two digits for each byte.
-pub(crate) fn hex(s: &[u8]) {
+pub(crate) fn hex(out: &mut impl Write, s: &[u8]) -> io::Result<()> {
     let mut i = 0;
     while i < s.len() {
-        hex_byte(s[i]);
+        hex_byte(out, s[i])?;
         i += 1;
     }
+    Ok(())
 }
 
-pub(crate) fn hex_byte(b: u8) {
+pub(crate) fn hex_byte(out: &mut impl Write, b: u8) -> io::Result<()> {
     let digits = text::hex_digits(b);
-    text(&digits);
+    text(out, &digits)
 }
 
-pub(crate) fn text(s: &[u8]) {
-    io::write_all(STDOUT_FILENO, s);
+pub(crate) fn text(out: &mut impl Write, s: &[u8]) -> io::Result<()> {
+    out.write_all(s)
 }
 
-pub(crate) fn refusal(form: usize, why: Refusal) {
-    say(form, why.number() as usize, 0, 0);
+pub(crate) fn refusal(out: &mut impl Write, form: usize, why: Refusal) -> io::Result<()> {
+    say(out, form, why.number() as usize, 0, 0)
 }
 
 // The form before the n-th entry of a list.

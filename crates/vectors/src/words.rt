@@ -3,10 +3,14 @@ ghost use Rattle.std.specs.Prelude.{◌≤◌};
 
 use command::entries;
 
+// The room for the bytes of an example, and for what is written of them.
+pub(crate) const ROOM: usize = 4096;
+
 // What stands after so many marks, up to the next mark.
 pub(crate) fn nth(s: &[u8], mark: u8, marks: usize) -> &[u8] {
     let rest = after(s, mark, marks);
-    entries::part(rest, 0, bytes::scan::find(rest, 0, rest.len(), mark))
+    let end = rest.iter().position(|b| *b == mark);
+    entries::part(rest, 0, end.unwrap_or(rest.len()))
 }
 
 // What stands after so many marks, or nothing.
@@ -27,11 +31,11 @@ pub(crate) fn after(s: &[u8], mark: u8, marks: usize) -> &[u8] {
 
 // How many parts the marks part: one more than there are marks.
 pub(crate) fn parts(s: &[u8], mark: u8) -> usize {
-    let mut n = 1;
+    let mut n: usize = 1;
     let mut i = 0;
     while i < s.len() {
         if s[i] == mark {
-            n = std::num::wrapping_add_usize(n, 1);
+            n = n.wrapping_add(1);
         }
         i += 1;
     }
@@ -42,7 +46,7 @@ pub(crate) fn parts(s: &[u8], mark: u8) -> usize {
 pub(crate) fn index_among(all: &[u8], count: usize, word: &[u8]) -> usize {
     let mut k = 0;
     while k < count {
-        if check::same(nth(all, b' ', k), word) {
+        if nth(all, b' ', k) == word {
             return k;
         }
         k += 1;
@@ -69,7 +73,7 @@ fn put_digit(c: u8, out: &mut [u8], digits: usize) -> usize {
     let at = digits / 2;
     if at < out.len() {
         out[at] = out[at] % 16 * 16 + digit(c);
-        return std::num::wrapping_add_usize(digits, 1);
+        return digits.wrapping_add(1);
     }
     digits
 }

@@ -1,10 +1,5 @@
 use native.Mathlib.Omega.{arith}
-use Rattle.coscom_exports.proofs.LineAnswerLaws.{fed_len_fits, fed_short, fed_as}
-use borrow.Author.Rules.{rules}
-use Rattle.coscom_exports.proofs.answers.of_told.Reads as of-told-reads
-use Rattle.coscom_exports.proofs.line_state.pack_state.Reads as pack-state-reads
-use Rattle.coscom_exports.proofs.line_state.state_in.Reads as state-in-reads
-use Rattle.coscom_line.proofs.feed_in.Reads as feed-in-reads
+use Rattle.coscom_exports.proofs.LineAnswerLaws.{fed_len_fits, fed_short}
 use Rattle.coscom_exports.proofs.csafe_packet_feed.Goals as goal
 
 pub pack_state-requires : goal.pack_state-requires

@@ -1,10 +1,5 @@
 use native.Mathlib.Omega.{arith}
 use Rattle.coscom_exports.proofs.LineAnswerLaws.{finish_len, finish_short, finished_as}
-use borrow.Author.Rules.{rules}
-use Rattle.coscom_exports.proofs.answers.of_told.Reads as of-told-reads
-use Rattle.coscom_exports.proofs.line_state.pack_state.Reads as pack-state-reads
-use Rattle.coscom_exports.proofs.line_state.state_in.Reads as state-in-reads
-use Rattle.coscom_line.proofs.finish_in.Reads as finish-in-reads
 use Rattle.coscom_exports.proofs.csafe_packet_finish.Goals as goal
 
 pub pack_state-requires : goal.pack_state-requires

@@ -1,12 +1,8 @@
-use Prim.Native.Nat.{ℕ}
 use mathlib.Core.Path.{sym, subst}
-use Rattle.answer.specs.Answer.{Answer}
 use Rattle.frame.specs.Frame.{extended}
 use Rattle.frame.specs.declared.Origin.TheVariants.{Live}
-use Rattle.exports.specs.Packed.{Tells}
-use Rattle.exports.specs.Answers.{write_fields, WriteShort}
+use Rattle.exports.specs.Answers.{WriteShort}
 use Rattle.exports.proofs.AnswerLaws.{length_short}
-use borrow.Author.Rules.{rules}
 use Rattle.exports.proofs.csafe_extended_length.Goals as goal
 
 pub of_length-requires : goal.of_length-requires

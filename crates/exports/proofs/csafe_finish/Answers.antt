@@ -1,6 +1,5 @@
 use native.Mathlib.Omega.{arith}
 use Rattle.frame.specs.declared.Origin.TheVariants.{Live}
-use borrow.Author.Rules.{rules}
 use Rattle.exports.proofs.LineAnswerLaws.{finish_len, finish_fits, finished_as}
 use Rattle.exports.proofs.csafe_finish.Goals as goal
 

@@ -1,6 +1,5 @@
 use native.Mathlib.Omega.{arith}
-use borrow.Author.Rules.{rules}
-use Rattle.exports.proofs.LineAnswerLaws.{fed_len_fits, fed_within, fed_as}
+use Rattle.exports.proofs.LineAnswerLaws.{fed_len_fits, fed_within}
 use Rattle.exports.proofs.feed.Goals as goal
 
 pub pack_state-requires : goal.pack_state-requires

@@ -1,11 +1,7 @@
 use lib.ListN.{length}
 use Rattle.exports.proofs.AnswerLaws.{read_short}
-use Rattle.exports.specs.Answers.{read_fields, ReadShort}
-use Rattle.exports.specs.Packed.{Tells}
+use Rattle.exports.specs.Answers.{ReadShort}
 use mathlib.Core.Path.{sym, subst}
-use borrow.Author.Rules.{rules}
-use Rattle.answer.specs.Answer.{Answer}
-use Rattle.frame.specs.Answers.{FrameOutline}
 use Rattle.exports.proofs.read.Goals as goal
 
 pub of_read-requires : goal.of_read-requires

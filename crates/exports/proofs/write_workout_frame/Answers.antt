@@ -2,12 +2,8 @@ use Rattle.workout.specs.Limits.{pm3_limits}
 use Rattle.workout.specs.Workout.{programmed}
 use lib.ListN.{length}
 use Rattle.exports.proofs.AnswerLaws.{workout_frame_short}
-use Rattle.exports.specs.Answers.{write_fields, WriteShort}
-use Rattle.exports.specs.Packed.{Tells}
+use Rattle.exports.specs.Answers.{WriteShort}
 use mathlib.Core.Path.{sym, subst}
-use borrow.Author.Rules.{rules}
-use Rattle.answer.specs.Answer.{Answer}
-use Prim.Native.Nat.{ℕ}
 use Rattle.exports.proofs.write_workout_frame.Goals as goal
 
 pub of_written-requires : goal.of_written-requires

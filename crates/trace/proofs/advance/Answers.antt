@@ -1,4 +1,4 @@
-use Rattle.std.proofs.Common.{◌+◌, ◌-◌, length, arith, rules}
+use Rattle.std.proofs.Common.{◌+◌, ◌-◌, length, arith}
 use borrow.Rule.Slice.PartMut.{put_mid}
 use Rattle.answer.specs.Draft.{written_means}
 use Rattle.candidate.specs.Outcome.{told_means}

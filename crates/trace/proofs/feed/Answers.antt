@@ -1,4 +1,4 @@
-use Rattle.std.proofs.Common.{◌≡◌, ◌+◌, ◌-◌, ◌<◌, ◌≤◌, length, take, drop, sym, ap, ◌∙◌, subst, arith, length-take-le, rules}
+use Rattle.std.proofs.Common.{◌≡◌, ◌+◌, ◌-◌, ◌<◌, ◌≤◌, length, take, drop, ap, ◌∙◌, subst, arith}
 use Rattle.line.specs.Rowing.{most_bytes}
 use Rattle.line.specs.Feed.{chunk_of, ChunkStepIs}
 use Rattle.line.specs.Reader.{lent_reader}

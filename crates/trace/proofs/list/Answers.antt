@@ -1,7 +1,7 @@
-use Rattle.std.proofs.Common.{◌≡◌, ℕ, ◌+◌, ◌-◌, ◌≤◌, List, length, drop, refl, ap, ◌∙◌, subst, arith, length-drop, rules}
+use Rattle.std.proofs.Common.{ℕ, ◌+◌, ◌≤◌, List, length, drop, ◌∙◌, subst, arith, length-drop}
 use Rattle.lists.proofs.Lists.{rest_part}
-use Rattle.trace.specs.Private.{Going, Advances, listing}
-use Rattle.trace.proofs.ChunkLaws.{going_start, going_more, going_stop, going_end}
+use Rattle.trace.specs.Private.{Advances, listing}
+use Rattle.trace.proofs.ChunkLaws.{going_more, going_stop}
 use Rattle.trace.proofs.list.Goals as goal
 use Rattle.trace.proofs.list.Goals.{After-advance-t}
 

@@ -1,7 +1,5 @@
-use Rattle.std.proofs.Common.{◌≡◌, ℕ, ◌+◌, ◌-◌, ◌≤◌, List, length, drop, refl, ap, ◌∙◌, subst, arith, length-drop, rules}
-use Rattle.lists.proofs.Lists.{rest_part}
-use Rattle.trace.specs.Private.{Going, Advances, listing}
-use Rattle.trace.proofs.ChunkLaws.{going_start, going_more, going_stop, going_end}
+use Rattle.std.proofs.Common.{◌≡◌, ◌-◌, ◌≤◌, length}
+use Rattle.trace.specs.Private.{Going, listing}
 use Rattle.trace.proofs.list.Given as goal
 
 abbrev pub invariant-loop-i : goal.invariant-loop-i

@@ -1,4 +1,4 @@
-use Rattle.std.proofs.Common.{◌+◌, ◌≤◌, length, arith, rules}
+use Rattle.std.proofs.Common.{◌+◌, ◌≤◌, length, arith}
 use Rattle.answer.specs.Draft.{written_means}
 use Rattle.candidate.specs.Outcome.{told_means}
 use Rattle.line.specs.Answers.{located_outcome}
@@ -24,17 +24,16 @@ line k =
 
 within : (k : After-length_of-at) → (k.length_of-at.result ≤ line_room)
     × (k.length_of-at.result + totals_room ≤ length k.write_answer.new.out)
-within k =
-    (
-      omega (arith, (line k).ends, k.write_answer.ensures.length_bound),
-      omega (
-        arith,
-        (line k).ends,
-        k.write_answer.ensures.length_bound,
-        k.write_answer.auto.out,
-        k.requires,
-      ),
-    )
+within k = (
+  omega (arith, (line k).ends, k.write_answer.ensures.length_bound),
+  omega (
+    arith,
+    (line k).ends,
+    k.write_answer.ensures.length_bound,
+    k.write_answer.auto.out,
+    k.requires,
+  ),
+)
 
 totals-fit : (c : After-length_of) → c.length_of.result ≤ totals_room
 totals-fit c =
@@ -66,12 +65,12 @@ returns-clause-wrote c =
     c.length_of-at.result c.length_of.result (omega (arith, within (goal.at.returns-clause-wrote c).After-length_of-at, c.write_totals.ensures.length_bound))
     (c.write_totals.ensures.result_value, c.write_totals.ensures.out_after) c.length_of.ensures in
     last_wrote s c.finish_in-step.result c.next_number-n.result c.wrapping_add_u64-all_frames.result c.wrapping_add_u64-all_refusals.result c.frame_count.result c.refused_count.result
-          (c.finish_in-step.ensures s.reader.bytes) c.next_number-n.ensures c.wrapping_add_u64-all_frames.ensures.value c.frame_count.ensures c.wrapping_add_u64-all_refusals.ensures.value
-          c.refused_count.ensures (line (goal.at.returns-clause-wrote c).After-length_of-at) q (omega (
-            arith,
-            within (goal.at.returns-clause-wrote c).After-length_of-at,
-            c.requires,
-          ))
+    (c.finish_in-step.ensures s.reader.bytes) c.next_number-n.ensures c.wrapping_add_u64-all_frames.ensures.value c.frame_count.ensures c.wrapping_add_u64-all_refusals.ensures.value
+    c.refused_count.ensures (line (goal.at.returns-clause-wrote c).After-length_of-at) q (omega (
+      arith,
+      within (goal.at.returns-clause-wrote c).After-length_of-at,
+      c.requires,
+    ))
 
 pub returns-clause-upper_bound : goal.returns-clause-upper_bound
 returns-clause-upper_bound c =

@@ -1,7 +1,6 @@
 use Rattle.exports.specs.Packed.{packed}
 use Rattle.exports.proofs.PackedLaws.{tells}
 use native.Mathlib.Omega.{arith}
-use borrow.Author.Rules.{rules}
 use Rattle.exports.proofs.packed.pack.Goals as goal
 
 pub returns : goal.returns
