@@ -107,7 +107,9 @@ fn proved_archives(root: &Path) -> PathBuf {
 /// Has cargo look at the sources of each crate, and not at what `rt` keeps beside them in `out`.
 fn watch(crates: &Path) {
     let folders = fs::read_dir(crates).into_iter().flatten().flatten();
-    for part in folders.flat_map(|folder| ["src", "specs", "proofs"].map(|part| folder.path().join(part))) {
+    for part in
+        folders.flat_map(|folder| ["src", "specs", "proofs"].map(|part| folder.path().join(part)))
+    {
         if part.is_dir() {
             println!("cargo:rerun-if-changed={}", part.display());
         }
@@ -169,7 +171,10 @@ fn link(made: &Path) {
     let directory = PathBuf::from(variable("OUT_DIR"));
     for name in ARCHIVES {
         if made != directory {
-            copy(&made.join(archive_of(name)), &directory.join(archive_of(name)));
+            copy(
+                &made.join(archive_of(name)),
+                &directory.join(archive_of(name)),
+            );
         }
         println!("cargo:rustc-link-lib=static={name}");
     }

@@ -59,12 +59,11 @@ fn a_dash_is_standard_input() {
 }
 
 #[test]
-fn a_name_may_be_any_bytes_and_begin_with_a_dash_after_a_folder() {
+fn a_name_may_be_any_text_and_begin_with_a_dash_after_a_folder() {
     let path = sample("incident.bin");
     let bytes = fs::read(&path).expect("a sample");
     let folder = Path::new(env!("CARGO_TARGET_TMPDIR"));
-    for name in [b"./-h".as_slice(), b"./-", b"a b\n\xFF\x80"] {
-        let name = OsStr::from_bytes(name);
+    for name in ["./-h", "./-", "a b\n\u{FF}\u{80}"] {
         fs::write(folder.join(name), &bytes).expect("the file is written");
         let printed = Command::new(program())
             .arg(name)
@@ -74,6 +73,16 @@ fn a_name_may_be_any_bytes_and_begin_with_a_dash_after_a_folder() {
             .expect("the program runs");
         check_printed(&format!("{name:?}"), &bytes, &printed);
     }
+}
+
+/// Rattle's library opens files by names that are text.
+#[test]
+fn a_name_that_is_not_utf8_is_told() {
+    let name = OsStr::from_bytes(b"a b\n\xFF\x80");
+    let path = Path::new(env!("CARGO_TARGET_TMPDIR")).join(name);
+    fs::write(&path, []).expect("the file is written");
+    let told = format!("{}: the name is not UTF-8\n", path.display());
+    check_told("not UTF-8", &with_arguments(&[path], Stdio::null()), &told);
 }
 
 #[test]
