@@ -3,12 +3,12 @@
 use crate::signature::{Function, Parameter, Type};
 use crate::tokens::{without_comments, Tokens};
 
-/// Every `#[no_mangle] pub extern "C" fn`, in order.
+/// Every `#[unsafe(no_mangle)] pub extern "C" fn`, in order.
 pub fn exported(text: &str) -> Result<Vec<Function>, String> {
     let text = without_comments(text, "//", "\n");
     let mut tokens = Tokens::of(&text);
     let mut functions = Vec::new();
-    while tokens.move_past(&["#", "[", "no_mangle", "]"]) {
+    while tokens.move_past(&["#", "[", "unsafe", "(", "no_mangle", ")", "]"]) {
         functions.push(function(&mut tokens)?);
     }
     for word in ["extern", "no_mangle"] {
