@@ -68,10 +68,10 @@ pub data Called : List ℕ → Question → Answer Extent → Type 0 where
       → Called ρ.now (nth_at_top n) (found_means r)
   nth_by_steps : (κs : Lfts 1) (ρ ρ' : Bor (List ℕ)) {n : ℕ} (r : Found)
       → nth-by-steps-reads.Learnt κs (ρ, (n, tt)) r (ρ', (n, tt)) → Called ρ.now (nth_at_top n) (found_means r)
-  nth_inside_lem : (κs : Lfts 1) (ρ ρ' : Bor (List ℕ)) {w n : ℕ} (r : Found)
+  called_nth_inside : (κs : Lfts 1) (ρ ρ' : Bor (List ℕ)) {w n : ℕ} (r : Found)
       → nth-inside-reads.Learnt κs (ρ, (w, (n, tt))) r (ρ', (w, (n, tt)))
       → Called ρ.now (nth_in_wrapper w n) (found_means r)
-  command_at_lem : (κs : Lfts 1) (ρ ρ' : Bor (List ℕ)) {at : ℕ} (r : Found)
+  called_command_at : (κs : Lfts 1) (ρ ρ' : Bor (List ℕ)) {at : ℕ} (r : Found)
       → command-at-reads.Learnt κs (ρ, (at, tt)) r (ρ', (at, tt)) → Called ρ.now (at_index at) (found_means r)
   step_from : (κs : Lfts 1) (ρ ρ' : Bor (List ℕ)) {at : ℕ} (r : CommandStep)
       → step-from-reads.Learnt κs (ρ, (at, tt)) r (ρ', (at, tt)) → Called ρ.now (at_index at) (found_means r.found)
@@ -79,8 +79,8 @@ pub data Called : List ℕ → Question → Answer Extent → Type 0 where
 called_is : {s : List ℕ} {q : Question} {x : Answer Extent} → Called s q x → x ≡ answer_to s q
 called_is (nth κs ρ ρ' r e) = e
 called_is (nth_by_steps κs ρ ρ' r e) = e
-called_is (nth_inside_lem κs ρ ρ' r e) = e
-called_is (command_at_lem κs ρ ρ' r e) = e
+called_is (called_nth_inside κs ρ ρ' r e) = e
+called_is (called_command_at κs ρ ρ' r e) = e
 called_is (step_from κs ρ ρ' r e) = e.0
 
 -- A call is answered a exactly when the table answers a: 7, 15 or the entry.
@@ -157,13 +157,13 @@ data_by_table {q = q} c = data_exactly q (data_is c)
 
 -- A call that tells where a move from an index leads.
 pub data CalledMove : List ℕ → (at next : ℕ) → Type 0 where
-  index_after_lem : (κs : Lfts 1) (ρ ρ' : Bor (List ℕ)) {at next : ℕ}
+  called_index_after : (κs : Lfts 1) (ρ ρ' : Bor (List ℕ)) {at next : ℕ}
       → index-after-reads.Learnt κs (ρ, (at, tt)) next (ρ', (at, tt)) → CalledMove ρ.now at next
   step_past : (κs : Lfts 1) (ρ ρ' : Bor (List ℕ)) {at : ℕ} (r : CommandStep)
       → step-from-reads.Learnt κs (ρ, (at, tt)) r (ρ', (at, tt)) → CalledMove ρ.now at r.next
 
 moved_is : {s : List ℕ} {at next : ℕ} → CalledMove s at next → next ≡ index_after s at
-moved_is (index_after_lem κs ρ ρ' e) = e
+moved_is (called_index_after κs ρ ρ' e) = e
 moved_is (step_past κs ρ ρ' r e) = e.1
 
 -- It tells the index to which the table's move leads.

@@ -25,7 +25,7 @@ pub record PacketExamples : Type 0 where
   pub four_bytes : verdict (candidate_of (replicate 4 0xFF)) ≡ refused 4
   pub too_many : verdict (candidate_of (replicate 255 0xFF)) ≡ refused 2
   pub lower_case : packet_draft (packet 0x73 0x30 0x32 []) ≡ refused 22
-  pub zero-first : wire_of (packet 0x5A 0x39 0x39 [])
+  pub zero_first : wire_of (packet 0x5A 0x39 0x39 [])
       ≡ 0x01 ∷ 0x5A ∷ 0x39 ∷ 0x39 ∷ 0x30 ∷ 0x34 ∷ 0x17 ∷ []
 
 pub examples : PacketExamples
@@ -39,5 +39,5 @@ examples =
       four_bytes = refl;
       too_many = refl;
       lower_case = refl;
-      zero-first = refl;
+      zero_first = refl;
     }

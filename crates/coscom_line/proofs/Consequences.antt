@@ -31,8 +31,8 @@ use Rattle.coscom_line.proofs.ChunkCalls.{CalledOn, chunks_singly, chunks_demand
 -- ---- never 1
 
 -- no verdict is
-verdict-not_1 : (w : List ℕ) → verdict w ≡ refused 1 → ⊥
-verdict-not_1 w e = table (refused 1) ((verdict_by_table w (refused 1)).0 e) refl
+verdict_not_1 : (w : List ℕ) → verdict w ≡ refused 1 → ⊥
+verdict_not_1 w e = table (refused 1) ((verdict_by_table w (refused 1)).0 e) refl
   where
     apart : (n : ℕ) → (n ≡ 1 → ⊥) → ◌≡◌ {A = Verdict} (refused n) (refused 1) → ⊥
     apart n h e = let q : n ≡ 1 = cc in h q
@@ -57,7 +57,7 @@ silent_not_1 e = let z : ◌≡◌ {A = ℕ} 0 1 = cc in omega arith
 call_not_1 : (r : LineReader) (c : Call) → Not1 (outcome_at r c)
 call_not_1 =
     every_outcome Not1 silent_not_1 (other_not_1 6 (λ q. omega arith)) (other_not_1 2 (λ q. omega arith))
-    (λ w. judged_not_1 (verdict w) (verdict-not_1 w))
+    (λ w. judged_not_1 (verdict w) (verdict_not_1 w))
 
 -- No call on a reader is answered 1.
 pub run_never_1 : (r : LineReader) (calls : List Call) → Every Not1 (run outcome_at next_after r calls)

@@ -23,7 +23,7 @@ use Rattle.frame.specs.declared.Kind.TheVariants.{Extended}
 use Rattle.frame.specs.declared.Read.{Read}
 use Rattle.frame.proofs.OriginLaws.{admit_means}
 use Rattle.frame.proofs.Table.{verdict_by_table}
-use Rattle.frame.proofs.Unnamed.{unnamed_verdict, one-verdict}
+use Rattle.frame.proofs.Unnamed.{unnamed_verdict, one_verdict}
 use Rattle.frame.proofs.ContentsLaws.{left_whole}
 use Rattle.frame.proofs.judge_array.Reads as judge-array-reads
 
@@ -76,7 +76,7 @@ module _ (κs : Lfts 1) (o : Origin) (kind : Kind) (ρ ρ' : MutBor (List ℕ)) 
       → (read_means r ≡ judge_answer (verdict (candidate_of kind (take len ρ.now))))
       × (ρ'.now ≡ left_in (verdict (candidate_of kind (take len ρ.now))) ρ.now)
   judged_alike n =
-      let same = one-verdict o (candidate_of kind (take len ρ.now)) n in
+      let same = one_verdict o (candidate_of kind (take len ρ.now)) n in
       (k.0 ∙ ap judge_answer same, k.1 ∙ ap (λ (v : Verdict). left_in v ρ.now) same)
 
 -- So two calls on the same bytes, at any origins, are answered alike and leave the same.

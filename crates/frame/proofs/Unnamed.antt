@@ -93,9 +93,9 @@ other_start w n c s =
     n (ap (λ (l : List ℕ). get_or l 0 0) s.slice.candidate.shape ∙ ap start_flag s.kind_is)
 
 -- A slice that is no sound standard frame has one verdict at both origins.
-pub one-verdict : (o : Origin) (w : List ℕ) → NoStandard w → admit o (verdict w) ≡ verdict w
-one-verdict Trace w n = refl
-one-verdict Live w n = of_verdict (verdict w) refl
+pub one_verdict : (o : Origin) (w : List ℕ) → NoStandard w → admit o (verdict w) ≡ verdict w
+one_verdict Trace w n = refl
+one_verdict Live w n = of_verdict (verdict w) refl
   where
     of_verdict : (v : Verdict) → verdict w ≡ v → admit Live v ≡ v
     of_verdict (refused m) e = refl
@@ -106,7 +106,7 @@ one-verdict Live w n = of_verdict (verdict w) refl
 pub origins_agree : (o p : Origin) (w out : List ℕ) (a b : Answer FrameOutline) (last left : List ℕ)
     → Reads o w out a last → Reads p w out b left → NoStandard w → (a ≡ b) × (last ≡ left)
 origins_agree o p w out a b last left k l n =
-    let same = one-verdict o w n ∙ sym (one-verdict p w n) in (
+    let same = one_verdict o w n ∙ sym (one_verdict p w n) in (
       k.0 ∙ ap (λ (v : Verdict). read_answer v (length out)) same ∙ sym l.0,
       k.1 ∙ ap (λ (v : Verdict). read_out v out) same ∙ sym l.1,
     )

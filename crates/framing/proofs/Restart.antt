@@ -102,8 +102,8 @@ module _ {A : Type 0} (P : Protocol A) where
       ((λ t e. from_none b bytes k t (P.role b) refl e), λ s t e. from_opened b bytes k s t (P.role b) refl e)
 
   -- Bytes leave a candidate open or they don't, so that demand 3 says which answer the start flag gets.
-  pub left_open_or-not : (bytes : List ℕ) → LeftOpen P bytes ⊎ (LeftOpen P bytes → ⊥)
-  left_open_or-not bytes = by_candidate (fed none bytes) refl
+  pub left_open_or_not : (bytes : List ℕ) → LeftOpen P bytes ⊎ (LeftOpen P bytes → ⊥)
+  left_open_or_not bytes = by_candidate (fed none bytes) refl
     where
       by_candidate : (k : Candidate) → fed none bytes ≡ k → LeftOpen P bytes ⊎ (LeftOpen P bytes → ⊥)
       by_candidate none e = inr (λ o. let q : none ≡ opened (left_opened bytes o).0 = sym e ∙ (left_opened bytes o).1 in

@@ -143,5 +143,5 @@ leased_last_hold a t es n q = of (traced a 0 t es n q)
     of (inr k) = k
 
 -- At most one token is.
-pub one-holder : (a t u : ℕ) (es : List Exchange) → LastHold a t es → LastHold a u es → t ≡ u
-one-holder a t u es k l = sym (last_hold_leaves a t 0 es k) ∙ last_hold_leaves a u 0 es l
+pub one_holder : (a t u : ℕ) (es : List Exchange) → LastHold a t es → LastHold a u es → t ≡ u
+one_holder a t u es k l = sym (last_hold_leaves a t 0 es k) ∙ last_hold_leaves a u 0 es l

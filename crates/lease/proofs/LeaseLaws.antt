@@ -146,10 +146,10 @@ module _ (h a t : ℕ) (out : List ℕ) where
   unfolding answer_of
   stop_outside n = (simp n, simp n)
 
-  pub stop_not-holder : in_range a ≡ true → owns t h ≡ false
+  pub stop_not_holder : in_range a ≡ true → owns t h ≡ false
       → Stops (answer_of h (stop a t (length out))) out (refused 11) out
   unfolding answer_of
-  stop_not-holder y n = (simp (y, n), simp (y, n))
+  stop_not_holder y n = (simp (y, n), simp (y, n))
 
   stop_wrote : in_range a ≡ true → owns t h ≡ true → (x : Answer ℕ) (last : List ℕ)
       → Writes (frame_draft (extended a 0x00 (0x76 ∷ 0x04 ∷ 0x13 ∷ 0x02 ∷ 0x01 ∷ 0x02 ∷ []))) out x last

@@ -35,28 +35,28 @@ use Rattle.line.proofs.FeedLaws.{feed_held_lem}
 
 -- ---- no other answer is 16
 
-own_not-full : (o : Outcome) → OwnOutcome o → o ≡ full → ⊥
-own_not-full o h e = by_number (h 16 e)
+own_not_full : (o : Outcome) → OwnOutcome o → o ≡ full → ⊥
+own_not_full o h e = by_number (h 16 e)
   where
     by_number : OwnNumber 16 → ⊥
     by_number (inl k) = omega (arith, k.1)
     by_number (inr k) = omega (arith, k)
 
-silent_not-full : ◌≡◌ {A = Outcome} nothing full → ⊥
-silent_not-full e = let z : ◌≡◌ {A = ℕ} 0 1 = cc in omega arith
+silent_not_full : ◌≡◌ {A = Outcome} nothing full → ⊥
+silent_not_full e = let z : ◌≡◌ {A = ℕ} 0 1 = cc in omega arith
 
-located_not-full : (o : Outcome) (position : ℕ) → OwnOutcome o → answer_in (locate is_answer position o) ≡ full → ⊥
-located_not-full o position h e = own_not-full o h (sym (answer_located o position) ∙ e)
+located_not_full : (o : Outcome) (position : ℕ) → OwnOutcome o → answer_in (locate is_answer position o) ≡ full → ⊥
+located_not_full o position h e = own_not_full o h (sym (answer_located o position) ∙ e)
 
 -- a call that is no byte at a full count
-taken_not-full : (r : LineReader) (c : Call) (position : ℕ)
+taken_not_full : (r : LineReader) (c : Call) (position : ℕ)
     → answer_in (locate is_answer position (turn_held (holder r.bytes r.state.held) c).answer) ≡ full → ⊥
-taken_not-full r c position = located_not-full _ position (own_outcome (holder r.bytes r.state.held) c)
+taken_not_full r c position = located_not_full _ position (own_outcome (holder r.bytes r.state.held) c)
 
-fed_not-full : (r : LineReader) (s : List ℕ) → answer_in (feed_of r s).answer ≡ full → ⊥
-fed_not-full r s e =
+fed_not_full : (r : LineReader) (s : List ℕ) → answer_in (feed_of r s).answer ≡ full → ⊥
+fed_not_full r s e =
     let h = holder r.bytes r.state.held in
-    located_not-full _ _
+    located_not_full _ _
     (fed_answer nothing is_answer turn_held OwnOutcome (λ n q. let z : ◌≡◌ {A = ℕ} 0 1 = cc in absurd (omega arith))
     (λ h b. own_outcome h (byte b)) h (take (most_bytes - r.state.count) s))
     (sym (ap (λ (f : ChunkTurn). answer_in f.answer) (feed_held_lem r s)) ∙ e)
@@ -66,12 +66,12 @@ pub full_exactly : (r : LineReader) (c : Call) → FullExactly r c (turn_of r c)
 full_exactly r (byte b) =
     by_count r b (λ (t : ReaderTurn). FullExactly r (byte b) t.answer t.next)
     (λ h. record {
-      exactly = ((λ e. absurd (taken_not-full r (byte b) r.state.start e)), (λ k. absurd (omega arith)));
+      exactly = ((λ e. absurd (taken_not_full r (byte b) r.state.start e)), (λ k. absurd (omega arith)));
       kept = λ k. absurd (omega arith);
     })
     (λ h. record { exactly = ((λ e. h), (λ k. refl)); kept = λ k. (refl, refl) })
 full_exactly r finish = record {
-  exactly = ((λ e. absurd (taken_not-full r finish r.state.start e)), (λ k. absurd k));
+  exactly = ((λ e. absurd (taken_not_full r finish r.state.start e)), (λ k. absurd k));
   kept = λ k. absurd k;
 }
 
@@ -203,8 +203,8 @@ counted_taken r s h =
       all = λ e. omega (arith, t, k.all (untold g.answer p (sym a ∙ e)));
       some = λ n m. by_bool (is_answer g.answer) (λ y. omega (arith, t, k.some y))
           (λ q. absurd (n (a ∙ silent g.answer p q)));
-      refuses = ((λ e. absurd (fed_not-full r s e)), (λ x. absurd (omega (arith, x.0))));
-      untaken = λ e. absurd (fed_not-full r s e);
+      refuses = ((λ e. absurd (fed_not_full r s e)), (λ x. absurd (omega (arith, x.0))));
+      untaken = λ e. absurd (fed_not_full r s e);
     }
   where
     untold : (o : Outcome) (p : ℕ) → locate is_answer p o ≡ unlocated nothing → is_answer o ≡ false
@@ -224,10 +224,10 @@ cut_taken r given =
       all = λ q. omega arith;
       some = λ n. absurd (n refl);
       refuses = (
-        (λ q. absurd (silent_not-full q)),
+        (λ q. absurd (silent_not_full q)),
         (λ x. absurd (omega (arith, x.1, (take_bounds chunk_limit given).1))),
       );
-      untaken = λ q. absurd (silent_not-full q);
+      untaken = λ q. absurd (silent_not_full q);
     })
     (λ h k. let z = none_left r (cut_chunk given) (inr k) in
     record {

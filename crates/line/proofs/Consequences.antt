@@ -65,8 +65,8 @@ module _ (P : Outcome → Type 0) (sort : LineReader → Type 0) (refused : P fu
 
 -- ---- never 1
 
-full-not_1 : Not1 full
-full-not_1 e = let q : ◌≡◌ {A = ℕ} 16 1 = cc in omega (arith, q)
+full_not_1 : Not1 full
+full_not_1 e = let q : ◌≡◌ {A = ℕ} 16 1 = cc in omega (arith, q)
 
 own_not_1 : (o : Outcome) → OwnOutcome o → Not1 o
 own_not_1 o h e = by_number (h 1 e)
@@ -78,7 +78,7 @@ own_not_1 o h e = by_number (h 1 e)
 pub run_never_1 : (r : LineReader) (calls : List Call)
     → Every (λ (a : Located Outcome). Not1 (answer_in a)) (run outcome_at next_after r calls)
 run_never_1 r =
-    every_run Not1 (λ r. Unit {0}) full-not_1
+    every_run Not1 (λ r. Unit {0}) full_not_1
     (λ r c s. own_not_1 _ (own_outcome (holder r.bytes r.state.held) c)) (λ r c s. tt) r tt
 
 -- No call of a row, in whichever form and on whichever reader, is answered 1.

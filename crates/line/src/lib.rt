@@ -9,7 +9,7 @@ ghost use Rattle.framing.specs.Located.{located};
 ghost use Rattle.framing.specs.Counting.{start_after};
 ghost use Rattle.frame.specs.Flags.{role_of};
 ghost use Rattle.candidate.specs.Outcome.{told_means};
-ghost use Rattle.line.specs.Rowing.{most_bytes, full as refusesFull};
+ghost use Rattle.line.specs.Rowing.{most_bytes, full as refuses_full};
 ghost use Rattle.line.specs.Answers.{padded};
 ghost use Rattle.line.specs.Reader.{lent_reader, new_reader, step_of, finish_of, LentStepIs, StepIs, ReaderTurn};
 ghost use Rattle.line.specs.Feed.{chunk_of, ChunkStepIs, ChunkAnswerIs};
@@ -232,7 +232,7 @@ fn uncounted(held: Held) -> State
 
 // A byte fed to a reader that is full is refused, and the reader stays as it is.
 fn full(state: State) -> LentStep
-    ensures { (bytes : List ℕ) → LentStepIs bytes result (turn (located 0 refusesFull) (lent_reader bytes state)) }
+    ensures { (bytes : List ℕ) → LentStepIs bytes result (turn (located 0 refuses_full) (lent_reader bytes state)) }
 {
     LentStep {
         told: Told::Refused(Refusal::Full),

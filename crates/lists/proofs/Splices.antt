@@ -126,8 +126,8 @@ part_splice xs d last at h e =
     ∙ ap (λ (y : List ℕ). take at xs ++ (d ++ y)) (drop-drop (length d) at xs)
 
 -- what the kit's copy to the front of a list leaves
-pub copied-first : (s out last : List ℕ) → last ≡ take (length s) s ++ drop (length s) out → last ≡ splice out 0 s
-copied-first s out last e =
+pub copied_first : (s out last : List ℕ) → last ≡ take (length s) s ++ drop (length s) out → last ≡ splice out 0 s
+copied_first s out last e =
     let z : 0 + length s ≡ length s = omega arith in
     e ∙ ap (λ (l : List ℕ). l ++ drop (length s) out) (take-length s) ∙ ap (λ (n : ℕ). s ++ drop n out) (sym z)
 

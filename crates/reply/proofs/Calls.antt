@@ -36,7 +36,7 @@ use Rattle.reply.proofs.StatusLaws.{sound_byte}
 use Rattle.reply.proofs.ReadsBack.{item_data_is, written_item_reads_back, written_status_reads_back}
 use Rattle.reply.proofs.read_reply.Reads as read-reads
 use Rattle.reply.proofs.nth_item.Reads as nth-reads
-use Rattle.reply.proofs.nth_item_data.Reads as data_Reads
+use Rattle.reply.proofs.nth_item_data.Reads as data-reads
 use Rattle.reply.proofs.write_status.Reads as status-reads
 use Rattle.reply.proofs.write_item.Reads as item-reads
 
@@ -49,7 +49,7 @@ abbrev pub CalledNth : Lfts 1 → (contents : Bor (List ℕ)) (n : ℕ) → Foun
 CalledNth κs s n r = nth-reads.Learnt κs (s, (n, tt)) r (s, (n, tt))
 
 abbrev pub CalledData : Lfts 1 → (contents : Bor (List ℕ)) (n : ℕ) → Bor (List ℕ) → Type 0
-CalledData κs s n r = data_Reads.Learnt κs (s, (n, tt)) r (s, (n, tt))
+CalledData κs s n r = data-reads.Learnt κs (s, (n, tt)) r (s, (n, tt))
 
 -- Of a writer, with the output before and after the call.
 abbrev pub CalledStatus : Lfts 1 → ℕ → (out : MutBor (List ℕ)) → Written → (last : MutBor (List ℕ)) → Type 0

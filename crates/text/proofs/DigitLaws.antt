@@ -163,9 +163,9 @@ pub wrote_field : (out : List ℕ) (at : ℕ) (word : List ℕ) (v : ℕ) {out�
 unfolding field
 wrote_field out at word v room p q = next p q (omega (arith, p.ends, length-field word v, room))
 
-pub wrote_hex-field : (out : List ℕ) (at : ℕ) (word : List ℕ) (v : ℕ) {out₁ out₂ : List ℕ} {a e : ℕ}
+pub wrote_hex_field : (out : List ℕ) (at : ℕ) (word : List ℕ) (v : ℕ) {out₁ out₂ : List ℕ} {a e : ℕ}
     → at + (length word + 2) ≤ length out
     → Wrote out at word out₁ a → Wrote out₁ a (hex v) out₂ e
     → Wrote out at (hex_field word v) out₂ e × (e ≡ at + (length word + 2))
 unfolding hex_field
-wrote_hex-field out at word v room p q = (next p q (omega (arith, p.ends)), omega (arith, p.ends, q.ends))
+wrote_hex_field out at word v room p q = (next p q (omega (arith, p.ends)), omega (arith, p.ends, q.ends))

@@ -23,9 +23,9 @@ digits_last : (ds : List ℕ) (d : ℕ) → AllDigits ds → 48 ≤ d → d ≤ 
 digits_last [] d p h g = ((h, g), tt)
 digits_last (e ∷ ds) d p h g = (p.0, digits_last ds d p.1 h g)
 
-first-append : (ds : List ℕ) (d : ℕ) → 0 < length ds → first (ds ++ d ∷ []) ≡ first ds
-first-append [] d h = absurd (omega arith)
-first-append (e ∷ ds) d h = refl
+first_append : (ds : List ℕ) (d : ℕ) → 0 < length ds → first (ds ++ d ∷ []) ≡ first ds
+first_append [] d h = absurd (omega arith)
+first_append (e ∷ ds) d h = refl
 
 below : (k n : ℕ) → n < k → Spelt n (decimal n)
 below zero n h = absurd (omega arith)
@@ -51,7 +51,7 @@ below (suc k) n h = by_bool (ltb n 10)
           ∙ omega (arith, ih.spelling, div-add-mod' n 10);
       no_leading_zero = λ e.
           let same : first (decimal n) ≡ first (decimal (n / 10)) =
-          ap first (decimal_large n g) ∙ first-append (decimal (n / 10)) (48 + n % 10) ih.some in
+          ap first (decimal_large n g) ∙ first_append (decimal (n / 10)) (48 + n % 10) ih.some in
           let z : n / 10 ≡ 0 = sym ih.spelling ∙ ap (spells 0) (ih.no_leading_zero (sym same ∙ e)) in
           absurd (omega (arith, div-add-mod' n 10, last_digit n));
     })

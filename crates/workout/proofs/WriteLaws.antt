@@ -11,7 +11,7 @@ use Rattle.answer.specs.Draft.{Writes}
 use Rattle.numbers.specs.Number.{bytes_of}
 use Rattle.lists.specs.Splice.{splice}
 use Rattle.lists.proofs.Cases.{by_bool}
-use Rattle.lists.proofs.Splices.{copied-first}
+use Rattle.lists.proofs.Splices.{copied_first}
 use Rattle.answer.proofs.Drafts.{writes_done}
 use Rattle.workout.specs.Limits.{Limits}
 use Rattle.workout.specs.Workout.{Programmed, distance, time, goal_means, programmed, watts_of, within_limits}
@@ -67,4 +67,4 @@ write_done limits w {contents} {last} out e h p q =
     subst (λ (n : ℕ). Writes (workout_draft limits w) out (result n) last) (contents_length w)
     (writes_done (workout_draft limits w) (workout_bytes w) out last (draft_inside limits w e)
     (omega (arith, contents_length w))
-    (copied-first contents out last q ∙ ap (splice out 0) p))
+    (copied_first contents out last q ∙ ap (splice out 0) p))

@@ -5,7 +5,7 @@ use borrow.Author.Rules.{rules}
 use Rattle.answer.specs.Draft.{written_means}
 use Rattle.frame.specs.Address.{in_range}
 use Rattle.lease.specs.Lease.{owns}
-use Rattle.lease.proofs.LeaseLaws.{stop_outside, stop_not-holder, stop_writes, stop_no_room}
+use Rattle.lease.proofs.LeaseLaws.{stop_outside, stop_not_holder, stop_writes, stop_no_room}
 use Rattle.lease.proofs.write_stop.Goals as goal
 
 pub returns-then-not-in_range : goal.returns-then-not-in_range
@@ -20,7 +20,7 @@ returns-then-not-is_holder c =
     let a = c.args in
     let range : in_range a.address ≡ true = search rules in
     let stranger : owns a.token a.held ≡ false = search rules in
-    let t = stop_not-holder a.held a.address a.token a.out.now range stranger in
+    let t = stop_not_holder a.held a.address a.token a.out.now range stranger in
     record { result_value = t.0; out_after = t.1 }
 
 pub returns-in-Length : goal.returns-in-Length
