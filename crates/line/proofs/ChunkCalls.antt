@@ -48,6 +48,7 @@ use Rattle.line.proofs.ChunkLaws.{by_first, full_stays, takes_to_answer, takes_f
 use Rattle.line.proofs.Calls.{Called, called_turns, CalledLent, lent_turns}
 use Rattle.line.proofs.LineReader.feed.Reads as feed-reads
 use Rattle.line.proofs.feed_in.Reads as feed-in-reads
+use Rattle.line.proofs.feed_lent.Reads as feed-lent-reads
 use Rattle.line.specs.contracts.feed_lent as feed-lent
 
 -- ---- the enum, the position and the array that is left tell the outcome
@@ -76,8 +77,8 @@ chunk_outcome next told position taken r s k =
 
 -- ---- what the contract of `feed_lent` ensures
 
--- The kit makes nothing that a theorem could cite of a function that is lent a struct. So it is written here, and that
--- it is the contract's own, antt sees by computing.
+-- What its contract ensures is written here once, over the reader alone; that it is the contract's own, antt sees by
+-- computing, and any call tells it.
 abbrev pub FedLent : LineReader → List ℕ → ChunkAnswer → LineReader → Type 0
 FedLent r given a next = ChunkAnswerIs next a (chunk_of r given)
 
@@ -91,6 +92,11 @@ module _ {M : Type 1} {𝓤 : Ura M} (𝓛 : Logic 𝓤) (mem : Memory → SProp
   pub feed_lent_asks : (κs : Lfts 2) (ρ : MutBor LineReader) (given : Bor (List ℕ))
       → (feed-lent.clauses 𝓛 mem run κs (ρ, (given, tt))).requires tt ≡ emp 𝓤
   feed_lent_asks κs ρ given = refl
+
+-- What any call tells, known by nothing but its contract.
+pub feed_lent_told : (κs : Lfts 2) (ρ ρ' : MutBor LineReader) (given given' : Bor (List ℕ)) (a : ChunkAnswer)
+    → feed-lent-reads.Learnt κs (ρ, (given, tt)) a (ρ', (given', tt)) → FedLent ρ.now given.now a ρ'.now
+feed_lent_told κs ρ ρ' given given' a e = e
 
 -- A lent reader that is left as it was does not meet it.
 pub feed_lent_moves : (o : Origin) (a : ChunkAnswer) → FedLent (new_reader o) (0xF1 ∷ []) a (new_reader o) → ⊥

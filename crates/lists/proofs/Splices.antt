@@ -125,7 +125,7 @@ part_splice xs d last at h e =
     ∙ ap (λ (y : List ℕ). take at xs ++ (d ++ drop (length d) y)) (take_all (length xs - at) (drop at xs) (omega arith))
     ∙ ap (λ (y : List ℕ). take at xs ++ (d ++ y)) (drop-drop (length d) at xs)
 
--- what the kit's copy to the front of a list leaves
+-- what a copy to the front of a list leaves
 pub copied_first : (s out last : List ℕ) → last ≡ take (length s) s ++ drop (length s) out → last ≡ splice out 0 s
 copied_first s out last e =
     let z : 0 + length s ≡ length s = omega arith in
