@@ -1,20 +1,19 @@
 -- What every writer of these crates answers and leaves in the output that it is lent, and what a length that was told
 -- beforehand says of it.
-use Rattle.std.specs.Prelude.{ℕ, ◌≤◌, ◌<◌, ◌≡◌, List, ◌++◌, leb, length, drop}
+use Rattle.std.specs.Prelude.{ℕ, ◌≤◌, ◌<◌, ◌≡◌, List, ◌++◌, leb, length, drop, Result, Ok, Err}
 use Rattle.lists.specs.Choice.{pick, Exactly}
 use Rattle.answer.specs.Answer.{Answer, result, refused}
 use Rattle.answer.specs.Refusals.{number_of}
-use Rattle.answer.specs.declared.Written.{Written}
-use Rattle.answer.specs.declared.Written.TheVariants.{Length, Refused}
+use Rattle.answer.specs.declared.Refusal.{Refusal}
 
 -- The bytes to put first in an output, or a refusal that needs no output to be known.
 abbrev pub Draft : Type 0
 Draft = Answer (List ℕ)
 
 -- How many bytes were written, or a refusal.
-abbrev pub written_means : Written → Answer ℕ
-written_means (Length n) = result n
-written_means (Refused why) = refused (number_of why)
+abbrev pub written_means : Result ℕ Refusal → Answer ℕ
+written_means (Ok n) = result n
+written_means (Err why) = refused (number_of why)
 
 -- The answer with so much room: the draft's refusal, then 1, then the length.
 unfoldable pub draft_answer : Draft → ℕ → Answer ℕ

@@ -1,58 +1,51 @@
-// What every entry point answers: a result, or one refusal of document 01's table ("Refusal numbers"); and what every
-// writer answers.
+// Why an entry point refuses what it is given: document 01's table ("Refusal numbers"). A call that can be refused answers
+// a `Result` with this error; a call that writes, with the number of bytes that it wrote.
 #![tactic(auto)]
 
 ghost use Rattle.std.specs.Prelude.{◌≡◌};
 ghost use Rattle.answer.specs.Refusals.{number_of};
 
-// A variant for each number of the table.
-#[derive(Clone, Copy)]
+// A variant for each number of the table, with that number.
+#[derive(Clone, Copy, Debug, PartialEq, Eq)]
 pub enum Refusal {
     // The output is shorter than the result.
-    NoRoom,
+    NoRoom = 1,
     // A frame over 120 bytes on the wire, a packet over 256, or a reply's contents over 117.
-    TooLong,
+    TooLong = 2,
     // F3 without 00 to 03 after it.
-    BadEscape,
+    BadEscape = 3,
     // Too few unstuffed bytes for the kind of frame, too few for a packet, or an empty reply.
-    TooShort,
+    TooShort = 4,
     // The checksum differs from that of the contents, or of a packet's header and data unit.
-    BadChecksum,
+    BadChecksum = 5,
     // Not one frame or packet from its start flag to its stop flag ("cut").
-    Truncated,
+    Truncated = 6,
     // A count that is missing or runs beyond the end, or item data over 255 bytes.
-    BadCount,
+    BadCount = 7,
     // A status byte that no status has.
-    BadStatus,
+    BadStatus = 8,
     // An address outside 01 to FC.
-    BadAddress,
+    BadAddress = 9,
     // A hold on an address that is held.
-    AlreadyHeld,
+    AlreadyHeld = 10,
     // Token 0, or a token that does not hold the address ("not yours").
-    NotHolder,
+    NotHolder = 11,
     // A number outside a workout's limits.
-    OutOfLimits,
+    OutOfLimits = 12,
     // Contents that are not a programmed workout ("form").
-    NotWorkout,
+    NotWorkout = 13,
     // A hold with token 0 ("pass").
-    ZeroToken,
+    ZeroToken = 14,
     // No n-th command or item ("none").
-    Absent,
+    Absent = 15,
     // A byte that a line reader can't take, because it has counted as many as it counts.
-    Full,
+    Full = 16,
     // A standard frame on the live line, which names no sender.
-    Unnamed,
+    Unnamed = 17,
     // A lent lease table that is not 2,048 bytes long ("desk").
-    BadTable,
+    BadTable = 18,
     // A byte of a packet that is not allowed at its place ("character").
-    BadCharacter,
-}
-
-// The answer to writing: how many bytes were written, or why none was.
-#[derive(Clone, Copy)]
-pub enum Written {
-    Length(usize),
-    Refused(Refusal),
+    BadCharacter = 22,
 }
 
 impl Refusal {
@@ -60,26 +53,6 @@ impl Refusal {
     pub fn number(self) -> u8
         ensures { result ≡ number_of self }
     {
-        match self {
-            Refusal::NoRoom => 1,
-            Refusal::TooLong => 2,
-            Refusal::BadEscape => 3,
-            Refusal::TooShort => 4,
-            Refusal::BadChecksum => 5,
-            Refusal::Truncated => 6,
-            Refusal::BadCount => 7,
-            Refusal::BadStatus => 8,
-            Refusal::BadAddress => 9,
-            Refusal::AlreadyHeld => 10,
-            Refusal::NotHolder => 11,
-            Refusal::OutOfLimits => 12,
-            Refusal::NotWorkout => 13,
-            Refusal::ZeroToken => 14,
-            Refusal::Absent => 15,
-            Refusal::Full => 16,
-            Refusal::Unnamed => 17,
-            Refusal::BadTable => 18,
-            Refusal::BadCharacter => 22,
-        }
+        self as u8
     }
 }

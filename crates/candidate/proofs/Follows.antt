@@ -16,8 +16,8 @@ use Rattle.frame.proofs.ContentsLaws.{left_length}
 use Rattle.frame.proofs.OriginLaws.{admit_refused}
 use Rattle.candidate.specs.Outcome.{judged, capacity}
 use Rattle.candidate.specs.Rowing.{rowing, rowing_bounds}
-use Rattle.candidate.specs.Holder.{Holder, origin_held, mode_seen, seen, turn_held}
-use Rattle.candidate.specs.declared.Mode.TheVariants.{Outside}
+use Rattle.candidate.specs.Holder.{Holder, origin_held, seen, turn_held}
+use Rattle.framing.specs.declared.Mode.TheVariants.{Outside}
 use Rattle.candidate.proofs.HolderLaws.{call_seen}
 
 -- a candidate is known by the kind that its start flag opens and the bytes between its flags
@@ -54,4 +54,4 @@ pub outside_stands : (o : Origin) (r : Holder) → origin_held r ≡ o → lengt
     → StandsFor o r none
 outside_stands o r e h m =
     seen_outside (rowing o) (rowing_bounds o) (rowing_suits o) (λ (r : Holder). origin_held r ≡ o) turn_held seen (call_seen o)
-    r e h (ap mode_seen m)
+    r e h m

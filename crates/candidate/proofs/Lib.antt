@@ -3,6 +3,5 @@ pub mod Follows
 pub mod ValueLaws
 pub mod FeedLaws
 pub mod FeedBounds
-pub mod RunLaws
 pub mod WholeLaws
 pub mod OutcomeLaws

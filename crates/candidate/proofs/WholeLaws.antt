@@ -4,22 +4,21 @@ use mathlib.Core.Path.{◌≡◌, refl, sym, ap, ap₂, ◌∙◌, subst}
 use mathlib.Core.Bool.{true}
 use mathlib.Core.List.{List, [], ◌∷◌, ◌++◌, append_assoc}
 use native.Mathlib.Omega.{arith}
-use lib.Dec.{leb, ltb}
+use lib.Dec.{ltb}
 use lib.ListN.{length, get_or, take, drop, length-drop, length-append}
-use lib.Seq.{drop-drop, drop-append-le, take_at, take-add, take-take, length-take-le}
+use lib.Seq.{drop-drop, drop-append-le, take_at, take-take, length-take-le}
 use Prim.Native.Nat.{ℕ, ◌+◌, ◌-◌, ◌≤◌, ◌<◌}
-use borrow.Author.Tests.{le-leb, lt-leb, leb-true, ltb-true, ltb-false}
+use borrow.Author.Tests.{le-leb, ltb-true, ltb-false}
 use Rattle.lists.specs.Choice.{none_of, count_before}
 use Rattle.lists.specs.Splice.{splice, copied}
 use Rattle.lists.proofs.Cases.{by_bool}
-use Rattle.lists.proofs.Lists.{drop-take, rest_part}
+use Rattle.lists.proofs.Lists.{drop-take}
 use Rattle.lists.proofs.Splices.{splice_next, length-splice, copied_fits}
-use Rattle.framing.specs.Bounded.{inside}
 use Rattle.answer.specs.Answer.{Answer, result, refused}
 use Rattle.answer.specs.Draft.{draft_out}
 use Rattle.framing.specs.Counting.{start_in}
 use Rattle.framing.proofs.Counting.{start_append, start_opens}
-use Rattle.framing.specs.Chunk.{fed_turn, later_by, fed_by}
+use Rattle.framing.specs.Chunk.{FedTurn, fed_turn, later_by, fed_by}
 use Rattle.framing.proofs.Chunk.{fed_run}
 use Rattle.framing.proofs.Growth.{held_run}
 use Rattle.frame.specs.Flags.{start_flag, stop_flag, is_start, is_flag, candidate_of, role_of}
@@ -37,18 +36,20 @@ use Rattle.frame.proofs.ContentsLaws.{admitted_shrinks}
 use Rattle.frame.proofs.OriginLaws.{admit_refused}
 use Rattle.frame.proofs.LeadingLaws.{leading_kind, leading_body, leading_rest, leads, leading_clear}
 use Rattle.frame.proofs.LeadingLaws.{leading_count_lem, leading_wire, leading_some, verdict_none}
-use Rattle.candidate.specs.Outcome.{nothing, judged, capacity, told_means, summary_of}
-use Rattle.candidate.specs.Holder.{Holder, holder, holder_of, mode_in, turn_held}
-use Rattle.candidate.specs.Feed.{is_answer, FedHeld, feed_held, last_start, HeldChunkIs, Opens}
-use Rattle.candidate.specs.Private.{is_held, after_byte, whole_count, leading_in, contents_count, left_by_whole, JudgedWhole, Judges}
-use Rattle.candidate.specs.declared.Held.{Held}
-use Rattle.candidate.specs.declared.Told.{Told}
-use Rattle.candidate.specs.declared.HeldChunk.{HeldChunk}
-use Rattle.candidate.specs.declared.whole.Judged.{Judged}
-use Rattle.candidate.specs.declared.Mode.{Mode}
-use Rattle.candidate.specs.declared.Mode.TheVariants.{Outside, InStandard, InExtended, Overlong}
-use Rattle.candidate.proofs.RunLaws.{quiet_byte, candidate_grows}
-use Rattle.candidate.proofs.FeedLaws.{opens_answered}
+use Rattle.std.specs.Prelude.{Option, None, Some}
+use Rattle.framing.specs.Bounded.{BoundedReader, bounded, bounded_turn}
+use Rattle.framing.specs.Held.{with_plain}
+use Rattle.framing.specs.Fed.{feed_of, StandsWhole, WholeIs}
+use Rattle.framing.specs.declared.Mode.TheVariants.{Outside, Inside}
+use Rattle.framing.specs.declared.Whole.{Whole}
+use Rattle.framing.proofs.FedLaws.{quiet_byte}
+use Rattle.framing.proofs.RunLaws.{candidate_grows}
+use Rattle.frame.proofs.FlagLaws.{no_flag}
+use Rattle.candidate.specs.Outcome.{Outcome, nothing, judged, tells, capacity, told_means, summary_of}
+use Rattle.candidate.specs.Rowing.{rowing, rowing_bounds}
+use Rattle.candidate.specs.Feed.{is_answer}
+use Rattle.candidate.specs.Private.{contents_count, left_by_whole, Judges}
+use Rattle.frame.specs.declared.Outline.{Outline}
 
 -- ---- a slice that is read into the array
 
@@ -143,51 +144,52 @@ module _ (o : Origin) (w bytes : List ℕ) (some : 2 ≤ length w) (short : leng
 
 -- ---- its bytes, fed singly
 
-kind_held : (kind : Kind) → is_held (mode_in (inside kind)) ≡ true
-kind_held Standard = refl
-kind_held Extended = refl
+module _ (o : Origin) where
+  -- fed to a bounded reader
+  abbrev fed : BoundedReader Kind → List ℕ → FedTurn (BoundedReader Kind) Outcome
+  fed r s = feed_of (rowing o) (rowing_bounds o) is_answer r s
 
-module _ (o : Origin) (bytes : List ℕ) (array : length bytes ≡ capacity) (len : ℕ) (body rest : List ℕ)
-    (room : length body ≤ capacity) (clear : none_of is_flag body ≡ true) where
-  -- the candidate's stop flag, where its bytes are held
-  abbrev held : List ℕ
-  held = splice bytes 0 body
+  module _ (bytes : List ℕ) (array : length bytes ≡ capacity) (len : ℕ) (body rest : List ℕ)
+      (room : length body ≤ capacity) (clear : none_of is_flag body ≡ true) where
+    -- the candidate's stop flag, where its bytes are held
+    abbrev held : List ℕ
+    held = splice bytes 0 body
 
-  held_first : take (0 + length body) held ≡ body
-  held_first = take_at body (drop (0 + length body) bytes) (0 + length body) (omega arith)
+    held_first : take (0 + length body) held ≡ body
+    held_first = take_at body (drop (0 + length body) bytes) (0 + length body) (omega arith)
 
-  at_stop : (kind : Kind)
-      → feed_held (holder_of o held (0 + length body) (mode_in (inside kind))) (stop_flag ∷ rest)
-      ≡ fed_turn (judged (admit o (verdict (candidate_of kind (take (0 + length body) held)))))
-      (holder_of o (left_in (admit o (verdict (candidate_of kind (take (0 + length body) held)))) held) 0 Outside) 1
-  unfolding fed_by
-  at_stop Standard = refl
-  at_stop Extended = refl
+    at_stop : (kind : Kind)
+        → fed (bounded held (0 + length body) (Inside kind)) (stop_flag ∷ rest)
+        ≡ fed_turn (judged (admit o (verdict (candidate_of kind (take (0 + length body) held)))))
+        (bounded (left_in (admit o (verdict (candidate_of kind (take (0 + length body) held)))) held) 0 Outside) 1
+    unfolding fed_by
+    at_stop kind = refl
 
-  at_start : (kind : Kind) (s : List ℕ)
-      → feed_held (holder_of o bytes len Outside) (start_flag kind ∷ s)
-      ≡ later_by 1 (feed_held (holder_of o bytes 0 (mode_in (inside kind))) s)
-  unfolding fed_by
-  at_start Standard s = refl
-  at_start Extended s = refl
+    at_start : (kind : Kind) (s : List ℕ)
+        → fed (bounded bytes len Outside) (start_flag kind ∷ s) ≡ later_by 1 (fed (bounded bytes 0 (Inside kind)) s)
+    unfolding fed_by
+    at_start Standard s = refl
+    at_start Extended s = refl
 
-  -- the turn that judges the candidate
-  abbrev judged_turn : List ℕ → ℕ → FedHeld
-  judged_turn wire taken =
-      fed_turn (judged (admit o (verdict wire))) (holder_of o (left_in (admit o (verdict wire)) held) 0 Outside) taken
+    -- the turn that judges the candidate
+    abbrev judged_turn : List ℕ → ℕ → FedTurn (BoundedReader Kind) Outcome
+    judged_turn wire taken =
+        fed_turn (judged (admit o (verdict wire))) (bounded (left_in (admit o (verdict wire)) held) 0 Outside) taken
 
-  candidate_fed : (kind : Kind)
-      → feed_held (holder_of o bytes len Outside) (start_flag kind ∷ (body ++ stop_flag ∷ rest))
-      ≡ judged_turn (candidate_of kind body) (length body + 2)
-  candidate_fed kind =
-      let m = mode_in (inside kind) in
-      let n : 1 + (length body + 1) ≡ length body + 2 = omega arith in
-      at_start kind (body ++ stop_flag ∷ rest)
-      ∙ ap (later_by 1) (fed_run nothing is_answer turn_held is_flag after_byte quiet_byte body (stop_flag ∷ rest) (holder_of o bytes 0 m) clear
-      ∙ ap (λ (u : Holder). later_by (length body) (feed_held u (stop_flag ∷ rest)))
-      (held_run (candidate_grows o m (kind_held kind)) body bytes 0 array (omega arith))
-      ∙ ap (later_by (length body)) (at_stop kind))
-      ∙ ap₂ (λ (l : List ℕ) (k : ℕ). judged_turn (candidate_of kind l) k) held_first n
+    candidate_fed : (kind : Kind)
+        → fed (bounded bytes len Outside) (start_flag kind ∷ (body ++ stop_flag ∷ rest))
+        ≡ judged_turn (candidate_of kind body) (length body + 2)
+    candidate_fed kind =
+        let m = Inside kind in
+        let n : 1 + (length body + 1) ≡ length body + 2 = omega arith in
+        at_start kind (body ++ stop_flag ∷ rest)
+        ∙ ap (later_by 1) (fed_run nothing is_answer (bounded_turn (rowing o) (rowing_bounds o)) is_flag (with_plain capacity)
+        (quiet_byte (rowing o) (rowing_bounds o) is_answer refl is_flag no_flag capacity refl) body (stop_flag ∷ rest)
+        (bounded bytes 0 m) clear
+        ∙ ap (λ (u : BoundedReader Kind). later_by (length body) (fed u (stop_flag ∷ rest)))
+        (held_run (candidate_grows capacity kind) body bytes 0 array (omega arith))
+        ∙ ap (later_by (length body)) (at_stop kind))
+        ∙ ap₂ (λ (l : List ℕ) (k : ℕ). judged_turn (candidate_of kind l) k) held_first n
 
 -- ---- at the beginning of bytes
 
@@ -202,31 +204,17 @@ leading_found s h =
     (λ z. let q : 0 < 0 = simp (y, z) at h in absurd (omega arith)))
     (λ n. let q : 0 < 0 = simp n at h in absurd (omega arith))
 
--- one that is judged as it stands is not longer, and is counted as it is
-whole_found : (s : List ℕ) → 0 < whole_count s → (leading_count s ≤ 120) × (whole_count s ≡ leading_count s)
-whole_found s h =
-    by_bool (leb (leading_count s) 120)
-    (λ y. (leb-true (leading_count s) 120 y, simp y))
-    (λ n. let q : 0 < 0 = simp n at h in absurd (omega arith))
-
 -- its bytes between the flags fit in the array
 leading_short : (s : List ℕ) (starts : is_start (get_or s 0 0) ≡ true)
     (stops : is_stop_at (drop 1 s) (count_before is_flag (drop 1 s)) ≡ true)
     → leading_count s ≤ 120 → length (leading_body s starts stops) ≤ capacity
 leading_short s starts stops h = omega (arith, leading_count_lem s starts stops)
 
--- as the code counts: one of at most 120 bytes, or one that has more
-pub whole_short : (s : List ℕ) (taken : ℕ) → taken ≡ leading_count s → taken ≤ 120 → taken ≡ whole_count s
-whole_short s taken e h = e ∙ simp (le-leb (leading_count s) 120 (omega arith))
-
-pub whole_long : (s : List ℕ) (taken : ℕ) → taken ≡ leading_count s → 120 < taken → 0 ≡ whole_count s
-whole_long s taken e h = simp (lt-leb (leading_count s) 120 (omega arith))
-
 -- The candidate is judged at its stop flag, and the array is left as the code leaves it.
 whole_fed : (o : Origin) (bytes : List ℕ) → length bytes ≡ capacity → (len : ℕ) (s : List ℕ) → 0 < leading_count s
-    → leading_count s ≤ 120 → feed_held (holder_of o bytes len Outside) s
+    → leading_count s ≤ 120 → fed o (bounded bytes len Outside) s
     ≡ fed_turn (judged (admit o (verdict (take (leading_count s) s))))
-    (holder_of o (left_by_whole o bytes (take (leading_count s) s)) 0 Outside) (leading_count s)
+    (bounded (left_by_whole o bytes (take (leading_count s) s)) 0 Outside) (leading_count s)
 whole_fed o bytes array len s h most =
     let f = leading_found s h in
     let body = leading_body s f.0 f.1 in
@@ -238,11 +226,11 @@ whole_fed o bytes array len s h most =
     let room = leading_short s f.0 f.1 most in
     let clear = leading_clear s f.0 f.1 in
     let same : body ≡ body_of (take (leading_count s) s) = sym (ap body_of wire ∙ whole_body kind body) in
-    ap (feed_held (holder_of o bytes len Outside)) (leads s f.0 f.1)
+    ap (fed o (bounded bytes len Outside)) (leads s f.0 f.1)
     ∙ candidate_fed o bytes array len body after room clear kind
     ∙ ap₂ (judged_turn o bytes array len body after room clear) (sym wire) (sym count)
     ∙ ap (λ (l : List ℕ). fed_turn (judged (admit o (verdict (take (leading_count s) s))))
-    (holder_of o (left_in (admit o (verdict (take (leading_count s) s))) (splice bytes 0 l)) 0 Outside) (leading_count s)) same
+    (bounded (left_in (admit o (verdict (take (leading_count s) s))) (splice bytes 0 l)) 0 Outside) (leading_count s)) same
 
 -- its start flag is the last one of its bytes, with the stop flag or without it
 whole_start : (s : List ℕ) (start count : ℕ) → 0 < leading_count s
@@ -273,13 +261,6 @@ leading_fits s =
     (λ y. let f = leading_found s (ltb-true 0 (leading_count s) y) in
     omega (arith, leading_count_lem s f.0 f.1, ap length (leads s f.0 f.1), length-append (leading_body s f.0 f.1) (stop_flag ∷ leading_rest s f.0 f.1)))
     (λ n. omega (arith, ltb-false 0 (leading_count s) n))
-
-leading_inside : (m : Mode) (s : List ℕ) → leading_in m s ≤ length s
-leading_inside Outside s =
-    by_bool (leb (leading_count s) 120) (λ y. simp y (leading_fits s)) (λ n. simp n (omega arith))
-leading_inside InStandard s = omega arith
-leading_inside InExtended s = omega arith
-leading_inside Overlong s = omega arith
 
 -- the call that reads it, by what it answers and how many contents bytes that tells of
 module _ (o : Origin) (s bytes : List ℕ) (array : length bytes ≡ capacity) (taken : ℕ)
@@ -341,95 +322,32 @@ long_left o s bytes last taken count h e = e ∙ of_verdict (admit o (verdict (t
         let l : length w ≡ taken = length-take-le taken s (omega (arith, count, leading_fits s)) in
         absurd (omega (arith, l, body_count w (omega (arith, l)), (admitted_shrinks o w f q).1))
 
--- in a mode in which none can begin
-pub judges_none : (o : Origin) (bytes s : List ℕ) (m m' : Mode) (r : Judged) → m ≡ m' → leading_in m' s ≡ 0
-    → r.taken ≡ 0 → Judges o bytes s bytes (leading_in m s) r
-judges_none o bytes s m m' r g z e = record {
-  counted = e ∙ sym (ap (λ (x : Mode). leading_in x s) g ∙ z);
-  unmoved = λ k. refl;
-  whole = λ h. absurd (omega (arith, h, e));
-}
+-- One that was judged as it stands is answered as its bytes are that are fed singly.
+pub stands_whole : (o : Origin) (bytes s left : List ℕ) (w : Whole Outline) → Judges o bytes s left (Some w)
+    → StandsWhole (rowing o) (rowing_bounds o) (λ told a. told_means told ≡ summary_of a) is_answer bytes left s w
+stands_whole o bytes s left w k =
+    let n = k.0 in
+    let j = k.3 in
+    let wire : take w.taken s ≡ take (leading_count s) s = ap (λ (i : ℕ). take i s) n in
+    let found : 0 < leading_count s = omega (arith, k.1) in
+    let f = λ (len : ℕ). whole_fed o bytes j.array len s found (omega (arith, k.2)) in
+    let starts = λ (start count : ℕ). whole_start s start count found in
+    record {
+      some = k.1;
+      within = omega (arith, leading_fits s);
+      fed = λ len. record {
+        told_is = ap tells j.told_is
+            ∙ ap (λ (l : List ℕ). summary_of (judged (admit o (verdict l)))) wire
+            ∙ ap (λ (g : FedTurn (BoundedReader Kind) Outcome). summary_of g.answer) (sym (f len));
+        next_is = ap (λ (l : List ℕ). bounded l 0 Outside) (j.left_is ∙ ap (left_by_whole o bytes) wire)
+            ∙ ap (λ (g : FedTurn (BoundedReader Kind) Outcome). g.next) (sym (f len));
+        taken_is = n ∙ ap (λ (g : FedTurn (BoundedReader Kind) Outcome). g.taken) (sym (f len));
+      };
+      begins = λ start count. ap (λ (i : ℕ). start_in role_of start count (take (i - 1) s)) n ∙ (starts start count).0;
+      opens = λ start count. ap (λ (i : ℕ). start_in role_of start count (take i s)) n ∙ (starts start count).1;
+    }
 
--- the last start flag after so many bytes past an index, as the code takes them
-last_past : (s : List ℕ) (at k : ℕ)
-    → last_start (take (at + k) s)
-    ≡ start_in role_of (last_start (take at s)) (1 + length (take at s)) (take k (take (length s - at) (drop at s)))
-last_past s at k =
-    ap last_start (take-add at k s)
-    ∙ start_append role_of 0 1 (take at s) (take k (drop at s))
-    ∙ ap (λ (l : List ℕ). start_in role_of (last_start (take at s)) (1 + length (take at s)) (take k l)) (sym (rest_part s at))
-
-module _ (mode : Mode) (s : List ℕ) (at taken : ℕ) (count : taken ≡ leading_in mode (take (length s - at) (drop at s))) where
-  pub whole_inside : at ≤ length s → at + taken ≤ length s
-  whole_inside h =
-      omega (
-        arith,
-        count,
-        leading_inside mode (take (length s - at) (drop at s)),
-        ap length (rest_part s at),
-        length-drop at s,
-      )
-
-  some_outside : 0 < taken → mode ≡ Outside
-  some_outside h = by_mode mode (subst (λ (n : ℕ). 0 < n) count h)
-    where
-      by_mode : (m : Mode) → 0 < leading_in m (take (length s - at) (drop at s)) → m ≡ Outside
-      by_mode Outside k = refl
-      by_mode InStandard k = absurd (omega arith)
-      by_mode InExtended k = absurd (omega arith)
-      by_mode Overlong k = absurd (omega arith)
-
-  -- a turn of a loop over the bytes s, where f is what all of them give
-  pub whole_answers : (f : FedHeld) (bytes : List ℕ) (held : Held) → held.mode ≡ mode → 0 < taken
-      → f ≡ later_by at (feed_held (holder bytes held) (drop at s))
-      → (left : List ℕ) (told : Told)
-      → JudgedWhole held.origin bytes (take taken (take (length s - at) (drop at s))) left told
-      → (r : HeldChunk)
-      → r ≡ record {
-        told = told;
-        held = record { len = 0; mode = Outside; origin = held.origin };
-        taken = at + taken;
-        began = at + 1;
-        opened = at + 1;
-      }
-      → HeldChunkIs left r f × Opens s r f
-  whole_answers f bytes held m h so_far left told j r is =
-      let rest = take (length s - at) (drop at s) in
-      let out = some_outside h in
-      let k : taken ≡ whole_count rest = count ∙ ap (λ (x : Mode). leading_in x rest) out in
-      let found = whole_found rest (subst (λ (i : ℕ). 0 < i) k h) in
-      let n : taken ≡ leading_count rest = k ∙ found.1 in
-      let wire = take taken rest in
-      let o = held.origin in
-      let q : f ≡ fed_turn (judged (admit o (verdict wire))) (holder_of o (left_by_whole o bytes wire) 0 Outside) (at + taken) =
-      so_far
-      ∙ ap₂ (λ (x : Mode) (l : List ℕ). later_by at (feed_held (holder_of o bytes held.len x) l)) (m ∙ out)
-      (sym (rest_part s at))
-      ∙ ap (later_by at) (whole_fed o bytes j.array held.len rest (subst (λ (i : ℕ). 0 < i) n h) found.0)
-      ∙ ap (λ (k : ℕ). later_by at (fed_turn (judged (admit o (verdict (take k rest))))
-      (holder_of o (left_by_whole o bytes (take k rest)) 0 Outside) k)) (sym n) in
-      let inside : at ≤ length s =
-      omega (arith, n, leading_fits rest, ap length (rest_part s at), length-drop at s) in
-      let starts = whole_start rest (last_start (take at s)) (1 + length (take at s)) (subst (λ (i : ℕ). 0 < i) n h) in
-      let place : 1 + length (take at s) ≡ at + 1 = omega (arith, length-take-le at s inside) in
-      let before : at + taken - 1 ≡ at + (leading_count rest - 1) = omega arith in (
-        record {
-          told_is = ap (λ (x : HeldChunk). told_means x.told) is ∙ j.told_is
-              ∙ ap (λ (g : FedHeld). summary_of g.answer) (sym q);
-          next_is = ap₂ (λ (l : List ℕ) (x : HeldChunk). holder l x.held) j.left_is is
-              ∙ ap (λ (g : FedHeld). g.next) (sym q);
-          taken_is = ap (λ (x : HeldChunk). x.taken) is ∙ ap (λ (g : FedHeld). g.taken) (sym q);
-        },
-        opens_answered s r f (at + taken) (ap (λ (g : FedHeld). is_answer g.answer) q)
-            (ap (λ (g : FedHeld). g.taken) q)
-            (ap (λ (g : HeldChunk). g.began) is ∙ sym (ap (λ (k : ℕ). last_start (take k s)) before
-            ∙ last_past s at (leading_count rest - 1) ∙ starts.0 ∙ place))
-            (ap (λ (g : HeldChunk). g.opened) is ∙ sym (ap (λ (k : ℕ). last_start (take (at + k) s)) n
-            ∙ last_past s at (leading_count rest) ∙ starts.1 ∙ place)),
-      )
-
--- a call that leaves the array as it was
-pub unmoved : (f : FedHeld) (bytes left : List ℕ) (held : Held) (l : List ℕ) (at : ℕ) → left ≡ bytes
-    → f ≡ later_by at (feed_held (holder bytes held) l) → f ≡ later_by at (feed_held (holder left held) l)
-unmoved f bytes left held l at e so_far =
-    so_far ∙ ap (λ (b : List ℕ). later_by at (feed_held (holder b held) l)) (sym e)
+pub whole_is : (o : Origin) (bytes s left : List ℕ) (w : Option (Whole Outline)) → Judges o bytes s left w
+    → WholeIs (rowing o) (rowing_bounds o) (λ told a. told_means told ≡ summary_of a) is_answer bytes left s w
+whole_is o bytes s left None k = k.1
+whole_is o bytes s left (Some w) k = stands_whole o bytes s left w k

@@ -2,6 +2,7 @@
 use Rattle.std.specs.Prelude.{◌≡◌, Bool, true, false, List, ℕ, ◌-◌, take}
 use Rattle.lists.specs.Choice.{pick}
 use Rattle.candidate.specs.Outcome.{Outcome, nothing, Summary, silent, tells, told_means, summary_of}
+use Rattle.framing.specs.Reference.{Role, starts, stops, plain}
 use Rattle.framing.specs.Counting.{start_in}
 use Rattle.framing.specs.Chunk.{FedTurn, fed_by}
 use Rattle.frame.specs.Flags.{role_of}
@@ -32,6 +33,12 @@ unanswered f = pick (is_answer f.answer) (f.taken - 1) f.taken
 -- How many bytes there are up to and with the last start flag among them. 0 where there is none.
 abbrev pub last_start : List ℕ → ℕ
 last_start s = start_in role_of 0 1 s
+
+-- Where the last start flag is known to be, after a byte of a role: at that byte's own place where it is one.
+abbrev pub opened_by : {A : Type 0} → Role → (before place : A) → A
+opened_by starts before place = place
+opened_by stops before place = before
+opened_by plain before place = before
 
 -- ---- what a function returns
 

@@ -3,15 +3,13 @@
 use Rattle.std.specs.Prelude.{◌≡◌, List, ℕ}
 use Rattle.lists.specs.Machine.{Turn, turn}
 use Rattle.framing.specs.Reference.{Call, byte, finish, Role}
-use Rattle.framing.specs.Bounded.{BoundedMode, outside, inside, overlong, BoundedReader, bounded, byte_turn, bounded_turn}
+use Rattle.framing.specs.Bounded.{BoundedReader, bounded, byte_turn, bounded_turn}
+use Rattle.framing.specs.declared.Mode.{Mode}
 use Rattle.frame.specs.Flags.{role_of}
 use Rattle.frame.specs.declared.Origin.{Origin}
 use Rattle.frame.specs.declared.Kind.{Kind}
-use Rattle.frame.specs.declared.Kind.TheVariants.{Standard, Extended}
 use Rattle.candidate.specs.Outcome.{Outcome, told_means, summary_of}
 use Rattle.candidate.specs.Rowing.{rowing, rowing_bounds}
-use Rattle.candidate.specs.declared.Mode.{Mode}
-use Rattle.candidate.specs.declared.Mode.TheVariants.{Outside, InStandard, InExtended, Overlong}
 use Rattle.candidate.specs.declared.Held.{Held}
 use Rattle.candidate.specs.declared.HeldStep.{HeldStep}
 
@@ -23,7 +21,7 @@ pub record Holder : Type 0 where
 abbrev pub holder : List ℕ → Held → Holder
 holder bytes held = record { bytes = bytes; held = held }
 
-abbrev pub holder_of : Origin → List ℕ → ℕ → Mode → Holder
+abbrev pub holder_of : Origin → List ℕ → ℕ → Mode Kind → Holder
 holder_of o bytes len mode = holder bytes (record { len = len; mode = mode; origin = o })
 
 abbrev pub origin_held : Holder → Origin
@@ -31,23 +29,11 @@ origin_held r = r.held.origin
 
 -- ---- as a bounded reader, and back
 
-abbrev pub mode_seen : Mode → BoundedMode Kind
-mode_seen Outside = outside
-mode_seen InStandard = inside Standard
-mode_seen InExtended = inside Extended
-mode_seen Overlong = overlong
-
-abbrev pub mode_in : BoundedMode Kind → Mode
-mode_in outside = Outside
-mode_in (inside Standard) = InStandard
-mode_in (inside Extended) = InExtended
-mode_in overlong = Overlong
-
 abbrev pub seen : Holder → BoundedReader Kind
-seen r = bounded r.bytes r.held.len (mode_seen r.held.mode)
+seen r = bounded r.bytes r.held.len r.held.mode
 
 abbrev pub holder_seen : Origin → BoundedReader Kind → Holder
-holder_seen o r = holder_of o r.bytes r.len (mode_in r.mode)
+holder_seen o r = holder_of o r.bytes r.len r.mode
 
 -- ---- the calls
 

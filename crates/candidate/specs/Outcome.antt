@@ -1,12 +1,11 @@
 -- What a call on a line reader is answered with: document 01, "The line".
-use Rattle.std.specs.Prelude.{◌≡◌, List, [], ◌∷◌, ℕ, ◌≤◌, replicate}
+use Rattle.std.specs.Prelude.{◌≡◌, List, [], ◌∷◌, ℕ, ◌≤◌, replicate, Option, None, Some, Result}
 use Rattle.answer.specs.Answer.{Answer, result, refused}
-use Rattle.answer.specs.Refusals.{number_of}
+use Rattle.answer.specs.declared.Refusal.{Refusal}
 use Rattle.frame.specs.Frame.{standard}
 use Rattle.frame.specs.Verdict.{Verdict}
-use Rattle.frame.specs.Answers.{FrameOutline, standard_outline, extended_outline, judge_answer, frame_read}
-use Rattle.candidate.specs.declared.Told.{Told}
-use Rattle.candidate.specs.declared.Told.TheVariants.{Nothing, Refused, Standard, Extended}
+use Rattle.frame.specs.Answers.{FrameOutline, standard_outline, extended_outline, read_means, judge_answer, frame_read}
+use Rattle.frame.specs.declared.Outline.{Outline}
 
 -- Nothing, or a verdict: a frame with its kind, addresses and contents, or a refusal's number.
 pub data Outcome : Type 0 where
@@ -35,16 +34,18 @@ Not17 o = o ≡ judged (refused 17) → ⊥
 abbrev pub NotStandard : Outcome → Type 0
 NotStandard o = (contents : List ℕ) → o ≡ judged (result (standard contents)) → ⊥
 
--- An outcome without the contents: what the enum `Told` holds.
+-- What a call tells: nothing, or the answer to a candidate.
+abbrev pub Told : Type 0
+Told = Option (Result Outline Refusal)
+
+-- An outcome without the contents: what `Told` holds.
 pub data Summary : Type 0 where
   silent : Summary
   tells : Answer FrameOutline → Summary
 
 abbrev pub told_means : Told → Summary
-told_means Nothing = silent
-told_means (Refused why) = tells (refused (number_of why))
-told_means (Standard len) = tells (result (standard_outline len))
-told_means (Extended to from len) = tells (result (extended_outline to from len))
+told_means None = silent
+told_means (Some read) = tells (read_means read)
 
 abbrev pub summary_of : Outcome → Summary
 summary_of nothing = silent

@@ -3,46 +3,20 @@
 #![tactic(auto)]
 
 pub mod chunk;
-mod runs;
 mod whole;
 
 ghost use Rattle.std.specs.Prelude.{◌≡◌, List, ℕ};
-ghost use Rattle.lists.specs.Machine.{turn};
-ghost use Rattle.framing.specs.Reference.{stops, plain};
-ghost use Rattle.framing.specs.Bounded.{truncated_in, terminated_in, left_by_stop};
-ghost use Rattle.frame.specs.Answers.{read_means};
-ghost use Rattle.candidate.specs.Outcome.{told_means, tells, summary_of, nothing};
-ghost use Rattle.candidate.specs.Rowing.{rowing, rowing_bounds};
-ghost use Rattle.candidate.specs.Holder.{holder, holder_of, mode_seen, role_step, step_held, finish_held};
-ghost use Rattle.candidate.specs.Holder.{HeldStepIs};
-ghost use Rattle.candidate.specs.Private.{with_byte};
+ghost use Rattle.candidate.specs.Holder.{HeldStepIs, holder, step_held, finish_held};
 
 use answer::Refusal;
-use frame::{Kind, Origin, Read, flags};
-
-// The most bytes that may stand between the flags of a frame.
-const ROOM: usize = 118;
-
-// How many bytes are held right after a flag.
-const FRESH: usize = 0;
+use frame::{Kind, Origin, Outline, flags};
+use framing::{LineProtocol, Role, Whole, calls};
 
 // What a call tells. A frame's contents are the first bytes of an array beside it.
-#[derive(Clone, Copy)]
-pub enum Told {
-    Nothing,
-    Refused(Refusal),
-    Standard { len: usize },
-    Extended { to: u8, from: u8, len: usize },
-}
+pub type Told = Option<Result<Outline, Refusal>>;
 
-// Outside of any candidate; in a standard or an extended one; in one that is too long to be a frame, which is not held.
-#[derive(Clone, Copy)]
-pub enum Mode {
-    Outside,
-    InStandard,
-    InExtended,
-    Overlong,
-}
+// Outside of any candidate; in one of a kind; in one that is too long to be a frame, which is not held.
+pub type Mode = framing::Mode<Kind>;
 
 // What is held: how many bytes of an array, the mode, and where the bytes come from, which no call changes. A length over
 // 118 counts as 118, so every value is one.
@@ -64,6 +38,7 @@ pub struct HeldStep {
 // The answer to a chunk over a lent array, what is held afterwards, and how many bytes of the chunk were taken. `began` is
 // how many there are up to and with the last start flag before the byte that is answered, and `opened` up to and with the
 // last of all that were taken; each is 0 where there is none.
+// Stays a 0 for none, and no Option: the clause `Opens` says both as the number `last_start`, which counts so.
 #[derive(Clone, Copy)]
 pub struct HeldChunk {
     pub told: Told,
@@ -73,137 +48,100 @@ pub struct HeldChunk {
     pub opened: usize,
 }
 
+// The rowing line's protocol, at an origin.
+#[derive(Clone, Copy)]
+struct Rowing {
+    origin: Origin,
+}
+
+impl LineProtocol<118> for Rowing {
+    type Kind = Kind;
+
+    type Outline = Outline;
+
+    ghost use Rattle.std.specs.Prelude.{◌≡◌, None, Some, is_some, refl};
+    ghost use Rattle.std.proofs.Common.{ap, ◌∙◌};
+    ghost use Rattle.frame.specs.Flags.{is_flag};
+    ghost use Rattle.frame.proofs.FlagLaws.{no_flag};
+    ghost use Rattle.candidate.specs.Outcome.{Outcome, told_means, summary_of};
+    ghost use Rattle.candidate.specs.Rowing.{rowing, rowing_bounds};
+    ghost use Rattle.candidate.specs.Feed.{says, is_answer};
+    ghost use Rattle.frame.specs.Answers.{judge_answer};
+
+    ghost Answer = { Outcome };
+
+    ghost protocol = { λ p. rowing p.origin };
+
+    ghost bounds = { λ p. rowing_bounds p.origin };
+
+    ghost tells = { λ told o. told_means told ≡ summary_of o };
+
+    ghost is_answer = { is_answer };
+
+    ghost ends_run = { is_flag };
+
+    fn role(self, b: u8) -> Role<Kind> {
+        match b {
+            flags::EXTENDED_START => Role::Start(Kind::Extended),
+            flags::STANDARD_START => Role::Start(Kind::Standard),
+            flags::STOP => Role::Stop,
+            _ => Role::Plain,
+        }
+    }
+
+    fn run(self, s: &[u8]) -> usize {
+        lists::count_before(s, flags::EXTENDED_START, flags::STOP)
+    }
+
+    fn judge(self, kind: Kind, bytes: &mut [u8; 118], len: usize) -> Result<Outline, Refusal> {
+        frame::judge_array(self.origin, kind, bytes, len)
+    }
+
+    fn whole(self, bytes: &mut [u8; 118], s: &[u8]) -> Option<Whole<Outline>> {
+        whole::judge(self.origin, bytes, s)
+    }
+
+    ghost room = { λ p. refl };
+
+    ghost none_in_run = { λ p b h. no_flag b h };
+
+    ghost nothing_told = { λ p. refl };
+
+    ghost is_told = { λ told o h. elim told as (λ t. is_some t ≡ says (told_means t)) [ None ↦ refl | Some r ↦ refl ] ∙ ap says h };
+
+    ghost truncated_told = { λ p. unfold judge_answer in refl };
+
+    ghost long_told = { λ p. unfold judge_answer in refl };
+}
+
 // Takes a byte. Of a chunk nothing but flags is taken so.
 pub fn step_in(bytes: &mut [u8; 118], held: Held, b: u8) -> HeldStep
     ensures { HeldStepIs bytes.new result (step_held (holder bytes.old held) b) }
 {
-    let mode = held.mode;
-    let origin = held.origin;
-    if b == flags::EXTENDED_START {
-        return restart(origin, mode, Mode::InExtended);
+    let Held { len, mode, origin } = held;
+    let step = calls::step(Rowing { origin }, bytes, framing::Held { len, mode }, b);
+    HeldStep {
+        told: step.told,
+        held: Held {
+            len: step.held.len,
+            mode: step.held.mode,
+            origin,
+        },
     }
-    if b == flags::STANDARD_START {
-        return restart(origin, mode, Mode::InStandard);
-    }
-    if b == flags::STOP {
-        return stop(bytes, held);
-    }
-    grow(bytes, held, b)
 }
 
 // Ends the input: a candidate that is open is truncated. The array stays as it is.
 pub fn finish_in(held: Held) -> HeldStep
     ensures { (bytes : List ℕ) → HeldStepIs bytes result (finish_held (holder bytes held)) }
 {
-    let mode = held.mode;
-    let origin = held.origin;
-    restart(origin, mode, Mode::Outside)
-}
-
-// A start flag, or the end of input: whatever is open is truncated.
-fn restart(origin: Origin, mode: Mode, opens: Mode) -> HeldStep
-    ensures { (bytes : List ℕ) → HeldStepIs bytes result
-        (turn (truncated_in (rowing origin) (rowing_bounds origin) (mode_seen mode)) (holder_of origin bytes 0 opens)) }
-{
+    let Held { len, mode, origin } = held;
+    let ended = calls::end(Rowing { origin }, framing::Held { len, mode });
     HeldStep {
-        told: truncated(mode),
+        told: ended.told,
         held: Held {
-            len: FRESH,
-            mode: opens,
+            len: ended.held.len,
+            mode: ended.held.mode,
             origin,
         },
     }
-}
-
-// Truncation is told alike at every origin.
-fn truncated(mode: Mode) -> Told
-    ensures { (o : Origin)
-        → told_means result ≡ summary_of (truncated_in (rowing o) (rowing_bounds o) (mode_seen mode)) }
-{
-    match mode {
-        Mode::Outside => Told::Nothing,
-        Mode::InStandard => Told::Refused(Refusal::Truncated),
-        Mode::InExtended => Told::Refused(Refusal::Truncated),
-        Mode::Overlong => Told::Refused(Refusal::Truncated),
-    }
-}
-
-// The stop flag: what is open is judged.
-fn stop(bytes: &mut [u8; 118], held: Held) -> HeldStep
-    ensures { (b : ℕ)
-        → HeldStepIs bytes.new result (role_step stops (holder bytes.old held) b) }
-{
-    let mode = held.mode;
-    let origin = held.origin;
-    let told = terminated(origin, bytes, held.len, mode);
-    let after = Mode::Outside;
-    HeldStep {
-        told,
-        held: Held {
-            len: FRESH,
-            mode: after,
-            origin,
-        },
-    }
-}
-
-fn terminated(origin: Origin, bytes: &mut [u8; 118], len: usize, mode: Mode) -> Told
-    ensures result_value { told_means result ≡ summary_of
-        (terminated_in (rowing origin) (rowing_bounds origin) (mode_seen mode) bytes.old len) }
-    ensures bytes_after { bytes.new
-        ≡ left_by_stop (rowing origin) (rowing_bounds origin) (mode_seen mode) bytes.old len }
-{
-    let kind = match mode {
-        Mode::Outside => return Told::Nothing,
-        Mode::InStandard => Kind::Standard,
-        Mode::InExtended => Kind::Extended,
-        Mode::Overlong => return Told::Refused(Refusal::TooLong),
-    };
-    told_of(frame::judge_array(origin, kind, bytes, len))
-}
-
-fn told_of(read: Read) -> Told
-    ensures { told_means result ≡ tells (read_means read) }
-{
-    match read {
-        Read::Standard { len } => Told::Standard { len },
-        Read::Extended { to, from, len } => Told::Extended { to, from, len },
-        Read::Refused(why) => Told::Refused(why),
-    }
-}
-
-// Any byte that is no flag.
-fn grow(bytes: &mut [u8; 118], held: Held, b: u8) -> HeldStep
-    ensures { HeldStepIs bytes.new result (role_step plain (holder bytes.old held) b) }
-{
-    let len = held.len;
-    let mode = held.mode;
-    let origin = held.origin;
-    match mode {
-        Mode::Outside => unmoved(origin, len, mode),
-        Mode::InStandard => with_byte(origin, bytes, len, mode, b),
-        Mode::InExtended => with_byte(origin, bytes, len, mode, b),
-        Mode::Overlong => unmoved(origin, len, mode),
-    }
-}
-
-fn unmoved(origin: Origin, len: usize, mode: Mode) -> HeldStep
-    ensures { (bytes : List ℕ) → HeldStepIs bytes result (turn nothing (holder_of origin bytes len mode)) }
-{
-    HeldStep {
-        told: Told::Nothing,
-        held: Held { len, mode, origin },
-    }
-}
-
-// One byte more in an open candidate.
-fn with_byte(origin: Origin, bytes: &mut [u8; 118], len: usize, mode: Mode, b: u8) -> HeldStep
-    ensures { HeldStepIs bytes.new result
-        (turn nothing (with_byte (holder_of origin bytes.old len mode) b)) }
-{
-    if len < ROOM {
-        bytes[len] = b;
-        return unmoved(origin, len + 1, mode);
-    }
-    unmoved(origin, FRESH, Mode::Overlong)
 }

@@ -7,11 +7,13 @@ use native.Mathlib.Omega.{arith}
 use lib.Dec.{ltb}
 use lib.ListN.{length, take, drop, length-drop, take-append-drop}
 use lib.Seq.{length-take-le}
+use Rattle.std.specs.Prelude.{Option, Result}
 use contract.Lifetimes.{Lfts}
 use denote.Ref.{Bor}
 use Rattle.lists.specs.Choice.{Exactly}
 use Rattle.lists.proofs.Cases.{by_bool, exactly}
 use Rattle.answer.specs.Answer.{Answer, result, refused}
+use Rattle.answer.specs.declared.Refusal.{Refusal}
 use Rattle.command.specs.Entries.{commands, Extent, head_of}
 use Rattle.command.specs.Answers.{CountAnswer, found_means, counted_means, part_of}
 use Rattle.command.specs.Parts.{StandsAt, start_of, IsData}
@@ -23,9 +25,8 @@ use Rattle.command.specs.Table.{Steps, Moves, Wrapper, at_index, TableAnswers, T
 use Rattle.command.specs.Table.{of_refusal}
 use Rattle.command.specs.Stop.{StopsWorkout}
 use Rattle.command.specs.declared.entries.Cursor.{Cursor}
-use Rattle.command.specs.declared.entries.Counted.{Counted}
-use Rattle.command.specs.declared.entries.Step.{Step}
-use Rattle.command.specs.declared.entries.Found.{Found}
+use Rattle.command.specs.declared.entries.Entry.{Entry}
+use Rattle.command.specs.declared.entries.Unsound.{Unsound}
 use Rattle.command.specs.declared.cursor.CommandStep.{CommandStep}
 use Rattle.command.proofs.Table.{count_by_table, nth_by_table, command_by_table, inside_by_table, entry_data}
 use Rattle.command.proofs.PartLaws.{stands_as, stands_exactly}
@@ -64,14 +65,15 @@ answer_by_table s (at_index at) a = nth_by_table commands at (drop at s) 0 a
 
 -- A call on contents with what it asked and its answer, known by what the function's contract tells a caller.
 pub data Called : List ℕ → Question → Answer Extent → Type 0 where
-  nth : (κs : Lfts 1) (ρ ρ' : Bor (List ℕ)) {n : ℕ} (r : Found) → nth-reads.Learnt κs (ρ, (n, tt)) r (ρ', (n, tt))
+  nth : (κs : Lfts 1) (ρ ρ' : Bor (List ℕ)) {n : ℕ} (r : Result Entry Refusal)
+      → nth-reads.Learnt κs (ρ, (n, tt)) r (ρ', (n, tt))
       → Called ρ.now (nth_at_top n) (found_means r)
-  nth_by_steps : (κs : Lfts 1) (ρ ρ' : Bor (List ℕ)) {n : ℕ} (r : Found)
+  nth_by_steps : (κs : Lfts 1) (ρ ρ' : Bor (List ℕ)) {n : ℕ} (r : Result Entry Refusal)
       → nth-by-steps-reads.Learnt κs (ρ, (n, tt)) r (ρ', (n, tt)) → Called ρ.now (nth_at_top n) (found_means r)
-  called_nth_inside : (κs : Lfts 1) (ρ ρ' : Bor (List ℕ)) {w n : ℕ} (r : Found)
+  called_nth_inside : (κs : Lfts 1) (ρ ρ' : Bor (List ℕ)) {w n : ℕ} (r : Result Entry Refusal)
       → nth-inside-reads.Learnt κs (ρ, (w, (n, tt))) r (ρ', (w, (n, tt)))
       → Called ρ.now (nth_in_wrapper w n) (found_means r)
-  called_command_at : (κs : Lfts 1) (ρ ρ' : Bor (List ℕ)) {at : ℕ} (r : Found)
+  called_command_at : (κs : Lfts 1) (ρ ρ' : Bor (List ℕ)) {at : ℕ} (r : Result Entry Refusal)
       → command-at-reads.Learnt κs (ρ, (at, tt)) r (ρ', (at, tt)) → Called ρ.now (at_index at) (found_means r)
   step_from : (κs : Lfts 1) (ρ ρ' : Bor (List ℕ)) {at : ℕ} (r : CommandStep)
       → step-from-reads.Learnt κs (ρ, (at, tt)) r (ρ', (at, tt)) → Called ρ.now (at_index at) (found_means r.found)
@@ -173,21 +175,22 @@ move_calls {s} {at} c i = exactly (moved_is c) (move_by_table s at i)
 -- ---- entries
 
 -- Any call of `Cursor::step` is answered a exactly when the table answers a: 15, 7 or the entry at its index.
-pub step_calls : (κs : Lfts 1) (ρ ρ' : Bor (List ℕ)) (c : Cursor) (limit : ℕ) (r : Step)
+pub step_calls : (κs : Lfts 1) (ρ ρ' : Bor (List ℕ)) (c : Cursor) (limit : ℕ)
+    (r : Result (Option (Entry × Cursor)) Unsound)
     → step-reads.Learnt κs (c, (limit, (ρ, tt))) r (c, (limit, (ρ', tt))) → (a : Answer EntryStep)
     → Exactly (step_means r ≡ a) (Steps limit ρ.now c.at a)
-step_calls κs ρ ρ' c limit r e a = exactly e (step_by_table limit ρ.now c.at a)
+step_calls κs ρ ρ' c limit r e a = exactly e.0 (step_by_table limit ρ.now c.at a)
 
 -- Any call of `count` is answered a exactly when the table answers a: the number of entries, or 7 with the index of the
 -- entry that fails.
-pub count_calls : (κs : Lfts 1) (ρ ρ' : Bor (List ℕ)) (limit : ℕ) (from : Cursor) (r : Counted)
+pub count_calls : (κs : Lfts 1) (ρ ρ' : Bor (List ℕ)) (limit : ℕ) (from : Cursor) (r : Result ℕ Unsound)
     → count-reads.Learnt κs (limit, (ρ, (from, tt))) r (limit, (ρ', (from, tt))) → (a : CountAnswer)
     → Exactly (counted_means r ≡ a) (Counts limit from.at (drop from.at ρ.now) a)
 count_calls κs ρ ρ' limit from r e a =
     exactly e (count_by_table limit from.at (drop from.at ρ.now) a)
 
 -- Any call of `entries::nth`, over any limit and from any index on.
-pub nth_calls : (κs : Lfts 1) (ρ ρ' : Bor (List ℕ)) (limit : ℕ) (from : Cursor) (n : ℕ) (r : Found)
+pub nth_calls : (κs : Lfts 1) (ρ ρ' : Bor (List ℕ)) (limit : ℕ) (from : Cursor) (n : ℕ) (r : Result Entry Refusal)
     → nth-entry-reads.Learnt κs (limit, (ρ, (from, (n, tt)))) r (limit, (ρ', (from, (n, tt)))) → (a : Answer Extent)
     → Exactly (found_means r ≡ a) (Nth limit from.at (drop from.at ρ.now) n a)
 nth_calls κs ρ ρ' limit from n r e a =

@@ -9,19 +9,21 @@ use base.Logic.{SProp}
 use prog.Memory.{Memory}
 use prog.Routine.{Routine}
 use types.Logic.{Logic}
+use Rattle.std.specs.Prelude.{Result}
 use contract.Lifetimes.{Lfts}
 use contract.Monad.{Fun, fact}
 use denote.Ref.{Bor}
 use Rattle.lists.specs.Choice.{Exactly}
 use Rattle.lists.proofs.Cases.{exactly}
 use Rattle.answer.specs.Answer.{Answer}
+use Rattle.answer.specs.declared.Refusal.{Refusal}
 use Rattle.command.specs.Entries.{commands, Extent}
 use Rattle.command.specs.Answers.{found_means}
 use Rattle.command.specs.Parts.{StandsAt, IsData}
 use Rattle.command.specs.Commands.{nth_command}
 use Rattle.command.specs.Traversal.{command_at, index_after, index_of}
 use Rattle.command.specs.Table.{NthEntry, Moves, TableAnswers, TableData, at_index, nth_at_top, of_nth}
-use Rattle.command.specs.declared.entries.Found.{Found}
+use Rattle.command.specs.declared.entries.Entry.{Entry}
 use Rattle.command.specs.declared.cursor.CommandCursor.{CommandCursor}
 use Rattle.command.proofs.Calls.{answer_by_table, data_exactly}
 use Rattle.command.proofs.Table.{start_is}
@@ -42,7 +44,7 @@ use Rattle.command.proofs.cursor.CommandCursor.advanced.Reads as advanced-reads
 abbrev pub Made : Bor (List ℕ) → CommandCursor → Type 0
 Made s c = (c.contents ≡ s) × (c.at ≡ 0)
 
-abbrev pub Answers : CommandCursor → Found → Type 0
+abbrev pub Answers : CommandCursor → Result Entry Refusal → Type 0
 Answers c r = found_means r ≡ command_at c.contents.now c.at
 
 abbrev pub HandsOut : CommandCursor → Bor (List ℕ) → Type 0
@@ -57,7 +59,7 @@ module _ {M : Type 1} {𝓤 : Ura M} (𝓛 : Logic 𝓤) (mem : Memory → SProp
       → (new.clauses 𝓛 mem run κs (s, tt)).ensures tt c (s', tt) ≡ fact 𝓤 (Made s c)
   new_ensures s s' c = refl
 
-  pub command_ensures : (c c' : CommandCursor) (r : Found)
+  pub command_ensures : (c c' : CommandCursor) (r : Result Entry Refusal)
       → (command.clauses 𝓛 mem run κs (c, tt)).ensures tt r (c', tt) ≡ fact 𝓤 (Answers c r)
   command_ensures c c' r = refl
 
@@ -75,7 +77,8 @@ pub new_told : (κs : Lfts 1) (s s' : Bor (List ℕ)) (c : CommandCursor) → ne
     → Made s c
 new_told κs s s' c e = e
 
-pub command_told : (κs : Lfts 1) (c c' : CommandCursor) (r : Found) → command-reads.Learnt κs (c, tt) r (c', tt)
+pub command_told : (κs : Lfts 1) (c c' : CommandCursor) (r : Result Entry Refusal)
+    → command-reads.Learnt κs (c, tt) r (c', tt)
     → Answers c r
 command_told κs c c' r e = e
 
@@ -112,7 +115,7 @@ run_answers {s} {k} {c} m =
     ap (λ (x : Bor (List ℕ)). command_at x.now c.at) r.0 ∙ ap (command_at s.now) r.1 ∙ kth_step s.now k
 
 -- A cursor answers a exactly when the table answers a to what stands at its index.
-pub cursor_by_table : (c : CommandCursor) (r : Found) → Answers c r → (a : Answer Extent)
+pub cursor_by_table : (c : CommandCursor) (r : Result Entry Refusal) → Answers c r → (a : Answer Extent)
     → Exactly (found_means r ≡ a) (TableAnswers c.contents.now (at_index c.at) a)
 cursor_by_table c r e a =
     exactly e (answer_by_table c.contents.now (at_index c.at) a)
@@ -126,7 +129,8 @@ cursor_moves c d m = (
 )
 
 -- After k moves, exactly when the table answers a to the k-th command of the contents that it was made on.
-pub moves_by_table : (s : Bor (List ℕ)) (k : ℕ) (c : CommandCursor) → Moved s k c → (r : Found) → Answers c r
+pub moves_by_table : (s : Bor (List ℕ)) (k : ℕ) (c : CommandCursor) → Moved s k c
+    → (r : Result Entry Refusal) → Answers c r
     → (a : Answer Extent) → Exactly (found_means r ≡ a) (TableAnswers s.now (nth_at_top k) a)
 moves_by_table s k c m r e a =
     exactly (e ∙ run_answers m) (answer_by_table s.now (nth_at_top k) a)

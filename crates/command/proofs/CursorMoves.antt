@@ -1,19 +1,14 @@
 -- One move of a command cursor.
-use Prim.Native.Nat.{ℕ, suc, ◌+◌, ◌-◌, ◌≤◌}
+use Prim.Native.Nat.{ℕ, suc, ◌+◌, ◌≤◌}
 use mathlib.Core.Path.{◌≡◌, refl, sym, ap, ◌∙◌}
 use mathlib.Core.List.{List, [], ◌∷◌}
 use native.Mathlib.Omega.{arith}
 use lib.ListN.{length, drop}
 use lib.Seq.{drop-drop, drop-append_seam}
-use Rattle.answer.specs.Refusals.{number_of}
-use Rattle.answer.specs.declared.Refusal.{Refusal}
 use Rattle.command.specs.Entries.{Entry, commands, entry_bytes, list_bytes, AllWellFormed, Parsed}
 use Rattle.command.specs.Entries.{unsound, sound, parse, found, nth_of, nth_in, Extent}
 use Rattle.answer.specs.Answer.{Answer, result, refused}
-use Rattle.command.specs.Answers.{found_means}
 use Rattle.command.specs.Traversal.{command_at, index_past, index_after}
-use Rattle.command.specs.declared.entries.Found.{Found}
-use Rattle.command.specs.declared.entries.Found.TheVariants.{At, Refused}
 use Rattle.command.proofs.Extents.{found_within, width_of}
 use Rattle.command.proofs.Sound.{sound_exactly, parse_wire}
 
@@ -69,28 +64,23 @@ next_from s at n = case (parse commands (drop at s) 0) refl
         ∙ ap (λ (m : ℕ). nth_of commands m es n) o.0
         ∙ sym (ap (λ (q : Parsed). nth_in commands at q (suc n)) e)
 
--- ---- what a call that answers the command at an index, and the match on it, tell
+-- ---- what a call that answers the command at an index tells
 
-module _ (s : List ℕ) (at : ℕ) (f : Found) (d : found_means f ≡ command_at s at) where
-  pub after_found : (b start len : ℕ) → f ≡ At b start len → (start + len ≤ length s) × (start + len ≡ index_after s at)
+module _ (s : List ℕ) (at : ℕ) where
+  pub after_found : {b start len : ℕ} → result (found b start len) ≡ command_at s at
+      → (start + len ≤ length s) × (start + len ≡ index_after s at)
   unfolding command_at index_after
-  after_found b start len e =
-      let a : command_at s at ≡ result (found b start len) = sym d ∙ ap found_means e in
-      (found_within commands at s 0 b start len a, sym (ap (index_past at) a))
+  after_found {b} {start} {len} e =
+      (found_within commands at s 0 b start len (sym e), ap (index_past at) e)
 
-  pub after_refused : (r : Refusal) → f ≡ Refused r → at ≡ index_after s at
+  pub after_refused : {k : ℕ} → refused k ≡ command_at s at → at ≡ index_after s at
   unfolding index_after
-  after_refused r e = sym (ap (index_past at) (sym d ∙ ap found_means e))
+  after_refused e = ap (index_past at) e
 
-  pub from_found : (n : ℕ) {g : Found} → f ≡ g → n ≡ 0 → found_means g ≡ nth_from s at n
-  unfolding command_at
-  from_found n e z = ap found_means (sym e) ∙ d ∙ ap (nth_from s at) (sym z)
+  pub from_refused : (n : ℕ) {k : ℕ} → refused k ≡ command_at s at → refused k ≡ nth_from s at n
+  from_refused n {k} e = sym (refused_from s at k (sym e) n)
 
-  pub from_refused : (n : ℕ) (r : Refusal) → f ≡ Refused r → refused (number_of r) ≡ nth_from s at n
-  from_refused n r e = sym (refused_from s at (number_of r) (sym d ∙ ap found_means e) n)
-
-pub from_next : (s : List ℕ) (at n next : ℕ) → next ≡ index_after s at → (n ≡ 0 → ⊥)
-    → nth_from s next (n - 1) ≡ nth_from s at n
-from_next s at n next e z =
-    let one : suc (n - 1) ≡ n = omega arith in
-    ap (λ (x : ℕ). nth_from s x (n - 1)) e ∙ next_from s at (n - 1) ∙ ap (nth_from s at) one
+  -- a move, where it is not the last
+  pub from_next : (n left next : ℕ) → next ≡ index_after s at → n ≡ suc left → nth_from s next left ≡ nth_from s at n
+  from_next n left next e z =
+      ap (λ (x : ℕ). nth_from s x left) e ∙ next_from s at left ∙ ap (nth_from s at) (sym z)

@@ -12,15 +12,11 @@ use lib.Seq.{drop-cons, drop-drop, length-take-le}
 use borrow.Author.Tests.{ltb-true, ltb-false, leb-true, leb-false, le-leb, lt-leb}
 use Rattle.lists.specs.Choice.{pick}
 use Rattle.lists.proofs.Cases.{by_bool}
-use Rattle.command.specs.Entries.{entry, entry_bytes, Parsed, unsound, sound, with_entry, parse}
-use Rattle.command.specs.Entries.{parse_counted, head_of, found, nth_of, nth_in, Extent}
+use Rattle.command.specs.Entries.{Entry, entry, entry_bytes, Parsed, unsound, sound, with_entry, parse}
+use Rattle.command.specs.Entries.{parse_counted, head_of, found, nth_of, nth_in}
 use Rattle.answer.specs.Answer.{Answer, result, refused}
 use Rattle.command.specs.Answers.{CountAnswer, entry_count, fails_at, counted}
-use Rattle.command.specs.Steps.{EntryStep, entry_step, step_means, step_at}
-use Rattle.command.specs.Private.{if_sound}
-use Rattle.command.specs.declared.entries.Cursor.{Cursor}
-use Rattle.command.specs.declared.entries.Step.{Step}
-use Rattle.command.specs.declared.entries.Step.TheVariants.{Entry as At}
+use Rattle.command.specs.Steps.{EntryStep, entry_step, step_at}
 
 -- ---- data bytes are passed
 
@@ -128,15 +124,15 @@ stands limit s at b start len next e =
     (λ y. let q : refused 15 ≡ result (entry_step b start len next) = simp y at e in
     let w : ◌≡◌ {A = ℕ} 0 1 = cc in absurd (omega arith))
 
--- ---- what a call of the step and the match on it tell
+-- ---- what the answer of a step tells
 
-module _ (limit : ℕ) (s : List ℕ) (at : ℕ) {x : Step} (p : step_means x ≡ step_at limit s at) where
-  pub told : (y : Step) → x ≡ y → parse limit (drop at s) 0 ≡ parse_after limit s (step_means y)
-  told y q = entry_step_lem limit s at ∙ ap (parse_after limit s) (sym p ∙ ap step_means q)
+module _ (limit : ℕ) (s : List ℕ) (at : ℕ) where
+  pub told : {a : Answer EntryStep} → a ≡ step_at limit s at → parse limit (drop at s) 0 ≡ parse_after limit s a
+  told e = entry_step_lem limit s at ∙ ap (parse_after limit s) (sym e)
 
-  pub told_stands : (b start len : ℕ) (next : Cursor) → x ≡ At b start len next
-      → EntryStands limit s at b start len next.at
-  told_stands b start len next q = stands limit s at b start len next.at (sym p ∙ ap step_means q)
+  pub told_stands : {b start len next : ℕ} → result (entry_step b start len next) ≡ step_at limit s at
+      → EntryStands limit s at b start len next
+  told_stands e = stands limit s at _ _ _ _ (sym e)
 
 -- ---- counting
 
@@ -144,10 +140,6 @@ module _ (limit : ℕ) (s : List ℕ) (at : ℕ) {x : Step} (p : step_means x �
 abbrev pub counted_plus : ℕ → CountAnswer → CountAnswer
 counted_plus n (entry_count k) = entry_count (n + k)
 counted_plus n (fails_at number at) = fails_at number at
-
-pub plus_none : (a : CountAnswer) → counted_plus 0 a ≡ a
-plus_none (fails_at number at) = refl
-plus_none (entry_count k) = ap entry_count (omega arith)
 
 pub count_end : (n at : ℕ) (p : Parsed) → p ≡ sound [] → entry_count n ≡ counted_plus n (counted at p)
 unfolding counted
@@ -157,27 +149,19 @@ pub count_broken : (n at : ℕ) (p : Parsed) → p ≡ unsound 0 → fails_at 7 
 unfolding counted
 count_broken n at p e = sym (ap (λ (x : Parsed). counted_plus n (counted at x)) e ∙ ap (fails_at 7) (add-zero at))
 
-pub sound_unsound : (from : ℕ) (p : Parsed) (a : Answer Extent) (at : ℕ) → counted from p ≡ fails_at 7 at
-    → refused 7 ≡ if_sound p a
-unfolding counted if_sound
-sound_unsound from (unsound k) a at e = refl
-sound_unsound from (sound es) a at e = let w : ◌≡◌ {A = ℕ} 0 1 = cc in absurd (omega arith)
+-- entries that were counted are sound, and those that were not are not
+counted_sound : (from : ℕ) (p : Parsed) (k : ℕ) → entry_count k ≡ counted from p → (es : List Entry) × (p ≡ sound es)
+unfolding counted
+counted_sound from (unsound i) k e = let w : ◌≡◌ {A = ℕ} 0 1 = cc in absurd (omega arith)
+counted_sound from (sound es) k e = (es, refl)
 
-pub sound_sound : (from : ℕ) (p : Parsed) (a : Answer Extent) (n : ℕ) → counted from p ≡ entry_count n
-    → a ≡ if_sound p a
-unfolding counted if_sound
-sound_sound from (unsound k) a n e = let w : ◌≡◌ {A = ℕ} 0 1 = cc in absurd (omega arith)
-sound_sound from (sound es) a n e = refl
+counted_unsound : (from : ℕ) (p : Parsed) (number at : ℕ) → fails_at number at ≡ counted from p
+    → (i : ℕ) × (p ≡ unsound i)
+unfolding counted
+counted_unsound from (unsound i) number at e = (i, refl)
+counted_unsound from (sound es) number at e = let w : ◌≡◌ {A = ℕ} 0 1 = cc in absurd (omega arith)
 
 -- ---- the n-th entry
-
-pub nth_end : (limit at : ℕ) (p : Parsed) (n : ℕ) → p ≡ sound [] → refused 15 ≡ nth_in limit at p n
-unfolding nth_in nth_of
-nth_end limit at p n e = sym (ap (λ (x : Parsed). nth_in limit at x n) e)
-
-pub nth_broken : (limit at : ℕ) (p : Parsed) (n : ℕ) → p ≡ unsound 0 → refused 7 ≡ nth_in limit at p n
-unfolding nth_in
-nth_broken limit at p n e = sym (ap (λ (x : Parsed). nth_in limit at x n) e)
 
 module _ {limit : ℕ} {s : List ℕ} {at b start len next : ℕ} (t : EntryStands limit s at b start len next) where
   data_length : length (take len (drop start s)) ≡ len
@@ -202,21 +186,31 @@ module _ {limit : ℕ} {s : List ℕ} {at b start len next : ℕ} (t : EntryStan
   count_more n p (sound es) e =
       ap entry_count (omega arith) ∙ sym (ap (λ (x : Parsed). counted_plus n (counted at x)) e)
 
-  pub nth_found : (p q : Parsed) (n : ℕ) → p ≡ with_entry limit (entry b (take len (drop start s))) q → n ≡ 0
-      → if_sound q (result (found b start len)) ≡ nth_in limit at p n
-  unfolding with_entry nth_in nth_of if_sound
-  nth_found p (unsound k) n e z = sym (ap (λ (x : Parsed). nth_in limit at x n) e)
-  nth_found p (sound es) n e z =
+  -- it is the n-th where none is left to pass, and where the entries after it are sound
+  pub nth_found : (p q : Parsed) (n k : ℕ) → p ≡ with_entry limit (entry b (take len (drop start s))) q → n ≡ 0
+      → entry_count k ≡ counted next q → result (found b start len) ≡ nth_in limit at p n
+  unfolding with_entry nth_in nth_of
+  nth_found p q n k e z c =
+      let h = counted_sound next q k c in
       ap (λ (x : ℕ). result (found b x len)) t.head
       ∙ ap (λ (x : ℕ). result (found b (at + head_of limit b) x)) (sym data_length)
-      ∙ sym (ap (λ (x : Parsed). nth_in limit at x n) e ∙ ap (nth_of limit at (entry b (take len (drop start s)) ∷ es)) z)
+      ∙ sym (ap (λ (x : Parsed). nth_in limit at x n)
+      (e ∙ ap (with_entry limit (entry b (take len (drop start s)))) h.1)
+      ∙ ap (nth_of limit at (entry b (take len (drop start s)) ∷ h.0)) z)
 
-  pub nth_more : (p q : Parsed) (n : ℕ) → p ≡ with_entry limit (entry b (take len (drop start s))) q → (n ≡ 0 → ⊥)
-      → nth_in limit next q (n - 1) ≡ nth_in limit at p n
+  pub nth_unsound : (p q : Parsed) (n number i : ℕ) → p ≡ with_entry limit (entry b (take len (drop start s))) q
+      → fails_at number i ≡ counted next q → refused 7 ≡ nth_in limit at p n
+  unfolding with_entry nth_in
+  nth_unsound p q n number i e c =
+      let h = counted_unsound next q number i c in
+      sym (ap (λ (x : Parsed). nth_in limit at x n)
+      (e ∙ ap (with_entry limit (entry b (take len (drop start s)))) h.1))
+
+  pub nth_more : (p q : Parsed) (n left : ℕ) → p ≡ with_entry limit (entry b (take len (drop start s))) q
+      → n ≡ suc left → nth_in limit next q left ≡ nth_in limit at p n
   unfolding with_entry nth_in nth_of
-  nth_more p (unsound k) n e z = sym (ap (λ (x : Parsed). nth_in limit at x n) e)
-  nth_more p (sound es) zero e z = absurd (z refl)
-  nth_more p (sound es) (suc n) e z =
-      let one : suc n - 1 ≡ n = omega arith in
-      ap (nth_of limit next es) one ∙ ap (λ (x : ℕ). nth_of limit x es n) (sym width)
-      ∙ sym (ap (λ (x : Parsed). nth_in limit at x (suc n)) e)
+  nth_more p (unsound k) n left e z = sym (ap (λ (x : Parsed). nth_in limit at x n) e)
+  nth_more p (sound es) n left e z =
+      ap (λ (x : ℕ). nth_of limit x es left) (sym width)
+      ∙ sym (ap (λ (x : Parsed). nth_in limit at x n) e
+      ∙ ap (nth_of limit at (entry b (take len (drop start s)) ∷ es)) z)

@@ -1,3 +1,4 @@
+pub mod Errors
 pub mod EntryLaws
 pub mod Sound
 pub mod Extents

@@ -1,63 +1,22 @@
 -- Laws of a part of a slice: its bytes, and where it stands.
-use Prim.Native.Nat.{ℕ, ◌+◌, ◌-◌, ◌≤◌, ◌<◌}
+use Prim.Native.Nat.{ℕ, ◌+◌}
 use mathlib.Core.Path.{◌≡◌, sym, ap, ◌∙◌, subst}
-use mathlib.Core.List.{List, []}
+use mathlib.Core.List.{List}
 use native.Mathlib.Omega.{arith}
-use lib.ListN.{length, take, drop, length-drop, drop_of_length-le}
-use lib.Seq.{take_all, take-nil}
+use lib.ListN.{length}
 use denote.Ref.{Bor}
-use borrow.Author.Tests.{le-leb, lt-leb}
+use borrow.Author.Tests.{le-leb}
 use Rattle.lists.specs.Choice.{Exactly}
 use Rattle.answer.specs.Answer.{Answer, result, refused}
-use Rattle.answer.specs.declared.Refusal.{Refusal}
 use Rattle.command.specs.Entries.{Extent, found}
-use Rattle.command.specs.Answers.{found_means, part_of, InContents}
+use Rattle.command.specs.Answers.{part_of, InContents}
 use Rattle.command.specs.Parts.{StandsAt, place_in, start_of, IsData}
-use Rattle.command.specs.declared.entries.Found.{Found}
-use Rattle.command.specs.declared.entries.Found.TheVariants.{At, Refused}
-
--- ---- the bytes, as far as the list goes
-
-pub part_past : (s : List ℕ) (start len : ℕ) → length s ≤ start → [] ≡ take len (drop start s)
-part_past s start len h = sym (ap (take len) (drop_of_length-le s h) ∙ take-nil len)
-
-pub part_rest : (s : List ℕ) (start len : ℕ) → length s - start ≤ len
-    → take (length s - start) (drop start s) ≡ take len (drop start s)
-part_rest s start len h =
-    let l = length-drop start s in
-    take_all (length s - start) (drop start s) (omega arith) ∙ sym (take_all len (drop start s) (omega arith))
-
-pub part_whole : (s : List ℕ) (start len : ℕ) → take (start + len - start) (drop start s) ≡ take len (drop start s)
-part_whole s start len = let n : start + len - start ≡ len = omega arith in ap (λ (k : ℕ). take k (drop start s)) n
-
--- ---- the place
-
-pub placed : (s : List ℕ) (at from : ℕ) → at ≤ length s → at + from ≡ place_in s at + from
-placed s at from h = simp (le-leb at (length s) h)
-
-pub past_placed : (s : List ℕ) (at from : ℕ) → length s < at → from ≡ place_in s at + from
-past_placed s at from h = simp (lt-leb at (length s) h) (omega arith)
 
 -- ---- the part that an answer names
 
 start_within : (s : List ℕ) (a : Answer Extent) → InContents s a → start_of a ≡ place_in s (start_of a)
 start_within s (result (found b start len)) w = simp (le-leb start (length s) (omega (arith, w)))
 start_within s (refused n) w = simp (le-leb 0 (length s) (omega arith))
-
--- an answer that was taken apart: the part that is cut for it, and the beginning for a refusal
-pub named : {s r : Bor (List ℕ)} {f : Found} (start len b : ℕ) → f ≡ At b start len
-    → StandsAt s r (place_in s.now start) (take len (drop start s.now))
-    → StandsAt s r (place_in s.now (start_of (found_means f))) (part_of s.now (found_means f))
-named {s = s} {r = r} start len b e k =
-    subst (λ (x : Found). StandsAt s r (place_in s.now (start_of (found_means x))) (part_of s.now (found_means x)))
-    (sym e) k
-
-pub unnamed : {s r : Bor (List ℕ)} {f : Found} (why : Refusal) → f ≡ Refused why → StandsAt s r 0 []
-    → StandsAt s r (place_in s.now (start_of (found_means f))) (part_of s.now (found_means f))
-unnamed {s = s} {r = r} why e k =
-    subst (λ (x : Found). StandsAt s r (place_in s.now (start_of (found_means x))) (part_of s.now (found_means x)))
-    (sym e)
-    (record { holds = k.holds; block = k.block; place = k.place ∙ placed s.now 0 s.ref_ptr.1 (omega arith) })
 
 -- What is known of an answer by its meaning is known of its data.
 pub is_data : {s r : Bor (List ℕ)} {a b : Answer Extent}

@@ -13,10 +13,12 @@ use Rattle.lists.specs.Choice.{Exactly}
 use Rattle.lists.proofs.Cases.{by_bool}
 use Rattle.answer.specs.Answer.{Answer, result, refused}
 use Rattle.command.specs.Entries.{Entry, entry, commands, entry_bytes, list_bytes, WellFormed, head_of, Extent}
+use Rattle.command.specs.Entries.{Parsed, parse, nth_of, nth_in}
 use Rattle.command.specs.Steps.{EntryStep, entry_step, step_at}
 use Rattle.command.specs.Traversal.{command_at, index_past, index_after}
 use Rattle.command.specs.Table.{FailsFirst, no_count, beyond_end, Steps, at_end, fails_there, stands_there}
 use Rattle.command.specs.Table.{Nth, bad_count, absent, present, Moves, past, stays}
+use Rattle.command.proofs.EntryLaws.{told}
 use Rattle.command.proofs.Extents.{width_of}
 use Rattle.command.proofs.Table.{counted_bytes, short_bytes, nth_by_table}
 
@@ -147,3 +149,16 @@ move_by_table s at i = (
       subst (λ (x : ℕ). Moves s at x) (sym (line_move s at l.0 l.1) ∙ e) l.1),
   line_move s at i,
 )
+
+-- ---- the n-th entry
+
+-- Where a step is refused, the n-th entry from there on is refused alike.
+pub nth_refused : (limit : ℕ) (s : List ℕ) (at n : ℕ) {k : ℕ} → refused k ≡ step_at limit s at
+    → refused k ≡ nth_in limit at (parse limit (drop at s) 0) n
+unfolding nth_in nth_of
+nth_refused limit s at n {k} e = alike ((step_by_table limit s at (refused k)).0 (sym e)) e
+  where
+    alike : {k : ℕ} → Steps limit s at (refused k) → refused k ≡ step_at limit s at
+        → refused k ≡ nth_in limit at (parse limit (drop at s) 0) n
+    alike (at_end h) e = sym (ap (λ (x : Parsed). nth_in limit at x n) (told limit s at e))
+    alike (fails_there f) e = sym (ap (λ (x : Parsed). nth_in limit at x n) (told limit s at e))

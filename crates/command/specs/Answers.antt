@@ -1,17 +1,16 @@
 -- What each case of an answer means, in document 01's numbers.
-use Rattle.std.specs.Prelude.{ℕ, ◌+◌, ◌≤◌, List, [], length, take, drop}
+use Rattle.std.specs.Prelude.{ℕ, ◌+◌, ◌≤◌, List, [], length, take, drop, Result, Ok, Err}
 use Rattle.answer.specs.Answer.{Answer, result, refused}
 use Rattle.answer.specs.Refusals.{number_of}
+use Rattle.answer.specs.declared.Refusal.{Refusal}
 use Rattle.answer.specs.declared.Refusal.TheVariants.{BadCount}
 use Rattle.command.specs.Entries.{Parsed, unsound, sound, Extent, found}
-use Rattle.command.specs.declared.entries.Found.{Found}
-use Rattle.command.specs.declared.entries.Found.TheVariants.{At, Refused}
-use Rattle.command.specs.declared.entries.Counted.{Counted}
-use Rattle.command.specs.declared.entries.Counted.TheVariants.{Unsound, Entries}
+use Rattle.command.specs.declared.entries.Entry.{Entry}
+use Rattle.command.specs.declared.entries.Unsound.{Unsound}
 
-abbrev pub found_means : Found → Answer Extent
-found_means (At b start len) = result (found b start len)
-found_means (Refused why) = refused (number_of why)
+abbrev pub found_means : Result Entry Refusal → Answer Extent
+found_means (Ok e) = result (found e.byte e.start e.len)
+found_means (Err why) = refused (number_of why)
 
 -- The part of the contents that an answer names, none for a refusal.
 abbrev pub part_of : List ℕ → Answer Extent → List ℕ
@@ -29,9 +28,9 @@ pub data CountAnswer : Type 0 where
   entry_count : (n : ℕ) → CountAnswer
   fails_at : (number at : ℕ) → CountAnswer
 
-abbrev pub counted_means : Counted → CountAnswer
-counted_means (Unsound at) = fails_at (number_of BadCount) at
-counted_means (Entries n) = entry_count n
+abbrev pub counted_means : Result ℕ Unsound → CountAnswer
+counted_means (Ok n) = entry_count n
+counted_means (Err u) = fails_at (number_of BadCount) u.at
 
 -- How many entries there are, the first of them at index `from`; or 7 and the index of the entry whose count is missing
 -- or goes beyond the end.

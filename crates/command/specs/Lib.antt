@@ -6,4 +6,3 @@ pub mod Steps
 pub mod Traversal
 pub mod Table
 pub mod Stop
-pub mod Private

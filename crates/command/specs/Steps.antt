@@ -1,20 +1,27 @@
 -- The entry at an index: what one step of a cursor answers.
-use Rattle.std.specs.Prelude.{ℕ, ◌+◌, ◌-◌, List, leb, ltb, length, get_or}
+use Rattle.std.specs.Prelude.{ℕ, ◌+◌, ◌-◌, List, leb, ltb, length, get_or, Option, Some, None, Result, Ok, Err}
 use Rattle.lists.specs.Choice.{pick}
 use Rattle.answer.specs.Answer.{Answer, result, refused}
 use Rattle.answer.specs.Refusals.{number_of}
+use Rattle.answer.specs.declared.Refusal.{Refusal}
 use Rattle.answer.specs.declared.Refusal.TheVariants.{BadCount, Absent}
-use Rattle.command.specs.declared.entries.Step.{Step}
-use Rattle.command.specs.declared.entries.Step.TheVariants.{End, Broken, Entry}
+use Rattle.command.specs.declared.entries.Cursor.{Cursor}
+use Rattle.command.specs.declared.entries.Entry.{Entry}
+use Rattle.command.specs.declared.entries.Unsound.{Unsound}
 
 -- An entry's byte, the index at which its data starts, how long that is, and the index after it.
 pub data EntryStep : Type 0 where
   entry_step : (byte start len next : ℕ) → EntryStep
 
-abbrev pub step_means : Step → Answer EntryStep
-step_means End = refused (number_of Absent)
-step_means Broken = refused (number_of BadCount)
-step_means (Entry b start len next) = result (entry_step b start len next.at)
+abbrev pub step_means : Result (Option (Entry × Cursor)) Unsound → Answer EntryStep
+step_means (Ok None) = refused (number_of Absent)
+step_means (Ok (Some p)) = result (entry_step p.0.byte p.0.start p.0.len p.1.at)
+step_means (Err u) = refused (number_of BadCount)
+
+-- The same, where there being no entry is a refusal too.
+abbrev pub entry_means : Result (Entry × Cursor) Refusal → Answer EntryStep
+entry_means (Ok p) = result (entry_step p.0.byte p.0.start p.0.len p.1.at)
+entry_means (Err why) = refused (number_of why)
 
 -- The entry at an index of the bytes: 15 at the end and past it, 7 where its count is missing or goes beyond the end.
 -- That steps are the entries of `parse` is a law, `entry_step_lem`.

@@ -1,8 +1,9 @@
 -- Contents that stop a workout (document 01, "Listing": what `stop=yes` means): a sound command list in which a 76
 -- wrapper, itself sound, holds command 13 with data 01 02.
 use Rattle.std.specs.Prelude.{◌≡◌, Bool, true, false, List, [], ◌∷◌, ℕ, eqb}
+use Rattle.std.specs.Borrow.{Bor}
 use Rattle.lists.specs.Choice.{pick}
-use Rattle.command.specs.Entries.{Entry, commands, Parsed, unsound, sound, parse}
+use Rattle.command.specs.Entries.{Entry, entry, commands, Parsed, unsound, sound, parse}
 use Rattle.command.specs.Table.{SoundList}
 
 -- ---- as a test
@@ -35,6 +36,10 @@ stops_within e = pick (eqb e.byte 0x76) (any_in terminates (parse commands e.bod
 -- An entry of the top list is such a wrapper.
 unfoldable pub stops_workout : List ℕ → Bool
 stops_workout contents = any_in stops_within (parse commands contents 0)
+
+-- A test of an entry's byte and of its data, a lent slice, that answers as a test of the entry does.
+abbrev pub AnswersAs : (ℕ → Bor (List ℕ) → Bool → Type 0) → (Entry → Bool) → Type 0
+AnswersAs answered p = (byte : ℕ) (body : Bor (List ℕ)) (r : Bool) → answered byte body r → r ≡ p (entry byte body.now)
 
 -- ---- as document 01 says it, without the definitions of the test
 

@@ -6,20 +6,21 @@ ghost use Rattle.command.specs.Parts.{IsData};
 ghost use Rattle.command.specs.Commands.{nth_command};
 ghost use Rattle.command.specs.Traversal.{command_at, index_after};
 
-use crate::entries::Found;
+use crate::entries::Entry;
 use crate::traversal;
+use answer::Refusal;
 
 // A list of commands, a frame's contents or a wrapper's data, and an index in it. Every index has an answer.
-#[derive(Clone, Copy)]
+#[derive(Clone, Copy, Debug, PartialEq, Eq)]
 pub struct CommandCursor<'a> {
     pub contents: &'a [u8],
     pub at: usize,
 }
 
 // What one step tells: the command at an index, and the index after it, or the same index where the command is refused.
-#[derive(Clone, Copy)]
+#[derive(Clone, Copy, Debug, PartialEq, Eq)]
 pub struct CommandStep {
-    pub found: Found,
+    pub found: Result<Entry, Refusal>,
     pub next: usize,
 }
 
@@ -32,7 +33,7 @@ impl<'a> CommandCursor<'a> {
     }
 
     // The command at its index. The counts from there on are checked first. Refusals 7 and 15.
-    pub fn command(self) -> Found
+    pub fn command(self) -> Result<Entry, Refusal>
         ensures { found_means result ≡ command_at self.entry.contents.now self.entry.at }
     {
         traversal::command_at(self.contents, self.at)
@@ -52,10 +53,7 @@ impl<'a> CommandCursor<'a> {
             × (result.at ≡ index_after self.entry.contents.now self.entry.at) }
     {
         let at = traversal::index_after(self.contents, self.at);
-        CommandCursor {
-            contents: self.contents,
-            at,
-        }
+        CommandCursor { at, ..self }
     }
 }
 
@@ -65,34 +63,21 @@ pub fn step_from(contents: &[u8], at: usize) -> CommandStep
         × (result.next ≡ index_after contents.now at) }
 {
     let here = CommandCursor { contents, at };
-    let found = CommandCursor::command(here);
-    let there = CommandCursor::advanced(here);
     CommandStep {
-        found,
-        next: there.at,
+        found: here.command(),
+        next: here.advanced().at,
     }
 }
 
 // The n-th command, by the steps of a cursor from the first on. Refusals 7 and 15.
-pub fn nth_by_steps(contents: &[u8], n: usize) -> Found
+pub fn nth_by_steps(contents: &[u8], n: usize) -> Result<Entry, Refusal>
     ensures { found_means result ≡ nth_command contents.now n }
 {
-    let mut at: usize = 0;
-    let mut left = n;
-    loop {
+    let mut at = 0;
+    for _ in 0..n {
         let step = step_from(contents, at);
-        let found = step.found;
-        match found {
-            Found::At { byte, start, len } => {
-                if left == 0 {
-                    return Found::At { byte, start, len };
-                }
-                left = left - 1;
-                at = step.next;
-            }
-            Found::Refused(why) => {
-                return Found::Refused(why);
-            }
-        }
+        step.found?;
+        at = step.next;
     }
+    step_from(contents, at).found
 }

@@ -1,11 +1,10 @@
 // Whether contents stop a workout, the question that the listing's `stop=yes` answers (document 01, "Listing").
-ghost use Rattle.std.specs.Prelude.{◌≡◌, take, drop};
-ghost use Rattle.command.specs.Entries.{commands, entry, parse};
-ghost use Rattle.command.specs.Stop.{any_in, is_one_two, stops_workout};
-ghost use Rattle.command.specs.Private.{passes};
+ghost use Rattle.std.specs.Prelude.{◌≡◌, Bool};
+ghost use Rattle.command.specs.Entries.{Entry, commands, entry, parse};
+ghost use Rattle.command.specs.Stop.{any_in, stops_within, stops_workout, terminates, AnswersAs};
 
 use crate::entries;
-use crate::entries::{Cursor, Step};
+use crate::entries::Cursor;
 
 // The wrapper in which the command counts.
 const WRAPPER: u8 = 0x76;
@@ -15,87 +14,44 @@ const TERMINATE: u8 = 0x13;
 // An unsound list holds nothing, whatever stands before the count that is unsound.
 const IN_UNSOUND: bool = false;
 
-// What is sought in a list: in the top list a wrapper that holds the command, in a wrapper's list the command.
-#[derive(Clone, Copy)]
-enum Sought {
-    Wrapper,
-    Terminate,
-}
-
 // Whether a 76 wrapper of the top list holds command 13 with data 01 02. Both lists have to be sound.
 pub fn stops_workout(contents: &[u8]) -> bool
     ensures { result ≡ stops_workout contents.now }
 {
-    holds(Sought::Wrapper, contents)
+    any(contents, stops_within)
 }
 
-// Whether a sound list has an entry that is sought. The list is read to its end, since a later count that is unsound
-// makes the answer no.
-#[cycle(holds_is_sought)]
-fn holds(sought: Sought, list: &[u8]) -> bool
-    ensures { result ≡ any_in (passes sought) (parse commands list.now 0) }
+// Whether an entry of the top list is a wrapper that holds the command. No byte of its list is a wrapper.
+fn stops_within(byte: u8, body: &[u8]) -> bool
+    ensures { result ≡ stops_within (entry byte body.now) }
+{
+    byte == WRAPPER && any(body, terminates)
+}
+
+// Whether an entry of a wrapper's list is the command.
+fn terminates(byte: u8, body: &[u8]) -> bool
+    ensures { result ≡ terminates (entry byte body.now) }
+{
+    byte == TERMINATE && body == [0x01, 0x02].as_slice()
+}
+
+// Whether a sound list has an entry that passes a test of its byte and its data. The list is read to its end, since a
+// later count that is unsound makes the answer no.
+fn any<F: Fn(u8, &[u8]) -> bool>(list: &[u8], test: F) -> bool
+    requires { F.IsAlwaysCallable test }
+    ensures { (p : Entry → Bool) → AnswersAs (F.post test) p → result ≡ any_in p (parse commands list.now 0) }
 {
     let mut cursor = Cursor { at: 0 };
     let mut is_found = false;
+    // Stays a loop: an iterator would be a second walk beside that of `step_calls` (docs/PROOFS.md), and no shorter.
     loop {
-        let step = cursor.step(entries::COMMANDS, list);
-        match step {
-            Step::End => {
-                return is_found;
-            }
-            Step::Broken => {
-                return IN_UNSOUND;
-            }
-            Step::Entry {
-                byte,
-                start,
-                len,
-                next,
-            } => {
-                if is_sought(sought, byte, list, start, len) {
-                    is_found = true;
-                }
+        match cursor.step(entries::COMMANDS, list) {
+            Ok(Some((entry, next))) => {
+                is_found = is_found || test(entry.byte, entry.data(list));
                 cursor = next;
             }
+            Ok(None) => return is_found,
+            Err(_) => return IN_UNSOUND,
         }
     }
-}
-
-// Whether an entry of a list is what is sought. Its data is looked at only where its byte is right. A wrapper's list is
-// read by the loop that reads the top list.
-#[cycle(holds_is_sought)]
-fn is_sought(sought: Sought, byte: u8, list: &[u8], start: usize, len: usize) -> bool
-    ensures { result ≡ passes sought (entry byte (take len (drop start list.now))) }
-{
-    match sought {
-        Sought::Wrapper => {
-            if byte != WRAPPER {
-                return false;
-            }
-            let body = entries::part(list, start, len);
-            holds(Sought::Terminate, body)
-        }
-        Sought::Terminate => {
-            if byte != TERMINATE {
-                return false;
-            }
-            let body = entries::part(list, start, len);
-            is_one_two(body)
-        }
-    }
-}
-
-fn is_one_two(s: &[u8]) -> bool
-    ensures { result ≡ is_one_two s.now }
-{
-    if s.len() != 2 {
-        return false;
-    }
-    if s[0] != 0x01 {
-        return false;
-    }
-    if s[1] != 0x02 {
-        return false;
-    }
-    true
 }

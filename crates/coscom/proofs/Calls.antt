@@ -12,14 +12,16 @@ use Rattle.lists.specs.Choice.{Exactly}
 use Rattle.lists.proofs.Cases.{exactly}
 use Rattle.answer.specs.Answer.{Answer, result, refused}
 use Rattle.answer.specs.Draft.{Writes, written_means}
-use Rattle.answer.specs.declared.Written.{Written}
+use Rattle.std.specs.Prelude.{Result}
+use Rattle.answer.specs.declared.Refusal.{Refusal}
 use Rattle.coscom.specs.Flags.{candidate_of}
 use Rattle.coscom.specs.Packet.{Packet, packet, wire_of}
 use Rattle.coscom.specs.Verdict.{Verdict, verdict}
 use Rattle.coscom.specs.Answers.{PacketOutline, outline_of, packet_draft, read_means, judge_answer, Reads, left_in}
 use Rattle.coscom.specs.Answers.{packet_read}
 use Rattle.coscom.specs.Conditions.{Sound, SoundPacket, Judged, ReadJudged, Proper, WriteJudged}
-use Rattle.coscom.specs.declared.Read.{Read}
+use Rattle.coscom.specs.declared.Header.{Header}
+use Rattle.coscom.specs.declared.Outline.{Outline}
 use Rattle.coscom.proofs.CodeLaws.{left_whole}
 use Rattle.coscom.proofs.Table as table
 use Rattle.coscom.proofs.RoundTrip as trip
@@ -31,21 +33,20 @@ use Rattle.coscom.proofs.judge_array.Reads as judge-array-reads
 
 -- A call that writes a packet: its answer, and the output before and after.
 pub data CalledWrite : Packet → (out : List ℕ) → Answer ℕ → (last : List ℕ) → Type 0 where
-  wrote : {letter tens ones : ℕ} (r : Written) (κs : Lfts 2) (unit : Bor (List ℕ)) (out out' : MutBor (List ℕ))
-      → write-packet-reads.Learnt κs (letter, (tens, (ones, (unit, (out, tt))))) r
-      (letter, (tens, (ones, (unit, (out', tt)))))
-      → CalledWrite (packet letter tens ones unit.now) out.now (written_means r) out'.now
+  wrote : (r : Result ℕ Refusal) (κs : Lfts 2) (header : Header) (unit : Bor (List ℕ)) (out out' : MutBor (List ℕ))
+      → write-packet-reads.Learnt κs (header, (unit, (out, tt))) r (header, (unit, (out', tt)))
+      → CalledWrite (packet header.letter header.tens header.ones unit.now) out.now (written_means r) out'.now
 
 -- A call that reads a slice: its answer, and the output before and after.
 pub data CalledRead : (w out : List ℕ) → Answer PacketOutline → (last : List ℕ) → Type 0 where
-  read_slice : (r : Read) (κs : Lfts 2) (wire : Bor (List ℕ)) (out out' : MutBor (List ℕ))
+  read_slice : (r : Result Outline Refusal) (κs : Lfts 2) (wire : Bor (List ℕ)) (out out' : MutBor (List ℕ))
       → read-packet-reads.Learnt κs (wire, (out, tt)) r (wire, (out', tt))
       → CalledRead wire.now out.now (read_means r) out'.now
 
 -- Each answers and leaves what the definitions say.
 pub call_writes : {p : Packet} {out last : List ℕ} {a : Answer ℕ} → CalledWrite p out a last
     → Writes (packet_draft p) out a last
-call_writes (wrote r κs unit out out' e) = e
+call_writes (wrote r κs header unit out out' e) = e
 
 pub call_reads : {w out last : List ℕ} {a : Answer PacketOutline} → CalledRead w out a last → Reads w out a last
 call_reads (read_slice r κs wire out out' e) = e
@@ -110,7 +111,7 @@ unfolding judge_answer left_in
 left_as (refused m) s n e = refl
 left_as (result p) s n e = let z : ◌≡◌ {A = ℕ} 0 1 = cc in absurd (omega arith)
 
-module _ (κs : Lfts 1) (ρ ρ' : MutBor (List ℕ)) (len : ℕ) (r : Read)
+module _ (κs : Lfts 1) (ρ ρ' : MutBor (List ℕ)) (len : ℕ) (r : Result Outline Refusal)
     (k : judge-array-reads.Learnt κs (ρ, (len, tt)) r (ρ', (len, tt))) where
   abbrev judged : Verdict
   judged = verdict (candidate_of (take len ρ.now))

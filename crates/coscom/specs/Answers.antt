@@ -1,14 +1,14 @@
 -- What each case of an answer means, in the papers' numbers, and what each public function answers and leaves in the
 -- slice that it is lent.
-use Rattle.std.specs.Prelude.{ℕ, ◌≡◌, List, ◌++◌, leb, length, take, drop}
+use Rattle.std.specs.Prelude.{ℕ, ◌≡◌, List, ◌++◌, leb, length, take, drop, Result, Ok, Err}
 use Rattle.lists.specs.Choice.{pick}
 use Rattle.answer.specs.Answer.{Answer, result, refused, through}
 use Rattle.answer.specs.Draft.{Draft, draft_out}
 use Rattle.answer.specs.Refusals.{number_of}
+use Rattle.answer.specs.declared.Refusal.{Refusal}
 use Rattle.coscom.specs.Packet.{Packet, packet, is_proper, wire_of}
 use Rattle.coscom.specs.Verdict.{Verdict, verdict}
-use Rattle.coscom.specs.declared.Read.{Read}
-use Rattle.coscom.specs.declared.Read.TheVariants.{Packet as PacketRead, Refused}
+use Rattle.coscom.specs.declared.Outline.{Outline}
 
 -- ---- writing
 
@@ -28,9 +28,9 @@ pub record PacketOutline : Type 0 where
 abbrev pub outline : (letter tens ones len : ℕ) → PacketOutline
 outline letter tens ones len = record { letter = letter; tens = tens; ones = ones; len = len }
 
-abbrev pub read_means : Read → Answer PacketOutline
-read_means (PacketRead letter tens ones len) = result (outline letter tens ones len)
-read_means (Refused why) = refused (number_of why)
+abbrev pub read_means : Result Outline Refusal → Answer PacketOutline
+read_means (Ok o) = result (outline o.header.letter o.header.tens o.header.ones o.len)
+read_means (Err why) = refused (number_of why)
 
 abbrev pub outline_of : Packet → PacketOutline
 outline_of p = outline p.letter p.tens p.ones (length p.unit)

@@ -7,7 +7,7 @@ use Rattle.coscom_line.specs.Outcome.{Summary, told_means}
 use Rattle.coscom_line.specs.Reader.{lent_reader, finish_of, LentStepIs}
 use Rattle.coscom_line.specs.Chunk.{ChunkTurn, chunk_of, ChunkStepIs}
 use Rattle.coscom_line.specs.declared.LineReader.{LineReader}
-use Rattle.coscom_line.specs.declared.State.{State}
+use Rattle.framing.specs.declared.Held.{Held}
 use Rattle.coscom_line.specs.declared.LentStep.{LentStep}
 use Rattle.coscom_line.specs.declared.ChunkStep.{ChunkStep}
 use Rattle.coscom_line.proofs.OutcomeLaws.{chunk_len}
@@ -18,12 +18,12 @@ use Rattle.coscom_exports.specs.LineAnswers.{fed_to, finished, FedAs, FinishedAs
 use Rattle.coscom_exports.proofs.LineStateLaws.{state_tells}
 use Rattle.coscom_exports.proofs.ToldLaws.{chunk_tells, finish_tells}
 
-module _ (bytes input left : List ℕ) (before : State) (s : ChunkStep)
+module _ (bytes input left : List ℕ) (before : Held (Unit {0})) (s : ChunkStep)
     (is : ChunkStepIs left s (chunk_of (lent_reader bytes before) input)) where
   -- the length that is left has room in the state's number
   pub fed_len_fits : (n : ℕ) → n < 2 ^ 64 → before ≡ state_in n → s.state.len < 2 ^ 62
   fed_len_fits n h e =
-      let l : before.len ≡ n / 4 = ap (λ (x : State). x.len) e in
+      let l : before.len ≡ n / 4 = ap (λ (x : Held (Unit {0})). x.len) e in
       subst (λ (u : LineReader). u.state.len < 2 ^ 62) (sym is.next_is)
       (chunk_len (2 ^ 62) (omega arith) (lent_reader bytes before) input (omega (arith, h, l)))
 
@@ -34,7 +34,7 @@ module _ (bytes input left : List ℕ) (before : State) (s : ChunkStep)
   pub fed_as : (answer n₀ n : ℕ) → before ≡ state_in n₀ → n ≡ packed_state s.state
       → Tells answer (line_fields (told_means s.told)) → FedAs answer left n s.taken (fed_to bytes n₀ input)
   fed_as answer n₀ n e es t =
-      subst (λ (x : State). FedAs answer left n s.taken (chunk_of (lent_reader bytes x) input)) e
+      subst (λ (x : Held (Unit {0})). FedAs answer left n s.taken (chunk_of (lent_reader bytes x) input)) e
       (record {
         answered = subst (λ (h : Summary). Tells answer (line_fields h)) is.told_is t;
         bytes_left = ap (λ (u : LineReader). u.bytes) is.next_is;
@@ -42,7 +42,7 @@ module _ (bytes input left : List ℕ) (before : State) (s : ChunkStep)
         count = is.taken_is;
       })
 
-module _ (before : State) (s : LentStep)
+module _ (before : Held (Unit {0})) (s : LentStep)
     (is : (bytes : List ℕ) → LentStepIs bytes s (finish_of (lent_reader bytes before))) where
   pub finish_len : s.state.len ≡ 0
   finish_len = ap (λ (u : LineReader). u.state.len) (is []).next_is
@@ -55,7 +55,7 @@ module _ (before : State) (s : LentStep)
       → (bytes : List ℕ) → FinishedAs answer n (finished bytes n₀)
   finished_as answer n₀ n e es t bytes =
       let k = is bytes in
-      subst (λ (x : State). FinishedAs answer n (finish_of (lent_reader bytes x))) e
+      subst (λ (x : Held (Unit {0})). FinishedAs answer n (finish_of (lent_reader bytes x))) e
       (record {
         answered = subst (λ (h : Summary). Tells answer (line_fields h)) k.told_is t;
         state_left = es ∙ ap (λ (u : LineReader). packed_state u.state) k.next_is;

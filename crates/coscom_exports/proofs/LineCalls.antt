@@ -33,7 +33,7 @@ use Rattle.coscom_line.proofs.ChunkLaws.{takes_to_answer, takes_first}
 use Rattle.coscom_line.proofs.Follows.{as_new_follows}
 use Rattle.coscom_line.proofs.WrittenTold.{reference_told_packet, demanded_judged}
 use Rattle.coscom_line.proofs.Consequences.{run_never_1, left_new, left_closed}
-use Rattle.coscom_line.specs.declared.State.{State}
+use Rattle.framing.specs.declared.Held.{Held}
 use Rattle.coscom_line.specs.declared.LineReader.{LineReader}
 use Rattle.coscom_exports.specs.LineState.{LentLine, lent_line, new_line, reader_in, reader_of}
 use Rattle.coscom_exports.specs.LineAnswers.{fed_to, FedAs}
@@ -174,7 +174,7 @@ module _ (l last : LentLine) (calls : List Call) (outcomes : List Outcome) (h : 
       ap (λ (r : LineReader). r.state)
       ((exported_singly k).state_is ∙ left_append next_after (reader_of l) calls (finish ∷ [])) in (
         left_new (reader_of l) (reader_of last) calls outcomes h (exported_singly k),
-        new_zero last.state (ap (λ (s : State). s.len) e) (ap (λ (s : State). s.mode) e),
+        new_zero last.state (ap (λ (s : Held (Unit {0})). s.len) e) (ap (λ (s : Held (Unit {0})). s.mode) e),
       )
 
   pub exported_left_closed : RanBy ExportedLine l (calls ++ byte stop_flag ∷ []) outcomes last → AsNew (reader_of last)

@@ -7,22 +7,22 @@ use lib.Dec.{eqb}
 use borrow.Author.Tests.{eqb-true}
 use Rattle.lists.proofs.Cases.{by_bool}
 use Rattle.coscom_line.specs.Reader.{lent_reader}
-use Rattle.coscom_line.specs.declared.Mode.{Mode}
-use Rattle.coscom_line.specs.declared.Mode.TheVariants.{Outside, Inside, Overlong}
-use Rattle.coscom_line.specs.declared.State.{State}
+use Rattle.framing.specs.declared.Mode.{Mode}
+use Rattle.framing.specs.declared.Mode.TheVariants.{Outside, Inside, Overlong}
+use Rattle.framing.specs.declared.Held.{Held}
 use Rattle.coscom_exports.specs.LineState.{digit_of, mode_of, packed_state, state_in, reader_in}
 
-digit_small : (m : Mode) → digit_of m < 4
+digit_small : (m : Mode (Unit {0})) → digit_of m < 4
 digit_small Outside = omega arith
-digit_small Inside = omega arith
+digit_small (Inside tt) = omega arith
 digit_small Overlong = omega arith
 
-mode_of_digit : (m : Mode) → mode_of (digit_of m) ≡ m
+mode_of_digit : (m : Mode (Unit {0})) → mode_of (digit_of m) ≡ m
 mode_of_digit Outside = refl
-mode_of_digit Inside = refl
+mode_of_digit (Inside tt) = refl
 mode_of_digit Overlong = refl
 
-pub state_tells : (bytes : List ℕ) (s : State) → reader_in bytes (packed_state s) ≡ lent_reader bytes s
+pub state_tells : (bytes : List ℕ) (s : Held (Unit {0})) → reader_in bytes (packed_state s) ≡ lent_reader bytes s
 state_tells bytes s =
     let m = s.mode in
     let l : packed_state s / 4 ≡ s.len = omega (arith, digit_small m) in
@@ -36,7 +36,7 @@ outside_zero n e =
     by_bool (eqb n 0)
     (λ y. eqb-true n 0 y)
     (λ m. by_bool (eqb n 1)
-    (λ y. let q : Inside ≡ Outside = simp (m, y) at e in let z : ◌≡◌ {A = ℕ} 0 1 = cc in absurd (omega arith))
+    (λ y. let q : Inside tt ≡ Outside = simp (m, y) at e in let z : ◌≡◌ {A = ℕ} 0 1 = cc in absurd (omega arith))
     (λ k. let q : Overlong ≡ Outside = simp (m, k) at e in let z : ◌≡◌ {A = ℕ} 0 1 = cc in absurd (omega arith)))
 
 -- The number of a reader that is outside of a candidate and holds nothing is 0.

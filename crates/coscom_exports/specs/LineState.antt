@@ -3,25 +3,25 @@ use Rattle.std.specs.Prelude.{ℕ, ◌+◌, ◌*◌, ◌/◌, ◌%◌, List, eqb
 use Rattle.lists.specs.Choice.{pick}
 use Rattle.coscom_line.specs.Outcome.{zeros}
 use Rattle.coscom_line.specs.Reader.{lent_reader}
-use Rattle.coscom_line.specs.declared.Mode.{Mode}
-use Rattle.coscom_line.specs.declared.Mode.TheVariants.{Outside, Inside, Overlong}
-use Rattle.coscom_line.specs.declared.State.{State}
+use Rattle.framing.specs.declared.Mode.{Mode}
+use Rattle.framing.specs.declared.Mode.TheVariants.{Outside, Inside, Overlong}
+use Rattle.framing.specs.declared.Held.{Held}
 use Rattle.coscom_line.specs.declared.LineReader.{LineReader}
 
-abbrev pub digit_of : Mode → ℕ
+abbrev pub digit_of : Mode (Unit {0}) → ℕ
 digit_of Outside = 0
-digit_of Inside = 1
+digit_of (Inside tt) = 1
 digit_of Overlong = 2
 
 -- 3 is over-long too, so that every number is a state.
-abbrev pub mode_of : ℕ → Mode
-mode_of n = pick (eqb n 0) Outside (pick (eqb n 1) Inside Overlong)
+abbrev pub mode_of : ℕ → Mode (Unit {0})
+mode_of n = pick (eqb n 0) Outside (pick (eqb n 1) (Inside tt) Overlong)
 
 -- The mode's digit in the lowest two bits, the length above them. A new reader's number is 0.
-abbrev pub packed_state : State → ℕ
+abbrev pub packed_state : Held (Unit {0}) → ℕ
 packed_state s = digit_of s.mode + 4 * s.len
 
-abbrev pub state_in : ℕ → State
+abbrev pub state_in : ℕ → Held (Unit {0})
 state_in n = record { len = n / 4; mode = mode_of (n % 4) }
 
 -- The array and the number.

@@ -7,36 +7,34 @@ ghost use Rattle.exports.specs.Packed.{Tells};
 ghost use Rattle.exports.specs.Answers.{write_fields, WriteShort};
 ghost use Rattle.coscom_exports.specs.Answers.{packet_fields, line_fields, UnitShort, ToldShort};
 
-use answer::Written;
-use coscom::Read;
+use answer::Refusal;
+use coscom::Outline;
 use coscom_line::Told;
 use exports::packed;
 
 // No letter, and no digit.
 const NONE: u8 = 0;
 
-pub(crate) fn of_written(w: Written) -> u64
-    requires { WriteShort (written_means w) }
-    ensures { Tells result (write_fields (written_means w)) }
+// Stays beside that of `exports`, which is not public: it asks for a length that fits, and no public function asks.
+pub(crate) fn of_written(written: Result<usize, Refusal>) -> u64
+    requires { WriteShort (written_means written) }
+    ensures { Tells result (write_fields (written_means written)) }
 {
-    match w {
-        Written::Length(n) => packed::result(NONE, NONE, NONE, n as u32),
-        Written::Refused(why) => packed::refused(why),
+    match written {
+        Ok(n) => packed::result(NONE, NONE, NONE, n as u32),
+        Err(why) => packed::refused(why),
     }
 }
 
-pub(crate) fn of_read(read: Read) -> u64
+pub(crate) fn of_read(read: Result<Outline, Refusal>) -> u64
     requires { UnitShort (read_means read) }
     ensures { Tells result (packet_fields (read_means read)) }
 {
     match read {
-        Read::Packet {
-            letter,
-            tens,
-            ones,
-            len,
-        } => packed::result(letter, tens, ones, len as u32),
-        Read::Refused(why) => packed::refused(why),
+        Ok(Outline { header, len }) => {
+            packed::result(header.letter, header.tens, header.ones, len as u32)
+        }
+        Err(why) => packed::refused(why),
     }
 }
 
@@ -45,18 +43,7 @@ pub(crate) fn of_told(told: Told) -> u64
     ensures { Tells result (line_fields (told_means told)) }
 {
     match told {
-        Told::Nothing => packed::result(NONE, NONE, NONE, 0),
-        Told::Refused(why) => packed::refused(why),
-        Told::Packet {
-            letter,
-            tens,
-            ones,
-            len,
-        } => of_read(Read::Packet {
-            letter,
-            tens,
-            ones,
-            len,
-        }),
+        Some(read) => of_read(read),
+        None => packed::result(NONE, NONE, NONE, 0),
     }
 }

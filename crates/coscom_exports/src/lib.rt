@@ -16,6 +16,8 @@ ghost use Rattle.exports.specs.Answers.{write_fields};
 ghost use Rattle.coscom_exports.specs.Answers.{packet_fields};
 ghost use Rattle.coscom_exports.specs.LineAnswers.{fed_to, finished, FedAs, FinishedAs};
 
+use coscom::Header;
+
 // Writes a packet. Refusals 2, 22 and 1.
 #[unsafe(no_mangle)]
 pub extern "C" fn csafe_packet_write(
@@ -31,8 +33,8 @@ pub extern "C" fn csafe_packet_write(
     ensures out_after { out.new ≡ draft_out (packet_draft (packet letter tens ones unit.now))
         out.old }
 {
-    let written = coscom::write_packet(letter, tens, ones, unit, out);
-    answers::of_written(written)
+    let header = Header { letter, tens, ones };
+    answers::of_written(coscom::write_packet(header, unit, out))
 }
 
 // Reads one packet. Refusals 6, 2, 4, 22, 5 and 1.
@@ -41,8 +43,7 @@ pub extern "C" fn csafe_packet_read(wire: &[u8], out: &mut [u8]) -> u64
     ensures tells { Tells result (packet_fields (read_answer (verdict wire.now) (length out.old))) }
     ensures out_after { out.new ≡ read_out (verdict wire.now) out.old }
 {
-    let read = coscom::read_packet(wire, out);
-    answers::of_read(read)
+    answers::of_read(coscom::read_packet(wire, out))
 }
 
 // Feeds a chunk to a line reader up to the first byte that is answered, and counts the bytes taken. With no answer all
@@ -59,13 +60,10 @@ pub extern "C" fn csafe_packet_feed(
     ensures { FedAs result bytes.new state.new taken.new
         (fed_to bytes.old state.old input.now) }
 {
-    let before = line_state::state_in(*state);
-    let fed = coscom_line::feed_in(bytes, before, input);
-    let after = fed.state;
-    *state = line_state::pack_state(after);
+    let fed = coscom_line::feed_in(bytes, line_state::state_in(*state), input);
+    *state = line_state::pack_state(fed.state);
     *taken = fed.taken as u64;
-    let told = fed.told;
-    answers::of_told(told)
+    answers::of_told(fed.told)
 }
 
 // Ends the input of the line reader whose state the number holds; its array stays as it is. Refusal 6 where a candidate is
@@ -75,10 +73,7 @@ pub extern "C" fn csafe_packet_finish(state: &mut u64) -> u64
     ensures { (bytes : List ℕ)
         → FinishedAs result state.new (finished bytes state.old) }
 {
-    let before = line_state::state_in(*state);
-    let ended = coscom_line::finish_in(before);
-    let after = ended.state;
-    *state = line_state::pack_state(after);
-    let told = ended.told;
-    answers::of_told(told)
+    let ended = coscom_line::finish_in(line_state::state_in(*state));
+    *state = line_state::pack_state(ended.state);
+    answers::of_told(ended.told)
 }

@@ -5,6 +5,7 @@ ghost use Rattle.coscom_exports.specs.LineState.{digit_of, mode_of, packed_state
 
 use coscom_line::{Mode, State};
 
+// Stays numbers for the modes: C keeps them between calls (`packed_state`).
 const OUTSIDE: u64 = 0;
 
 const INSIDE: u64 = 1;
@@ -14,26 +15,23 @@ const OVERLONG: u64 = 2;
 // How many values two bits have.
 const DIGITS: u64 = 4;
 
+// Stays a match, as `digit_of` below: the mode is another crate's type, so that no From can stand here.
 fn mode_in(number: u64) -> Mode
     ensures { result ≡ mode_of (number % 4) }
 {
-    let digit = number % DIGITS;
-    if digit == OUTSIDE {
-        return Mode::Outside;
+    match number % DIGITS {
+        OUTSIDE => Mode::Outside,
+        INSIDE => Mode::Inside(()),
+        _ => Mode::Overlong,
     }
-    if digit == INSIDE {
-        return Mode::Inside;
-    }
-    Mode::Overlong
 }
 
 pub(crate) fn state_in(number: u64) -> State
     ensures { result ≡ state_in number }
 {
-    let mode = mode_in(number);
     State {
         len: (number / DIGITS) as usize,
-        mode,
+        mode: mode_in(number),
     }
 }
 
@@ -43,7 +41,7 @@ fn digit_of(mode: Mode) -> u64
 {
     match mode {
         Mode::Outside => OUTSIDE,
-        Mode::Inside => INSIDE,
+        Mode::Inside(()) => INSIDE,
         Mode::Overlong => OVERLONG,
     }
 }
@@ -52,6 +50,5 @@ pub(crate) fn pack_state(state: State) -> u64
     requires { state.len < 2 ^ 62 }
     ensures { result ≡ packed_state state }
 {
-    let mode = state.mode;
-    digit_of(mode) + DIGITS * (state.len as u64)
+    digit_of(state.mode) + DIGITS * (state.len as u64)
 }

@@ -12,9 +12,9 @@ use Rattle.framing.specs.Demand3.{told_by, Demand3}
 use Rattle.framing.proofs.Bounded.{bounded_demand_3}
 use Rattle.framing.proofs.Restart.{demand3_of, reference_told}
 use Rattle.coscom_line.specs.Outcome.{Outcome, summary_of, outcome_of, ValueAnswer, value_answer_of}
-use Rattle.coscom_line.specs.Reader.{coscom, coscom_bounds, lent_reader, AsNew, mode_seen, seen, turn_of, outcome_at}
+use Rattle.coscom_line.specs.Reader.{coscom, coscom_bounds, lent_reader, AsNew, seen, turn_of, outcome_at}
 use Rattle.coscom_line.specs.Reader.{next_after, LentStepIs, answer_means, lent_outcome}
-use Rattle.coscom_line.specs.declared.State.{State}
+use Rattle.framing.specs.declared.Held.{Held}
 use Rattle.coscom_line.specs.declared.LineReader.{LineReader}
 use Rattle.coscom_line.specs.declared.LentStep.{LentStep}
 use Rattle.coscom_line.specs.declared.Stepped.{Stepped}
@@ -63,7 +63,7 @@ demand_3 =
 
 -- ---- over a lent array
 
--- the enum and the array that is left tell the outcome
+-- what is told and the array that is left make the outcome
 lent_outcome_lem : (bytes : List ℕ) (s : LentStep) (r : LineReader) (c : Call) → LentStepIs bytes s (turn_of r c)
     → lent_outcome s bytes ≡ outcome_at r c
 lent_outcome_lem bytes s r c k =
@@ -73,10 +73,10 @@ lent_outcome_lem bytes s r c k =
 
 -- A call on a reader that is a lent array and a state, its outcome and the reader that it left.
 pub data CalledLent : LineReader → Call → Outcome → LineReader → Type 0 where
-  stepped_lent : (κs : Lfts 1) (ρ ρ' : MutBor (List ℕ)) {state : State} {b : ℕ} (s : LentStep)
+  stepped_lent : (κs : Lfts 1) (ρ ρ' : MutBor (List ℕ)) {state : Held (Unit {0})} {b : ℕ} (s : LentStep)
       → step-in-reads.Learnt κs (ρ, (state, (b, tt))) s (ρ', (state, (b, tt)))
       → CalledLent (lent_reader ρ.now state) (byte b) (lent_outcome s ρ'.now) (lent_reader ρ'.now s.state)
-  finished_lent : {bytes : List ℕ} {state : State} (s : LentStep) → finish-in-reads.Learnt tt (state, tt) s (state, tt)
+  finished_lent : {bytes : List ℕ} {state : Held (Unit {0})} (s : LentStep) → finish-in-reads.Learnt tt (state, tt) s (state, tt)
       → CalledLent (lent_reader bytes state) finish (lent_outcome s bytes) (lent_reader bytes s.state)
 
 pub lent_turns : (r u : LineReader) (c : Call) (o : Outcome) → CalledLent r c o u
@@ -89,4 +89,4 @@ pub lent_demand_3 : Demand3 coscom (Answered CalledLent AsNew)
 lent_demand_3 =
     bounded_demand_3 coscom coscom_bounds coscom_suits CalledLent AsNew seen
     (λ r u c o k. let t = lent_turns r u c o k in (t.0, ap seen t.1 ∙ call_seen r c))
-    (λ r n. (n.array, ap mode_seen n.outside_is))
+    (λ r n. (n.array, n.outside_is))

@@ -12,14 +12,13 @@ use Rattle.lists.proofs.Machines.{ran-run}
 use Rattle.framing.specs.Reference.{Call}
 use Rattle.framing.specs.Demand3.{feed, Demand3}
 use Rattle.framing.proofs.Restart.{demand3_of}
-use Rattle.coscom_line.specs.Outcome.{Outcome, told_means, summary_of, outcome_of, ValueAnswer, value_outcome}
+use Rattle.coscom_line.specs.Outcome.{Outcome, Told, told_means, summary_of, outcome_of, ValueAnswer, value_outcome}
 use Rattle.coscom_line.specs.Reader.{coscom, lent_reader, turn_of, outcome_at, next_after, AsNew}
 use Rattle.framing.specs.Chunk.{cut_chunk}
 use Rattle.framing.proofs.Chunk.{singly_agree, rows_singly, stream_rows}
 use Rattle.coscom_line.specs.Chunk.{chunk_of, ChunkIs, TakenToAnswer, told_bytes}
 use Rattle.coscom_line.specs.Chunk.{TakesFirst, AsSingly}
-use Rattle.coscom_line.specs.declared.Told.{Told}
-use Rattle.coscom_line.specs.declared.State.{State}
+use Rattle.framing.specs.declared.Held.{Held}
 use Rattle.coscom_line.specs.declared.LineReader.{LineReader}
 use Rattle.coscom_line.specs.declared.ChunkStep.{ChunkStep}
 use Rattle.coscom_line.specs.declared.ChunkFed.{ChunkFed}
@@ -30,7 +29,7 @@ use Rattle.coscom_line.proofs.Calls.{Called, called_turns, CalledLent, lent_turn
 use Rattle.coscom_line.proofs.LineReader.feed.Reads as feed-reads
 use Rattle.coscom_line.proofs.feed_in.Reads as feed-in-reads
 
--- the enum and the array that is left tell the outcome
+-- what is told and the array that is left make the outcome
 chunk_outcome : (next : LineReader) (told : Told) (taken : ℕ) (r : LineReader) (s : List ℕ)
     → ChunkIs next told taken (chunk_of r s) → outcome_of (told_means told) next.bytes ≡ (chunk_of r s).answer
 chunk_outcome next told taken r s k =
@@ -46,7 +45,7 @@ pub data FedOn : LineReader → (given : List ℕ) → (taken : ℕ) → Outcome
   by_value : (κs : Lfts 1) (given : Bor (List ℕ)) {r : LineReader} (f : ChunkFed)
       → feed-reads.Learnt κs (r, (given, tt)) f (r, (given, tt))
       → FedOn r given.now f.answer.taken (outcome_of (told_means f.answer.told) f.next.bytes) f.next
-  on_array : (κs : Lfts 2) (ρ ρ' : MutBor (List ℕ)) (given : Bor (List ℕ)) {state : State} (s : ChunkStep)
+  on_array : (κs : Lfts 2) (ρ ρ' : MutBor (List ℕ)) (given : Bor (List ℕ)) {state : Held (Unit {0})} (s : ChunkStep)
       → feed-in-reads.Learnt κs (ρ, (state, (given, tt))) s (ρ', (state, (given, tt)))
       → FedOn (lent_reader ρ.now state) given.now s.taken (outcome_of (told_means s.told) ρ'.now)
       (lent_reader ρ'.now s.state)

@@ -22,7 +22,7 @@ use Rattle.coscom_line.specs.Outcome.{Outcome, nothing, judged, Not1, capacity, 
 use Rattle.coscom_line.specs.Reader.{coscom, coscom_bounds, seen, AsNew, outcome_at, next_after}
 use Rattle.coscom_line.specs.Chunk.{AsSingly}
 use Rattle.coscom_line.specs.declared.LineReader.{LineReader}
-use Rattle.coscom_line.specs.declared.Mode.TheVariants.{Outside}
+use Rattle.framing.specs.declared.Mode.TheVariants.{Outside}
 use Rattle.coscom_line.proofs.Follows.{coscom_suits}
 use Rattle.coscom_line.proofs.OutcomeLaws.{every_outcome}
 use Rattle.coscom_line.proofs.Calls.{New, Called, demand_3, CalledLent, lent_demand_3}

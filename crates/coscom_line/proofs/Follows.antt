@@ -12,7 +12,7 @@ use Rattle.coscom.specs.Verdict.{verdict}
 use Rattle.coscom.proofs.FlagLaws.{role_start, role_stop, free_flagless}
 use Rattle.coscom.proofs.VerdictLaws.{whole_flagless, judge_long}
 use Rattle.coscom_line.specs.Outcome.{judged}
-use Rattle.coscom_line.specs.Reader.{coscom, coscom_bounds, new_reader, AsNew, mode_seen, seen, turn_of, outcome_at}
+use Rattle.coscom_line.specs.Reader.{coscom, coscom_bounds, new_reader, AsNew, seen, turn_of, outcome_at}
 use Rattle.coscom_line.specs.Reader.{next_after}
 use Rattle.coscom_line.specs.declared.LineReader.{LineReader}
 use Rattle.coscom.proofs.CodeLaws.{left_length}
@@ -37,7 +37,7 @@ coscom_suits = record {
 pub as_new_follows : (r : LineReader) → AsNew r → Follows coscom (run outcome_at next_after r)
 as_new_follows r n =
     bounded_follows coscom coscom_bounds coscom_suits (λ (r : LineReader). Unit {0}) turn_of seen
-    (λ r c h. (refl, call_seen r c, tt)) r tt n.array (ap mode_seen n.outside_is)
+    (λ r c h. (refl, call_seen r c, tt)) r tt n.array n.outside_is
 
 pub new_as_new : AsNew new_reader
 new_as_new = record { array = refl; outside_is = refl }

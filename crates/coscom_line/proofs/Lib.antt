@@ -1,7 +1,5 @@
 pub mod ReaderLaws
 pub mod ValueLaws
-pub mod FeedLaws
-pub mod RunLaws
 pub mod ChunkLaws
 pub mod OutcomeLaws
 pub mod Follows

@@ -1,4 +1,4 @@
--- The whole answer to a call: the enum and the array that is left tell the outcome, and the array beside an answer by
+-- The whole answer to a call: what is told and the array that is left make the outcome, and the array beside an answer by
 -- value is the outcome's data unit and then zeros.
 use mathlib.Core.Path.{◌≡◌, refl, ap}
 use mathlib.Core.List.{List}
@@ -20,7 +20,7 @@ use Rattle.coscom_line.specs.Private.{Whole, beside_told}
 use Rattle.coscom_line.specs.declared.LineReader.{LineReader}
 use Rattle.coscom.proofs.CodeLaws.{left_whole, read_whole}
 
--- ---- the enum and the array that is left
+-- ---- what is told and the array that is left
 
 pub call_whole : (r : LineReader) (c : Call) → Whole (turn_of r c)
 unfolding judge_answer packet_read

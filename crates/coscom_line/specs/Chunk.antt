@@ -4,9 +4,8 @@ use Rattle.answer.specs.Answer.{result}
 use Rattle.framing.specs.Reference.{Call}
 use Rattle.framing.specs.Chunk.{FedTurn, fed_by, cut_chunk, last_answered, FirstSingly, Singly}
 use Rattle.coscom.specs.Packet.{Packet, wire_of}
-use Rattle.coscom_line.specs.Outcome.{Outcome, nothing, judged, told_means, summary_of, is_answer}
+use Rattle.coscom_line.specs.Outcome.{Outcome, nothing, judged, Told, told_means, summary_of, is_answer}
 use Rattle.coscom_line.specs.Reader.{lent_reader, turn_of}
-use Rattle.coscom_line.specs.declared.Told.{Told}
 use Rattle.coscom_line.specs.declared.LineReader.{LineReader}
 use Rattle.coscom_line.specs.declared.ChunkStep.{ChunkStep}
 use Rattle.coscom_line.specs.declared.ChunkAnswer.{ChunkAnswer}

@@ -1,12 +1,12 @@
 -- What a call on a line reader is answered with, and what a caller has of it: document 01, "The line"; document 02,
 -- No. 3.
 use Rattle.std.specs.Prelude.{◌≡◌, Bool, true, false, List, [], ◌++◌, ℕ, ◌-◌, length, replicate}
+use Rattle.std.specs.Prelude.{Option, Some, None, Result}
 use Rattle.answer.specs.Answer.{Answer, result, refused}
-use Rattle.answer.specs.Refusals.{number_of}
+use Rattle.answer.specs.declared.Refusal.{Refusal}
 use Rattle.coscom.specs.Verdict.{Verdict}
-use Rattle.coscom.specs.Answers.{PacketOutline, outline, judge_answer, packet_read}
-use Rattle.coscom_line.specs.declared.Told.{Told}
-use Rattle.coscom_line.specs.declared.Told.TheVariants.{Nothing, Refused, Packet}
+use Rattle.coscom.specs.Answers.{PacketOutline, read_means, judge_answer, packet_read}
+use Rattle.coscom.specs.declared.Outline.{Outline}
 
 -- Nothing, or a verdict: a packet with its header and data unit, or a refusal's number.
 pub data Outcome : Type 0 where
@@ -17,15 +17,18 @@ pub data Outcome : Type 0 where
 abbrev pub Not1 : Outcome → Type 0
 Not1 o = o ≡ judged (refused 1) → ⊥
 
--- An outcome without the data unit: what the enum `Told` holds.
+-- What a call tells: nothing, a packet's outline or a refusal.
+abbrev pub Told : Type 0
+Told = Option (Result Outline Refusal)
+
+-- An outcome without the data unit: what a `Told` holds.
 pub data Summary : Type 0 where
   silent : Summary
   tells : Answer PacketOutline → Summary
 
 abbrev pub told_means : Told → Summary
-told_means Nothing = silent
-told_means (Refused why) = tells (refused (number_of why))
-told_means (Packet letter tens ones len) = tells (result (outline letter tens ones len))
+told_means None = silent
+told_means (Some read) = tells (read_means read)
 
 abbrev pub summary_of : Outcome → Summary
 summary_of nothing = silent
@@ -64,7 +67,7 @@ unit_told nothing = []
 unit_told (judged (refused n)) = []
 unit_told (judged (result p)) = p.unit
 
--- What an answer by value is: what its enum means, and every byte of its array.
+-- What an answer by value is: what is told, and every byte of its array.
 pub record ValueAnswer : Type 0 where
   pub told : Summary
   pub unit : List ℕ

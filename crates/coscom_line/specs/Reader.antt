@@ -1,20 +1,21 @@
 -- The treadmill's line: the protocol at which the reference decoder and the bounded reader are taken, and the line
 -- reader's calls, on every value of the struct: those of framing's bounded reader. Document 01, "The line"; document
 -- 02, No. 3.
-use Rattle.std.specs.Prelude.{◌≡◌, List, ℕ, length}
+use Rattle.std.specs.Prelude.{◌≡◌, Bool, List, ℕ, length}
+use Rattle.lists.specs.Choice.{within}
 use Rattle.lists.specs.Machine.{Turn, turn}
 use Rattle.answer.specs.Answer.{refused}
 use Rattle.framing.specs.Reference.{Call, byte, finish, Role, Protocol}
-use Rattle.framing.specs.Bounded.{BoundedMode, outside, inside, overlong, BoundedReader, bounded, Bounds, byte_turn}
+use Rattle.framing.specs.Bounded.{BoundedReader, bounded, Bounds, byte_turn}
 use Rattle.framing.specs.Bounded.{bounded_turn}
-use Rattle.coscom.specs.Flags.{role_of, candidate_of}
+use Rattle.coscom.specs.Flags.{start_flag, stop_flag, role_of, candidate_of}
 use Rattle.coscom.specs.Verdict.{verdict}
 use Rattle.coscom.specs.Answers.{left_in}
 use Rattle.coscom_line.specs.Outcome.{Outcome, nothing, judged, told_means, summary_of, outcome_of, capacity, zeros}
 use Rattle.coscom_line.specs.Outcome.{ValueAnswer, value_answer_of}
-use Rattle.coscom_line.specs.declared.Mode.{Mode}
-use Rattle.coscom_line.specs.declared.Mode.TheVariants.{Outside, Inside, Overlong}
-use Rattle.coscom_line.specs.declared.State.{State}
+use Rattle.framing.specs.declared.Mode.{Mode}
+use Rattle.framing.specs.declared.Mode.TheVariants.{Outside}
+use Rattle.framing.specs.declared.Held.{Held}
 use Rattle.coscom_line.specs.declared.LineReader.{LineReader}
 use Rattle.coscom_line.specs.declared.LentStep.{LentStep}
 use Rattle.coscom_line.specs.declared.StepAnswer.{StepAnswer}
@@ -43,13 +44,17 @@ coscom_bounds =
       long = judged (refused 2);
     }
 
+-- Whether a byte ends a run: it lies between the two flags, both included.
+abbrev pub ends_run : ℕ → Bool
+ends_run b = within start_flag stop_flag b
+
 -- ---- the reader
 
 -- The reader that a lent array and a state are.
-abbrev pub lent_reader : List ℕ → State → LineReader
+abbrev pub lent_reader : List ℕ → Held (Unit {0}) → LineReader
 lent_reader bytes state = record { bytes = bytes; state = state }
 
-abbrev pub reader_of : List ℕ → ℕ → Mode → LineReader
+abbrev pub reader_of : List ℕ → ℕ → Mode (Unit {0}) → LineReader
 reader_of bytes len mode = lent_reader bytes (record { len = len; mode = mode })
 
 abbrev pub new_reader : LineReader
@@ -62,21 +67,11 @@ pub record AsNew (r : LineReader) : Type 0 where
 
 -- ---- as a bounded reader, and back
 
-abbrev pub mode_seen : Mode → BoundedMode (Unit {0})
-mode_seen Outside = outside
-mode_seen Inside = inside tt
-mode_seen Overlong = overlong
-
-abbrev pub mode_in : BoundedMode (Unit {0}) → Mode
-mode_in outside = Outside
-mode_in (inside kind) = Inside
-mode_in overlong = Overlong
-
 abbrev pub seen : LineReader → BoundedReader (Unit {0})
-seen r = bounded r.bytes r.state.len (mode_seen r.state.mode)
+seen r = bounded r.bytes r.state.len r.state.mode
 
 abbrev pub reader_seen : BoundedReader (Unit {0}) → LineReader
-reader_seen r = reader_of r.bytes r.len (mode_in r.mode)
+reader_seen r = reader_of r.bytes r.len r.mode
 
 -- ---- the calls
 

@@ -3,60 +3,28 @@
 // No. 4.
 #![tactic(auto)]
 
-mod chunk;
-mod runs;
-
 ghost use Rattle.std.specs.Prelude.{◌≡◌, List, ℕ, take};
-ghost use Rattle.lists.specs.Machine.{turn};
-ghost use Rattle.framing.specs.Reference.{stops, plain};
-ghost use Rattle.framing.specs.Bounded.{truncated_in, terminated_in, left_by_stop};
-ghost use Rattle.coscom.specs.Answers.{read_means};
-ghost use Rattle.coscom_line.specs.Outcome.{told_means, tells, summary_of, nothing, padded};
-ghost use Rattle.coscom_line.specs.Reader.{coscom as packets, coscom_bounds, lent_reader, reader_of, new_reader};
-ghost use Rattle.coscom_line.specs.Reader.{mode_seen, role_step, step_of, finish_of, LentStepIs, StepIs, ReaderTurn};
+ghost use Rattle.coscom_line.specs.Outcome.{told_means, padded};
+ghost use Rattle.coscom_line.specs.Reader.{lent_reader, new_reader, step_of, finish_of, LentStepIs, StepIs, ReaderTurn};
 ghost use Rattle.coscom_line.specs.Chunk.{chunk_of, ChunkStepIs, ChunkAnswerIs};
-ghost use Rattle.coscom_line.specs.Private.{with_byte, Whole, beside_told};
+ghost use Rattle.coscom_line.specs.Private.{Whole, beside_told};
 
 use answer::Refusal;
-use coscom::Read;
+use coscom::Outline;
+use framing::{LineProtocol, Role, calls, feeds};
 
 // The most bytes of a chunk that a call takes.
 pub const CHUNK_LIMIT: usize = 65536;
 
-// The most bytes that may stand between the flags of a packet.
-const ROOM: usize = 254;
+// What a call tells: nothing, a packet or a refusal. A packet's data unit is the first bytes of an array beside it.
+pub type Told = Option<Result<Outline, Refusal>>;
 
-// How many bytes are held right after a flag.
-const FRESH: usize = 0;
-
-// What a call tells. A packet's data unit is the first bytes of an array beside it.
-#[derive(Clone, Copy)]
-pub enum Told {
-    Nothing,
-    Refused(Refusal),
-    Packet {
-        letter: u8,
-        tens: u8,
-        ones: u8,
-        len: usize,
-    },
-}
-
-// Outside of any candidate; in one; in one that is too long to be a packet, which is not held.
-#[derive(Clone, Copy)]
-pub enum Mode {
-    Outside,
-    Inside,
-    Overlong,
-}
+// Outside of any candidate; in one, of which there is one kind; in one that is too long to be a packet, which is not held.
+pub type Mode = framing::Mode<()>;
 
 // A line reader without its array: how many bytes are held, and the mode. A length over 254 counts as 254, so every
 // value is a state.
-#[derive(Clone, Copy)]
-pub struct State {
-    pub len: usize,
-    pub mode: Mode,
-}
+pub type State = framing::Held<()>;
 
 // Every value of the struct is a reader.
 #[derive(Clone, Copy)]
@@ -129,8 +97,7 @@ impl LineReader {
         ensures { StepIs result (step_of self b) }
     {
         let mut bytes = self.bytes;
-        let state = self.state;
-        let step = step_in(&mut bytes, state, b);
+        let step = step_in(&mut bytes, self.state, b);
         by_value(step, bytes)
     }
 
@@ -140,11 +107,7 @@ impl LineReader {
         ensures { ChunkAnswerIs result.next result.answer (chunk_of self chunk.now) }
     {
         let mut bytes = self.bytes;
-        let before = self.state;
-        let step = feed_in(&mut bytes, before, chunk);
-        let told = step.told;
-        let taken = step.taken;
-        let state = step.state;
+        let ChunkStep { told, state, taken } = feed_in(&mut bytes, self.state, chunk);
         ChunkFed {
             answer: ChunkAnswer { told, taken },
             next: LineReader { bytes, state },
@@ -155,25 +118,77 @@ impl LineReader {
     pub fn finish(self) -> Stepped
         ensures { StepIs result (finish_of self) }
     {
-        let bytes = self.bytes;
-        let state = self.state;
-        let step = finish_in(state);
-        by_value(step, bytes)
+        by_value(finish_in(self.state), self.bytes)
     }
+}
+
+// The treadmill line's protocol. There is one kind of candidate.
+#[derive(Clone, Copy)]
+struct Treadmill;
+
+impl LineProtocol<254> for Treadmill {
+    type Kind = ();
+
+    type Outline = Outline;
+
+    ghost use Rattle.std.specs.Prelude.{◌≡◌, None, Some, is_some, refl};
+    ghost use Rattle.std.proofs.Common.{ap, ◌∙◌};
+    ghost use Rattle.coscom.specs.Answers.{judge_answer};
+    ghost use Rattle.coscom.proofs.FlagLaws.{no_flag, outside_no_flag};
+    ghost use Rattle.coscom_line.specs.Outcome.{Outcome, told_means, summary_of, says, is_answer};
+    ghost use Rattle.coscom_line.specs.Reader.{coscom, coscom_bounds, ends_run};
+
+    ghost Answer = { Outcome };
+
+    ghost protocol = { λ p. coscom };
+
+    ghost bounds = { λ p. coscom_bounds };
+
+    ghost tells = { λ told o. told_means told ≡ summary_of o };
+
+    ghost is_answer = { is_answer };
+
+    ghost ends_run = { ends_run };
+
+    fn role(self, b: u8) -> Role<()> {
+        match b {
+            coscom::START => Role::Start(()),
+            coscom::STOP => Role::Stop,
+            _ => Role::Plain,
+        }
+    }
+
+    // Both flags are bytes from 01 to 17, and no other byte of a packet is.
+    fn run(self, s: &[u8]) -> usize {
+        lists::count_before(s, coscom::START, coscom::STOP)
+    }
+
+    fn judge(self, _kind: (), bytes: &mut [u8; 254], len: usize) -> Result<Outline, Refusal> {
+        coscom::judge_array(bytes, len)
+    }
+
+    ghost room = { λ p. refl };
+
+    ghost none_in_run = { λ p b h. no_flag b (outside_no_flag b h) };
+
+    ghost is_told = { λ told o h. elim told as (λ t. is_some t ≡ says (told_means t)) [ None ↦ refl | Some r ↦ refl ] ∙ ap says h };
+
+    ghost nothing_told = { λ p. refl };
+
+    ghost truncated_told = { λ p. unfold judge_answer in refl };
+
+    ghost long_told = { λ p. unfold judge_answer in refl };
 }
 
 // Feeds a byte to a reader whose array is lent and whose state goes in and comes back, as `LineReader::step` does.
 pub fn step_in(bytes: &mut [u8; 254], state: State, b: u8) -> LentStep
     ensures { LentStepIs bytes.new result (step_of (lent_reader bytes.old state) b) }
 {
-    let mode = state.mode;
-    if b == coscom::START {
-        return restart(mode, Mode::Inside);
+    let step = calls::step(Treadmill, bytes, state, b);
+    LentStep {
+        told: step.told,
+        state: step.held,
     }
-    if b == coscom::STOP {
-        return stop(bytes, state);
-    }
-    grow(bytes, state, b)
 }
 
 // Ends the input of a reader whose array is lent and whose state goes in and comes back, as `LineReader::finish` does.
@@ -181,8 +196,11 @@ pub fn step_in(bytes: &mut [u8; 254], state: State, b: u8) -> LentStep
 pub fn finish_in(state: State) -> LentStep
     ensures { (bytes : List ℕ) → LentStepIs bytes result (finish_of (lent_reader bytes state)) }
 {
-    let mode = state.mode;
-    restart(mode, Mode::Outside)
+    let ended = calls::end(Treadmill, state);
+    LentStep {
+        told: ended.told,
+        state: ended.held,
+    }
 }
 
 // Feeds a chunk to a reader whose array is lent and whose state goes in and comes back, as `LineReader::feed` does, and
@@ -191,125 +209,25 @@ pub fn feed_in(bytes: &mut [u8; 254], state: State, chunk: &[u8]) -> ChunkStep
     ensures { ChunkStepIs bytes.new result
         (chunk_of (lent_reader bytes.old state) chunk.now) }
 {
-    let most = lists::lesser(CHUNK_LIMIT, chunk.len());
-    chunk::feed_all(bytes, state, &chunk[..most])
-}
-
-// The start flag, or the end of input: whatever is open is truncated.
-fn restart(mode: Mode, opens: Mode) -> LentStep
-    ensures { (bytes : List ℕ) → LentStepIs bytes result
-        (turn (truncated_in packets coscom_bounds (mode_seen mode)) (reader_of bytes 0 opens)) }
-{
-    LentStep {
-        told: truncated(mode),
-        state: State {
-            len: FRESH,
-            mode: opens,
-        },
+    let most = CHUNK_LIMIT.min(chunk.len());
+    let fed = feeds::feed(Treadmill, bytes, state, &chunk[..most]);
+    ChunkStep {
+        told: fed.told,
+        state: fed.held,
+        taken: fed.taken,
     }
-}
-
-fn truncated(mode: Mode) -> Told
-    ensures { told_means result ≡ summary_of (truncated_in packets coscom_bounds (mode_seen mode)) }
-{
-    match mode {
-        Mode::Outside => Told::Nothing,
-        Mode::Inside => Told::Refused(Refusal::Truncated),
-        Mode::Overlong => Told::Refused(Refusal::Truncated),
-    }
-}
-
-// The stop flag: what is open is judged.
-fn stop(bytes: &mut [u8; 254], state: State) -> LentStep
-    ensures { (b : ℕ)
-        → LentStepIs bytes.new result (role_step stops (lent_reader bytes.old state) b) }
-{
-    let mode = state.mode;
-    let told = terminated(bytes, state.len, mode);
-    let after = Mode::Outside;
-    LentStep {
-        told,
-        state: State {
-            len: FRESH,
-            mode: after,
-        },
-    }
-}
-
-fn terminated(bytes: &mut [u8; 254], len: usize, mode: Mode) -> Told
-    ensures result_value { told_means result ≡ summary_of
-        (terminated_in packets coscom_bounds (mode_seen mode) bytes.old len) }
-    ensures bytes_after { bytes.new
-        ≡ left_by_stop packets coscom_bounds (mode_seen mode) bytes.old len }
-{
-    match mode {
-        Mode::Outside => Told::Nothing,
-        Mode::Inside => told_of(coscom::judge_array(bytes, len)),
-        Mode::Overlong => Told::Refused(Refusal::TooLong),
-    }
-}
-
-fn told_of(read: Read) -> Told
-    ensures { told_means result ≡ tells (read_means read) }
-{
-    match read {
-        Read::Packet {
-            letter,
-            tens,
-            ones,
-            len,
-        } => Told::Packet {
-            letter,
-            tens,
-            ones,
-            len,
-        },
-        Read::Refused(why) => Told::Refused(why),
-    }
-}
-
-// Any byte that is no flag.
-fn grow(bytes: &mut [u8; 254], state: State, b: u8) -> LentStep
-    ensures { LentStepIs bytes.new result (role_step plain (lent_reader bytes.old state) b) }
-{
-    let len = state.len;
-    let mode = state.mode;
-    match mode {
-        Mode::Outside => unmoved(len, mode),
-        Mode::Inside => with_byte(bytes, len, b),
-        Mode::Overlong => unmoved(len, mode),
-    }
-}
-
-fn unmoved(len: usize, mode: Mode) -> LentStep
-    ensures { (bytes : List ℕ) → LentStepIs bytes result (turn nothing (reader_of bytes len mode)) }
-{
-    LentStep {
-        told: Told::Nothing,
-        state: State { len, mode },
-    }
-}
-
-// One byte more in an open candidate.
-fn with_byte(bytes: &mut [u8; 254], len: usize, b: u8) -> LentStep
-    ensures { LentStepIs bytes.new result (turn nothing (with_byte bytes.old len b)) }
-{
-    if len < ROOM {
-        bytes[len] = b;
-        return unmoved(len + 1, Mode::Inside);
-    }
-    unmoved(FRESH, Mode::Overlong)
 }
 
 // The answer by value, from the one over a lent array and the array.
 fn by_value(step: LentStep, bytes: [u8; 254]) -> Stepped
     ensures { (t : ReaderTurn) → LentStepIs bytes step t → Whole t → StepIs result t }
 {
-    let told = step.told;
-    let state = step.state;
-    let unit = beside(told, bytes);
+    let LentStep { told, state } = step;
     Stepped {
-        answer: StepAnswer { told, unit },
+        answer: StepAnswer {
+            told,
+            unit: beside(told, bytes),
+        },
         next: LineReader { bytes, state },
     }
 }
@@ -320,14 +238,8 @@ fn beside(told: Told, bytes: [u8; 254]) -> [u8; 254]
     ensures { result ≡ beside_told (told_means told) bytes }
 {
     match told {
-        Told::Nothing => [0u8; 254],
-        Told::Refused(_) => [0u8; 254],
-        Told::Packet {
-            letter: _,
-            tens: _,
-            ones: _,
-            len,
-        } => first_of(bytes, len),
+        Some(Ok(found)) => first_of(bytes, found.len),
+        Some(Err(_)) | None => [0u8; 254],
     }
 }
 

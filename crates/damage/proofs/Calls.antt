@@ -19,6 +19,8 @@ use Rattle.framing.specs.Located.{LocatedProtocol, located_answer, located_after
 use Rattle.framing.specs.LocatedDemand3.{bytes_since_finish, located_told_by, LocatedDemand3}
 use Rattle.framing.proofs.LocatedCandidates.{counted_since, located_around}
 use Rattle.answer.specs.Answer.{Answer, result, refused}
+use Rattle.std.specs.Prelude.{Result}
+use Rattle.answer.specs.declared.Refusal.{Refusal}
 use Rattle.frame.specs.Flags.{start_flag, stop_flag, role_of, candidate_of}
 use Rattle.frame.specs.Frame.{Frame, extended}
 use Rattle.frame.specs.Leading.{leading_count}
@@ -29,7 +31,7 @@ use Rattle.frame.specs.Conditions.{SoundFrame, refused_by, no_room, fits}
 use Rattle.frame.specs.declared.Origin.{Origin}
 use Rattle.frame.specs.declared.Kind.{Kind}
 use Rattle.frame.specs.declared.Leading.{Leading}
-use Rattle.frame.specs.declared.Read.{Read}
+use Rattle.frame.specs.declared.Outline.{Outline}
 use Rattle.frame.proofs.FlagLaws.{start_role, free_flagless}
 use Rattle.frame.proofs.OriginLaws.{admit_means}
 use Rattle.frame.proofs.VerdictLaws.{whole_length}
@@ -115,7 +117,7 @@ module _ (p o : Origin) (w : List ℕ) (f : Frame) (i b : ℕ) (c : OneChange w 
       )
 
   -- The bytes between the flags of the changed candidate, judged in place.
-  pub judged_damaged : (κs : Lfts 1) (kind : Kind) (ρ ρ' : MutBor (List ℕ)) (len : ℕ) (r : Read)
+  pub judged_damaged : (κs : Lfts 1) (kind : Kind) (ρ ρ' : MutBor (List ℕ)) (len : ℕ) (r : Result Outline Refusal)
       → judge-array-reads.Learnt κs (o, (kind, (ρ, (len, tt)))) r (o, (kind, (ρ', (len, tt)))) → SoundFrame p w f
       → set w i b ≡ candidate_of kind (take len ρ.now)
       → Shows (λ (g : Frame). Tells g ρ.now (read_means r) ρ'.now) (Catches ρ.now (read_means r) ρ'.now)

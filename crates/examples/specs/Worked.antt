@@ -9,7 +9,9 @@ use Rattle.frame.specs.Origin.{admit}
 use Rattle.writer.specs.Answers.{sent_draft}
 use Rattle.frame.specs.declared.Origin.TheVariants.{Trace}
 use Rattle.command.specs.Entries.{entry}
-use Rattle.reply.specs.Status.{ok, ready, previous_number, state_number}
+use Rattle.reply.specs.Status.{previous_number, state_number}
+use Rattle.reply.specs.declared.status.Previous.TheVariants.{Ok as ok}
+use Rattle.reply.specs.declared.status.State.TheVariants.{Ready as ready}
 use Rattle.reply.specs.Replies.{reply, reply_in, Reply}
 use Rattle.lease.specs.Lease.{hold, stop}
 use Rattle.lease.specs.History.{new_table, answers_on}

@@ -7,7 +7,6 @@ use Rattle.framing.specs.Located.{Located, answer_in, position_in}
 use Rattle.framing.specs.Counting.{locate}
 use Rattle.frame.specs.declared.Origin.{Origin}
 use Rattle.candidate.specs.Outcome.{Outcome, Summary, told_means, summary_of, ContentsFit}
-use Rattle.candidate.specs.Holder.{mode_seen}
 use Rattle.candidate.specs.Feed.{is_answer}
 use Rattle.candidate.proofs.HolderLaws.{truncated_alike}
 use Rattle.line.specs.Reader.{lent_reader, origin_of, finish_of, LentStepIs}
@@ -67,7 +66,7 @@ module _ (before : State) (s : LentStep)
       let k = is bytes in
       let same : (finish_of (lent_reader bytes before)).answer ≡ (finished o bytes n₀ counts₀).answer =
       ap (λ (x : State). (finish_of (lent_reader bytes x)).answer) e
-      ∙ ap (locate is_answer (start_of counts₀)) (truncated_alike p o (mode_seen (mode_of (n₀ % 4)))) in
+      ∙ ap (locate is_answer (start_of counts₀)) (truncated_alike p o (mode_of (n₀ % 4))) in
       record {
         answered = subst (λ (h : Summary). Tells answer (line_fields h))
             (k.told_is ∙ ap (λ (a : Located Outcome). summary_of (answer_in a)) same) t;

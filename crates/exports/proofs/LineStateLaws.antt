@@ -12,8 +12,10 @@ use Rattle.frame.specs.Answers.{standard_outline, extended_outline, FrameOutline
 use Rattle.answer.specs.Answer.{Answer, result, refused}
 use Rattle.frame.specs.declared.Origin.{Origin}
 use Rattle.candidate.specs.Outcome.{silent, tells}
-use Rattle.candidate.specs.declared.Mode.{Mode}
-use Rattle.candidate.specs.declared.Mode.TheVariants.{Outside, InStandard, InExtended, Overlong}
+use Rattle.frame.specs.declared.Kind.{Kind}
+use Rattle.frame.specs.declared.Kind.TheVariants.{Standard, Extended}
+use Rattle.framing.specs.declared.Mode.{Mode}
+use Rattle.framing.specs.declared.Mode.TheVariants.{Outside, Inside, Overlong}
 use Rattle.line.specs.Reader.{lent_reader}
 use Rattle.line.specs.declared.State.{State}
 use Rattle.exports.specs.Packed.{Fields, Tells}
@@ -21,16 +23,16 @@ use Rattle.exports.specs.LineState.{digit_of, mode_of, packed_state, packed_coun
 use Rattle.exports.specs.LineState.{start_of, count_of, state_in, reader_in}
 use Rattle.exports.specs.LineAnswers.{line_fields}
 
-digit_small : (m : Mode) → digit_of m < 4
+digit_small : (m : Mode Kind) → digit_of m < 4
 digit_small Outside = omega arith
-digit_small InStandard = omega arith
-digit_small InExtended = omega arith
+digit_small (Inside Standard) = omega arith
+digit_small (Inside Extended) = omega arith
 digit_small Overlong = omega arith
 
-mode_of_digit : (m : Mode) → mode_of (digit_of m) ≡ m
+mode_of_digit : (m : Mode Kind) → mode_of (digit_of m) ≡ m
 mode_of_digit Outside = refl
-mode_of_digit InStandard = refl
-mode_of_digit InExtended = refl
+mode_of_digit (Inside Standard) = refl
+mode_of_digit (Inside Extended) = refl
 mode_of_digit Overlong = refl
 
 -- A start below 2 to the 32 and a count are what their number is taken apart to.
@@ -61,7 +63,7 @@ digit_of_mode : (n : ℕ) → n < 4 → digit_of (mode_of n) ≡ n
 digit_of_mode n h = by_tests (eqb n 0) (eqb n 1) (eqb n 2) refl refl refl
   where
     by_tests : (t₀ t₁ t₂ : Bool) → eqb n 0 ≡ t₀ → eqb n 1 ≡ t₁ → eqb n 2 ≡ t₂
-        → digit_of (pick t₀ Outside (pick t₁ InStandard (pick t₂ InExtended Overlong))) ≡ n
+        → digit_of (pick t₀ Outside (pick t₁ (Inside Standard) (pick t₂ (Inside Extended) Overlong))) ≡ n
     by_tests true t₁ t₂ a b c = sym (eqb-true n 0 a)
     by_tests false true t₂ a b c = sym (eqb-true n 1 b)
     by_tests false false true a b c = sym (eqb-true n 2 c)

@@ -3,20 +3,22 @@
 use Rattle.std.specs.Prelude.{ℕ, ◌+◌, ◌*◌, ◌/◌, ◌%◌, ◌^◌, List, eqb}
 use Rattle.lists.specs.Choice.{pick}
 use Rattle.frame.specs.declared.Origin.{Origin}
-use Rattle.candidate.specs.declared.Mode.{Mode}
-use Rattle.candidate.specs.declared.Mode.TheVariants.{Outside, InStandard, InExtended, Overlong}
+use Rattle.frame.specs.declared.Kind.{Kind}
+use Rattle.frame.specs.declared.Kind.TheVariants.{Standard, Extended}
+use Rattle.framing.specs.declared.Mode.{Mode}
+use Rattle.framing.specs.declared.Mode.TheVariants.{Outside, Inside, Overlong}
 use Rattle.line.specs.Reader.{lent_reader, held_of}
 use Rattle.line.specs.declared.LineReader.{LineReader}
 use Rattle.line.specs.declared.State.{State}
 
-abbrev pub digit_of : Mode → ℕ
+abbrev pub digit_of : Mode Kind → ℕ
 digit_of Outside = 0
-digit_of InStandard = 1
-digit_of InExtended = 2
+digit_of (Inside Standard) = 1
+digit_of (Inside Extended) = 2
 digit_of Overlong = 3
 
-abbrev pub mode_of : ℕ → Mode
-mode_of n = pick (eqb n 0) Outside (pick (eqb n 1) InStandard (pick (eqb n 2) InExtended Overlong))
+abbrev pub mode_of : ℕ → Mode Kind
+mode_of n = pick (eqb n 0) Outside (pick (eqb n 1) (Inside Standard) (pick (eqb n 2) (Inside Extended) Overlong))
 
 -- ---- the first number
 

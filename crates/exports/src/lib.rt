@@ -1,6 +1,7 @@
 // The portal's functions: frames, the line reader, workouts and leases, called with numbers and byte slices.
 // Document 01, "What the box does"; document 02, No. 9. The exported functions are live; those for traces stand in
 // another static library, `trace_exports`, over the functions that take an origin.
+// Stay functions that are alike, with numbers that go together: C has a name and these parameters for each.
 #![tactic(auto)]
 
 mod line_state;
@@ -62,7 +63,7 @@ pub fn csafe_extended_length(to: u8, from: u8, contents: &[u8]) -> u64
     ensures { Tells result (write_fields (through length (frame_draft (extended to from contents.now)))) }
 {
     let length = writer::extended_length(to, from, contents);
-    packed::of_length(length)
+    packed::of_written(length)
 }
 
 // Reads one frame. Refusals 6, 2, 3, 4, 5, 17 and 1.
@@ -236,7 +237,7 @@ pub fn standard_length(origin: Origin, contents: &[u8]) -> u64
     ensures { Tells result (write_fields (through length (sent_draft origin (standard contents.now)))) }
 {
     let length = writer::standard_length(origin, contents);
-    packed::of_length(length)
+    packed::of_written(length)
 }
 
 // Reads one frame. Refusals 6, 2, 3, 4, 5, 17, on the live line alone, and 1.

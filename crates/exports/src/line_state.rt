@@ -5,9 +5,10 @@ ghost use Rattle.std.specs.Prelude.{◌≡◌, ◌%◌, ◌<◌, ◌^◌};
 ghost use Rattle.exports.specs.LineState.{digit_of, mode_of, packed_state, packed_counts, state_in};
 
 use candidate::{Held, Mode};
-use frame::Origin;
+use frame::{Kind, Origin};
 use line::State;
 
+// Stays numbers: the C interface holds a reader's state in them.
 const OUTSIDE: u64 = 0;
 
 const IN_STANDARD: u64 = 1;
@@ -25,17 +26,12 @@ const POSITIONS: u64 = 0x1_0000_0000;
 fn mode_in(number: u64) -> Mode
     ensures { result ≡ mode_of (number % 4) }
 {
-    let digit = number % MODES;
-    if digit == OUTSIDE {
-        return Mode::Outside;
+    match number % MODES {
+        OUTSIDE => Mode::Outside,
+        IN_STANDARD => Mode::Inside(Kind::Standard),
+        IN_EXTENDED => Mode::Inside(Kind::Extended),
+        _ => Mode::Overlong,
     }
-    if digit == IN_STANDARD {
-        return Mode::InStandard;
-    }
-    if digit == IN_EXTENDED {
-        return Mode::InExtended;
-    }
-    Mode::Overlong
 }
 
 pub(crate) fn state_in(origin: Origin, number: u64, counts: u64) -> State
@@ -59,8 +55,8 @@ fn digit_of(mode: Mode) -> u64
 {
     match mode {
         Mode::Outside => OUTSIDE,
-        Mode::InStandard => IN_STANDARD,
-        Mode::InExtended => IN_EXTENDED,
+        Mode::Inside(Kind::Standard) => IN_STANDARD,
+        Mode::Inside(Kind::Extended) => IN_EXTENDED,
         Mode::Overlong => OVERLONG,
     }
 }

@@ -1,7 +1,6 @@
 // The one number that every exported function answers.
 ghost use Rattle.answer.specs.Refusals.{number_of};
 ghost use Rattle.answer.specs.Draft.{written_means};
-ghost use Rattle.writer.specs.Answers.{length_means};
 ghost use Rattle.frame.specs.Answers.{read_means};
 ghost use Rattle.candidate.specs.Outcome.{told_means, ContentsFit};
 ghost use Rattle.lease.specs.Answers.{lease_means};
@@ -10,13 +9,11 @@ ghost use Rattle.exports.specs.Answers.{refusal_fields, result_fields, write_fie
 ghost use Rattle.exports.specs.Answers.{WriteShort, ReadShort};
 ghost use Rattle.exports.specs.LineAnswers.{line_fields};
 
-use answer::{Refusal, Written};
+use answer::Refusal;
 use candidate::Told;
-use frame::Read;
-use lease::LeaseAnswer;
-use writer::WireLength;
+use frame::{Header, Outline};
 
-// The kinds of frame.
+// The kinds of frame. Stays numbers: the C interface gives a byte for the kind, and for packets their letter.
 const STANDARD: u8 = 0;
 
 const EXTENDED: u8 = 1;
@@ -74,43 +71,44 @@ pub fn result(kind: u8, to: u8, from: u8, len: u32) -> u64
     })
 }
 
-pub(crate) fn of_written(w: Written) -> u64
-    requires { WriteShort (written_means w) }
-    ensures { Tells result (write_fields (written_means w)) }
+// How many bytes were written, or would be, or a refusal.
+pub(crate) fn of_written(written: Result<usize, Refusal>) -> u64
+    requires { WriteShort (written_means written) }
+    ensures { Tells result (write_fields (written_means written)) }
 {
-    match w {
-        Written::Length(n) => result(STANDARD, NONE, NONE, n as u32),
-        Written::Refused(why) => refused(why),
+    match written {
+        Ok(n) => result(STANDARD, NONE, NONE, n as u32),
+        Err(why) => refused(why),
     }
 }
 
-pub(crate) fn of_length(length: WireLength) -> u64
-    requires { WriteShort (length_means length) }
-    ensures { Tells result (write_fields (length_means length)) }
-{
-    match length {
-        WireLength::Bytes(n) => of_written(Written::Length(n)),
-        WireLength::Refused(why) => of_written(Written::Refused(why)),
-    }
-}
-
-pub(crate) fn of_read(read: Read) -> u64
+pub(crate) fn of_read(read: Result<Outline, Refusal>) -> u64
     requires { ReadShort (read_means read) }
     ensures { Tells result (read_fields (read_means read)) }
 {
     match read {
-        Read::Standard { len } => result(STANDARD, NONE, NONE, len as u32),
-        Read::Extended { to, from, len } => result(EXTENDED, to, from, len as u32),
-        Read::Refused(why) => refused(why),
+        Ok(outline) => of_outline(outline),
+        Err(why) => refused(why),
     }
 }
 
-pub(crate) fn of_lease(answer: LeaseAnswer) -> u64
+fn of_outline(outline: Outline) -> u64
+    requires { ReadShort (read_means (Ok outline)) }
+    ensures { Tells result (read_fields (read_means (Ok outline))) }
+{
+    let len = outline.len as u32;
+    match outline.header {
+        Header::Plain => result(STANDARD, NONE, NONE, len),
+        Header::Addressed { to, from } => result(EXTENDED, to, from, len),
+    }
+}
+
+pub(crate) fn of_lease(answer: Result<(), Refusal>) -> u64
     ensures { Tells result (lease_fields (lease_means answer)) }
 {
     match answer {
-        LeaseAnswer::Done => result(STANDARD, NONE, NONE, 0),
-        LeaseAnswer::Refused(why) => refused(why),
+        Ok(()) => result(STANDARD, NONE, NONE, 0),
+        Err(why) => refused(why),
     }
 }
 
@@ -119,9 +117,7 @@ pub(crate) fn of_told(told: Told) -> u64
     ensures { Tells result (line_fields (told_means told)) }
 {
     match told {
-        Told::Nothing => result(UNTOLD, NONE, NONE, 0),
-        Told::Refused(why) => refused(why),
-        Told::Standard { len } => of_read(Read::Standard { len }),
-        Told::Extended { to, from, len } => of_read(Read::Extended { to, from, len }),
+        None => result(UNTOLD, NONE, NONE, 0),
+        Some(read) => of_read(read),
     }
 }

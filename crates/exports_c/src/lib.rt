@@ -1,5 +1,5 @@
 // The portal's functions for C, with the names that they have there: each calls the function of that name of `exports`
-// and states its clauses again.
+// and states its clauses again. Stay functions that are alike: C has a name for each.
 #![tactic(auto)]
 
 ghost use Rattle.std.specs.Prelude.{◌≡◌, List, ℕ, ◌<◌, ◌^◌, length};

@@ -9,13 +9,15 @@ use denote.MutBor.{MutBor}
 use denote.Ref.{Bor}
 use Rattle.lists.specs.Choice.{Exactly}
 use Rattle.answer.specs.Answer.{Answer, result, refused}
+use Rattle.std.specs.Prelude.{Result}
+use Rattle.answer.specs.declared.Refusal.{Refusal}
 use Rattle.frame.specs.Frame.{Frame, standard, contents_of, frame_kind, wire_of}
 use Rattle.frame.specs.Answers.{FrameOutline, standard_outline, frame_read, read_means, Reads}
 use Rattle.frame.specs.Conditions.{SenderNamed, Sound, SoundFrame, NoStandard, ReadJudged}
 use Rattle.frame.specs.declared.Origin.{Origin}
 use Rattle.frame.specs.declared.Origin.TheVariants.{Live, Trace}
 use Rattle.frame.specs.declared.Leading.{Leading}
-use Rattle.frame.specs.declared.Read.{Read}
+use Rattle.frame.specs.declared.Outline.{Outline}
 use Rattle.frame.proofs.Table as table
 use Rattle.frame.proofs.RoundTrip as trip
 use Rattle.frame.proofs.Unnamed as unnamed
@@ -27,7 +29,7 @@ use Rattle.frame.proofs.read_leading.Reads as read-leading-reads
 -- A call that reads a slice of an origin, or the candidate that one begins with: its answer, and the output before and
 -- after.
 pub data CalledRead : Origin → (w out : List ℕ) → Answer FrameOutline → (last : List ℕ) → Type 0 where
-  read_slice : {o : Origin} (r : Read) (κs : Lfts 2) (wire : Bor (List ℕ)) (out out' : MutBor (List ℕ))
+  read_slice : {o : Origin} (r : Result Outline Refusal) (κs : Lfts 2) (wire : Bor (List ℕ)) (out out' : MutBor (List ℕ))
       → read-frame-reads.Learnt κs (o, (wire, (out, tt))) r (o, (wire, (out', tt)))
       → CalledRead o wire.now out.now (read_means r) out'.now
   read_first : {o : Origin} (r : Leading) (κs : Lfts 2) (s : Bor (List ℕ)) (out out' : MutBor (List ℕ))

@@ -8,7 +8,13 @@ use lib.Bits.{bit_xor, xor_self, xor_comm, xor_zero_l, xor_zero_r, xor_shr, xor_
 use lib.Bits.{and_le_r}
 use lib.ListN.{length, get_or, set, take, drop, length-drop, drop_of_length-le}
 use lib.Seq.{take-suc, drop-cons, take_all, get_or-drop}
-use Rattle.lists.proofs.Lists.{last_apart}
+use mathlib.Core.Bool.{Bool, true, false, not, ◌||◌}
+use Rattle.std.specs.Prelude.{Some, None}
+use Rattle.std.specs.Bool.{then_some}
+use Rattle.lists.specs.Choice.{pick, none_of}
+use Rattle.lists.proofs.Cases.{by_bool}
+use Rattle.lists.proofs.Tests.{none_append}
+use Rattle.frame.specs.Stuffing.{is_stuffed}
 use Rattle.frame.specs.Checksum.{sum_from, checksum}
 use Rattle.frame.specs.Verdict.{contents_in, last_of}
 
@@ -26,14 +32,6 @@ pub sum_from_last : (acc : ℕ) (c : List ℕ) (b : ℕ) → sum_from acc (c ++ 
 unfolding sum_from
 sum_from_last acc [] b = refl
 sum_from_last acc (x ∷ c) b = sum_from_last (bit_xor acc x) c b
-
--- the last byte, known by itself, after the sum of those before it
-pub sum_last : (s : List ℕ) (sum last : ℕ) → 1 ≤ length s → last ≡ get_or s (length s - 1) 0
-    → sum ≡ checksum (take (length s - 1) s) → bit_xor sum last ≡ checksum s
-sum_last s sum last h e q =
-    ap (λ (n : ℕ). bit_xor n last) q ∙ ap (bit_xor (checksum (take (length s - 1) s))) e
-    ∙ sym (sum_from_last 0 (take (length s - 1) s) (get_or s (length s - 1) 0))
-    ∙ ap checksum (sym (last_apart s h))
 
 xor_zero : (a b : ℕ) → bit_xor a b ≡ 0 → b ≡ a
 xor_zero a b h = omega (arith, xor_add_and a b, and_le_l a b, and_le_r a b)
@@ -154,3 +152,42 @@ pub sum_changed : (c d : List ℕ) (i b : ℕ) → i < length (c ++ (checksum c 
     → set (c ++ (checksum c ∷ [])) i b ≡ d ++ (checksum d ∷ []) → ⊥
 sum_changed c d i b h n e =
     sum-set 0 (c ++ (checksum c ∷ [])) i b h n (ap checksum e ∙ sum_whole d ∙ sym (sum_whole c))
+
+-- ---- the exclusive or of bytes where none is F0 to F3
+
+-- whether a byte has passed a test, with one byte more
+pub found_more : (p : ℕ → Bool) (s : List ℕ) (i : ℕ) (found : Bool) → i < length s
+    → found ≡ pick (none_of p (take i s)) false true
+    → (found || p (get_or s i 0)) ≡ pick (none_of p (take (i + 1) s)) false true
+unfolding none_of
+found_more p s i found h e =
+    let b = get_or s i 0 in
+    let more : none_of p (take (i + 1) s) ≡ pick (none_of p (take i s)) (pick (p b) false true) false =
+    ap (λ (n : ℕ). none_of p (take n s)) (add-one i) ∙ ap (none_of p) (take-suc s i 0 h)
+    ∙ none_append p (take i s) (b ∷ []) in
+    ap (λ (x : Bool). x || p b) e ∙ joined (none_of p (take i s)) (p b)
+    ∙ ap (λ (x : Bool). pick x false true) (sym more)
+  where
+    joined : (t u : Bool) → (pick t false true || u) ≡ pick (pick t (pick u false true) false) false true
+    joined true true = refl
+    joined true false = refl
+    joined false u = refl
+
+-- as a pass over them finds it
+pub plain_found : (s : List ℕ) (i sum : ℕ) (seen : Bool) → length s ≤ i
+    → seen ≡ pick (none_of is_stuffed (take i s)) false true
+    → sum ≡ checksum s → then_some (not seen) sum ≡ pick (none_of is_stuffed s) (Some (checksum s)) None
+plain_found s i sum seen h e q =
+    let w : seen ≡ pick (none_of is_stuffed s) false true =
+    e ∙ ap (λ (l : List ℕ). pick (none_of is_stuffed l) false true) (take_all i s h) in
+    by_bool (none_of is_stuffed s)
+    (λ y. let z : seen ≡ false = simp y at w in simp (y, z, q))
+    (λ n. let z : seen ≡ true = simp n at w in simp (n, z))
+
+-- and where it was found
+pub found_plain : (s : List ℕ) (sum : ℕ) → Some sum ≡ pick (none_of is_stuffed s) (Some (checksum s)) None
+    → (none_of is_stuffed s ≡ true) × (sum ≡ checksum s)
+found_plain s sum e =
+    by_bool (none_of is_stuffed s)
+    (λ y. let q : Some sum ≡ Some (checksum s) = simp y at e in let r : sum ≡ checksum s = cc in (y, r))
+    (λ n. let q : Some sum ≡ None = simp n at e in cc)

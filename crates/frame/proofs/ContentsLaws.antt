@@ -1,11 +1,13 @@
 -- Laws of a sound body's contents, copied out or brought to the front of the body itself.
-use borrow.Author.Tests.{leb-true}
+use Rattle.std.proofs.lemmas.List.{take_min}
+use borrow.Author.Tests.{leb-true, le-leb}
+use Rattle.answer.specs.Draft.{draft_out}
 use lib.ListN.{length-drop, length, get_or, take, drop, length-append, take-append-drop}
 use Rattle.frame.specs.Verdict.{judge, judge_bytes, frame_in, address_count, last_of, contents_in, Verdict, body_of}
 use Rattle.frame.specs.Verdict.{is_terminated, verdict}
 use Rattle.frame.specs.Flags.{kind_of, flagless, candidate_of}
 use Rattle.answer.specs.Answer.{result, refused}
-use Prim.Native.Nat.{◌-◌, ℕ, ◌+◌, ◌≤◌, ◌<◌}
+use Prim.Native.Nat.{◌-◌, ℕ, ◌+◌, ◌≤◌, ◌<◌, min}
 use lib.Dec.{leb, eqb}
 use Rattle.lists.proofs.Cases.{by_bool}
 use Rattle.frame.specs.Stuffing.{Unstuffed, bad_escape, bytes, unstuff}
@@ -20,8 +22,8 @@ use Rattle.lists.specs.Splice.{splice}
 use Rattle.lists.proofs.Lists.{back_in}
 use Rattle.frame.specs.Checksum.{checksum}
 use Rattle.frame.specs.Frame.{Frame, contents_of, standard, extended, frame_of}
-use Rattle.frame.specs.Answers.{left_in, judge_answer, frame_read, read_answer, read_out}
-use Rattle.frame.specs.Private.{read_as, unstuffed_bytes, is_sound, is_escape, last_at, SoundAt, judge_whole}
+use Rattle.frame.specs.Answers.{left_in, judge_answer, frame_read, read_answer, read_out, outline_with}
+use Rattle.frame.specs.Private.{unstuffed_bytes, is_sound, last_at, SoundAt, judge_whole}
 use Rattle.frame.specs.Origin.{admit}
 use Rattle.frame.specs.declared.Origin.{Origin}
 use Rattle.frame.specs.declared.Kind.{Kind}
@@ -63,29 +65,17 @@ module _ {v : Verdict} {body : List ℕ} {header : Header} {start len : ℕ} (s 
 
   pub read_first : (v : Verdict) (out last : List ℕ) → v ≡ result (frame_of header s.contents) → len ≤ length out
       → last ≡ take len (unstuffed_bytes (unstuff false (drop start body))) ++ drop len out
-      → (read_as header len ≡ read_answer v (length out)) × (last ≡ read_out v out)
+      → (result (outline_with header len) ≡ read_answer v (length out)) × (last ≡ read_out v out)
   read_first v out last q h e =
       let done = answer_done v _ out q (omega (arith, as_many)) in
       (header_as header s.contents len s.counted ∙ done.0, rest_first out last e ∙ done.1)
 
 -- ---- bytes without an escape
 
--- a part as long as its unstuffed bytes, copied as it is
-pub copied_plain : (rest out last : List ℕ) (len : ℕ) → length (unstuffed_bytes (unstuff false rest)) ≡ len + 1
-    → length rest ≡ len + 1
-    → last ≡ splice out 0 (take len rest) → last ≡ take len (unstuffed_bytes (unstuff false rest)) ++ drop len out
-copied_plain rest out last len n l e =
-    let k : 0 + length (take len rest) ≡ len = omega (arith, length-take-le len rest (omega arith)) in
-    e ∙ ap (λ (m : ℕ). take len rest ++ drop m out) k
-    ∙ ap (λ (x : List ℕ). take len x ++ drop len out) (sym (unstuff_same rest (n ∙ sym l)))
-
--- the same, brought to the front
-pub shifted_plain : (s last : List ℕ) (start len : ℕ) → length (unstuffed_bytes (unstuff false (drop start s))) ≡ len + 1
-    → length (drop start s) ≡ len + 1
-    → last ≡ take len (drop start s) ++ drop len s
-    → last ≡ take len (unstuffed_bytes (unstuff false (drop start s))) ++ drop len s
-shifted_plain s last start len n l e =
-    e ∙ ap (λ (x : List ℕ). take len x ++ drop len s) (sym (unstuff_same (drop start s) (n ∙ sym l)))
+-- the first of a part that is as long as its unstuffed bytes
+pub plain_first : (rest : List ℕ) (len : ℕ) → length (unstuffed_bytes (unstuff false rest)) ≡ len + 1
+    → length rest ≡ len + 1 → take len rest ≡ take len (unstuffed_bytes (unstuff false rest))
+plain_first rest len n l = ap (take len) (sym (unstuff_same rest (n ∙ sym l)))
 
 -- ---- bytes with escapes, of which the last unstuffed one is left out
 
@@ -119,14 +109,6 @@ module _ (rest : List ℕ) (len : ℕ) (n : length (unstuffed_bytes (unstuff fal
   pub front_length : length (unstuffed_bytes (unstuff false (take end rest))) ≡ len
   front_length = ap length front_bytes ∙ length-take-le len all (omega arith)
 
-  pub front_inside : end ≤ length rest
-  front_inside =
-      by_bool (leb 2 (length rest))
-      (λ y. by_bool (is_escape (get_or rest (length rest - 2) 0))
-      (λ x. let q : end ≡ length rest - 2 = is ∙ simp (y, x) refl in omega arith)
-      (λ x. let q : end ≡ length rest - 1 = is ∙ simp (y, x) refl in omega arith))
-      (λ y. let q : end ≡ 0 = is ∙ simp y refl in omega arith)
-
   pub front_put : (out last : List ℕ) → last ≡ splice out 0 (unstuffed_bytes (unstuff false (take end rest)))
       → last ≡ take len all ++ drop len out
   front_put out last e =
@@ -135,15 +117,6 @@ module _ (rest : List ℕ) (len : ℕ) (n : length (unstuffed_bytes (unstuff fal
       ∙ ap (λ (l : List ℕ). l ++ drop len out) front_bytes
 
 -- ---- what a verdict leaves
-
-pub left_refused : (v : Verdict) (s : List ℕ) (n : ℕ) → v ≡ refused n → s ≡ left_in v s
-unfolding left_in
-left_refused v s n q = ap (λ (w : Verdict). left_in w s) (sym q)
-
-pub left_accepted : (v : Verdict) (s last : List ℕ) (f : Frame) → v ≡ result f
-    → last ≡ contents_of f ++ drop (length (contents_of f)) s → last ≡ left_in v s
-unfolding left_in
-left_accepted v s last f q e = e ∙ ap (λ (w : Verdict). left_in w s) (sym q)
 
 -- the answer of a judge in place, with the bytes that it leaves, tells the whole verdict
 pub left_whole : (v : Verdict) (s : List ℕ) → frame_read (judge_answer v) (left_in v s) ≡ v
@@ -204,31 +177,56 @@ judge_shrinks kind body f e =
         (λ y. let q : refused 4 ≡ result f = simp y at e in
         let z : ◌≡◌ {A = ℕ} 0 1 = cc in absurd (omega arith))
 
--- bytes that were judged in place are as many as they were
-pub left_length : (o : Origin) (kind : Kind) (n : ℕ) (s : List ℕ)
-    → length (left_in (admit o (verdict (candidate_of kind (take n s)))) s) ≡ length s
-unfolding left_in
-left_length o kind n s = of_verdict (admit o (verdict (candidate_of kind (take n s)))) refl
+-- the contents of accepted bytes are fewer than the bytes
+accepted_fits : (o : Origin) (kind : Kind) (n : ℕ) (s : List ℕ) (f : Frame)
+    → admit o (verdict (candidate_of kind (take n s))) ≡ result f → length (contents_of f) ≤ length s
+accepted_fits o kind n s f e =
+    let a = (admit_means o (verdict (candidate_of kind (take n s))) f e).0 in
+    let j = judge_shrinks kind (take n s) f (accepted (sym (candidate_verdict kind (take n s)) ∙ a)) in
+    omega (arith, j.0, take_shorter n s)
   where
-    accepted : (f : Frame) → judge_whole kind (take n s) ≡ result f → judge kind (take n s) ≡ result f
-    accepted f e =
+    accepted : judge_whole kind (take n s) ≡ result f → judge kind (take n s) ≡ result f
+    accepted e =
         by_bool (flagless (take n s)) (λ y. simp y at e)
-        (λ y. let q : refused 6 ≡ result f = simp y at e in
-        let z : ◌≡◌ {A = ℕ} 0 1 = cc in absurd (omega arith))
+        (λ y. let q : refused 6 ≡ result f = simp y at e in cc)
 
-    of_verdict : (v : Verdict) → admit o (verdict (candidate_of kind (take n s))) ≡ v → length (left_in v s) ≡ length s
-    of_verdict (refused m) e = refl
-    of_verdict (result f) e =
-        let a = (admit_means o (verdict (candidate_of kind (take n s))) f e).0 in
-        let j = judge_shrinks kind (take n s) f (accepted f (sym (candidate_verdict kind (take n s)) ∙ a)) in
-        omega (
-          arith,
-          length-append (contents_of f) (drop (length (contents_of f)) s),
-          length-drop
-              (length (contents_of f)) s,
-          j.0,
-          take_shorter n s,
-        )
+module _ (o : Origin) (kind : Kind) (n : ℕ) (s : List ℕ) where
+  abbrev judged : Verdict
+  judged = admit o (verdict (candidate_of kind (take n s)))
+
+  -- bytes that were judged in place are as many as they were
+  pub left_length : length (left_in (admit o (verdict (candidate_of kind (take n s)))) s) ≡ length s
+  unfolding left_in
+  left_length = of_verdict judged refl
+    where
+      of_verdict : (v : Verdict) → judged ≡ v → length (left_in v s) ≡ length s
+      of_verdict (refused m) e = refl
+      of_verdict (result f) e =
+          omega (
+            arith,
+            length-append (contents_of f) (drop (length (contents_of f)) s),
+            length-drop
+                (length (contents_of f)) s,
+            accepted_fits o kind n s f e,
+          )
+
+  -- a reader that puts them first in their own slice has room for them
+  pub read_in_place : (read_answer judged (length s) ≡ judge_answer judged) × (read_out judged s ≡ left_in judged s)
+  unfolding read_answer read_out draft_out judge_answer left_in
+  read_in_place = of_verdict judged refl
+    where
+      of_verdict : (v : Verdict) → judged ≡ v
+          → (read_answer v (length s) ≡ judge_answer v) × (read_out v s ≡ left_in v s)
+      of_verdict (refused m) e = (refl, refl)
+      of_verdict (result f) e =
+          let fits = le-leb (length (contents_of f)) (length s) (accepted_fits o kind n s f e) in
+          (simp fits, simp fits)
+
+-- the part that a count of bytes has, which may be more than there are
+pub judged_part : (kind : Kind) (s : List ℕ) (len n : ℕ) → n ≡ min len (length s)
+    → judge_whole kind (take n s) ≡ verdict (candidate_of kind (take len s))
+judged_part kind s len n e =
+    ap (judge_whole kind) (ap (λ (k : ℕ). take k s) e ∙ take_min len s) ∙ sym (candidate_verdict kind (take len s))
 
 -- The contents of a frame that is accepted are fewer than the bytes between its flags, which are at most 118.
 pub accepted_shrinks : (w : List ℕ) (f : Frame) → verdict w ≡ result f

@@ -1,28 +1,30 @@
 -- Laws of escapes looked at without unstuffing: whether each is sound, how many there are, and the exclusive or.
 use Prim.Native.Nat.{ℕ, suc, ◌+◌, ◌-◌, ◌≤◌, ◌<◌}
 use mathlib.Core.Path.{◌≡◌, refl, sym, ap, ◌∙◌}
-use mathlib.Core.Bool.{Bool, true, false, true≢false}
+use mathlib.Core.Bool.{Bool, true, false, true≢false, not, ◌||◌}
 use mathlib.Core.List.{List, [], ◌∷◌, ◌++◌}
 use native.Mathlib.Nat.{zero-add}
 use native.Mathlib.Numerals.{add-one}
 use native.Mathlib.Omega.{arith}
-use lib.Bits.{bit_and, bit_or, bit_xor}
+use lib.Bits.{bit_xor}
 use lib.Dec.{leb, eqb}
 use lib.ListN.{length, get_or, take, drop, drop_of_length-le, take-append-drop}
 use lib.Seq.{drop-cons}
-use borrow.Author.Tests.{leb-true, leb-false, eqb-true, eqb-false, eq-eqb, ne_eqb}
+use borrow.Author.Tests.{leb-true, eqb-true, eqb-false, ne_eqb}
 use Rattle.lists.specs.Choice.{pick, within, none_of, count_of}
 use Rattle.lists.proofs.Cases.{by_bool, both_true}
 use Rattle.lists.proofs.Lists.{drop_two, last_apart}
-use Rattle.lists.proofs.Tests.{within_yes, within_true, mark_all, mark_more, none_append, none_at, none_last}
+use Rattle.lists.proofs.Tests.{within_yes, within_true, none_append, none_at, none_last}
 use Rattle.lists.proofs.Tests.{count_at, count_end, count_most}
 use Rattle.frame.specs.Stuffing.{Unstuffed, bad_escape, bytes, prepend, unstuff}
 use Rattle.frame.specs.Checksum.{sum_from, checksum}
 use Rattle.frame.specs.Flags.{is_flag, flagless}
+use Rattle.std.specs.Prelude.{Ok, Err}
+use Rattle.answer.specs.declared.Refusal.TheVariants.{BadEscape, Truncated}
 use Rattle.frame.specs.Private.{is_sound, good_pair, lower_byte, lowered, scan_from, scan_of, unstuffed_bytes, Tallied}
-use Rattle.frame.specs.declared.candidate.Scan.TheVariants.{Flagged, Fault, Good}
+use Rattle.frame.specs.declared.candidate.Counted.{Counted}
 use Rattle.frame.specs.declared.candidate.Tally.{Tally}
-use Rattle.frame.proofs.ChecksumLaws.{sum_escape}
+use Rattle.frame.proofs.ChecksumLaws.{sum_escape, found_more}
 use Rattle.frame.proofs.StuffingLaws.{prepend_inv, unstuff_plain}
 
 -- ---- one byte
@@ -38,27 +40,6 @@ escape_no b n =
 -- a byte of 00 to 03 is no escape
 pub low_no : (e : ℕ) → leb e 3 ≡ true → eqb e 0xF3 ≡ false
 low_no e y = ne_eqb e 0xF3 (λ q. let l = leb-true e 3 y in omega arith)
-
--- the marks of a bad pair
-pub pair_mark : (b after m n : ℕ) → after ≤ 0xFF → m ≡ pick (within 0xF3 0xF3 b) 1 0
-    → n ≡ pick (within 4 0xFF after) 1 0
-    → bit_and m n ≡ pick (good_pair b after) 0 1
-pair_mark b after m n h p q =
-    by_bool (eqb b 0xF3)
-    (λ y. let one : m ≡ 1 = p ∙ simp (escape_yes b y) in
-    by_bool (leb after 3)
-    (λ z. let l = leb-true after 3 z in
-    let w : within 4 0xFF after ≡ false =
-    by_bool (within 4 0xFF after) (λ v. let g = within_true 4 0xFF after v in absurd (omega arith)) (λ v. v) in
-    let none : n ≡ 0 = q ∙ simp w in
-    simp (one, none, y, z))
-    (λ z. let l = leb-false after 3 z in
-    let none : n ≡ 1 = q ∙ simp (within_yes 4 0xFF after (omega arith) h) in
-    simp (one, none, y, z)))
-    (λ k. let one : m ≡ 0 = p ∙ simp (escape_no b k) in
-    by_bool (within 4 0xFF after)
-    (λ v. let none : n ≡ 1 = q ∙ simp v in simp (one, none, k))
-    (λ v. let none : n ≡ 0 = q ∙ simp v in simp (one, none, k)))
 
 -- ---- pairs of neighbours
 
@@ -119,36 +100,33 @@ module _ (s : List ℕ) (i : ℕ) where
       ∙ simp (ne_eqb (get_or s i 0) 0xF3 n)
 
 -- the pairs up to an index are good or not, as the loop has marked
-abbrev pub Paired : List ℕ → (bad i : ℕ) → Type 0
-Paired s bad i = (t : Bool) × (bad ≡ pick t 0 1) × (good s ≡ pick t (good (drop i s)) false)
+abbrev pub Paired : List ℕ → (bad : Bool) (i : ℕ) → Type 0
+Paired s bad i = (t : Bool) × (bad ≡ not t) × (good s ≡ pick t (good (drop i s)) false)
 
-pub paired_more : (s : List ℕ) (bad i hit : ℕ) → i + 1 < length s
-    → hit ≡ pick (good_pair (get_or s i 0) (get_or s (i + 1) 0)) 0 1
-    → Paired s bad i → Paired s (bit_or bad hit) (i + 1)
-paired_more s bad i hit h e p =
+pub paired_more : (s : List ℕ) (bad : Bool) (i : ℕ) → i + 1 < length s → Paired s bad i
+    → Paired s (bad || not (good_pair (get_or s i 0) (get_or s (i + 1) 0))) (i + 1)
+paired_more s bad i h p =
     let t = p.0 in
     let g = good_pair (get_or s i 0) (get_or s (i + 1) 0) in (
       pick t g false,
-      ap (λ (m : ℕ). bit_or m hit) p.1 ∙ ap (bit_or (pick t 0 1)) e ∙ marks t g,
+      ap (λ (x : Bool). x || not g) p.1 ∙ marks t g,
       p.2 ∙ ap (λ (x : Bool). pick t x false) (good_pair_lem s i h) ∙ both t g (good (drop (i + 1) s)),
     )
   where
-    marks : (t g : Bool) → bit_or (pick t 0 1) (pick g 0 1) ≡ pick (pick t g false) 0 1
-    marks true true = refl
-    marks true false = refl
-    marks false true = refl
-    marks false false = refl
+    marks : (t g : Bool) → (not t || not g) ≡ not (pick t g false)
+    marks true g = refl
+    marks false g = refl
 
     both : (t g x : Bool) → pick t (pick g x false) false ≡ pick (pick t g false) x false
     both true g x = refl
     both false g x = refl
 
-pub paired_all : (s : List ℕ) (bad i : ℕ) → i + 1 ≡ length s → (get_or s i 0 ≡ 0xF3 → ⊥) → Paired s bad i
-    → eqb bad 0 ≡ is_sound (unstuff false s)
+pub paired_all : (s : List ℕ) (bad : Bool) (i : ℕ) → i + 1 ≡ length s → (get_or s i 0 ≡ 0xF3 → ⊥) → Paired s bad i
+    → bad ≡ not (is_sound (unstuff false s))
 paired_all s bad i h n p =
     let t = p.0 in
-    ap (λ (m : ℕ). eqb m 0) p.1 ∙ mark_all t ∙ sym (alone t)
-    ∙ ap (λ (x : Bool). pick t x false) (sym (good_last s i h n)) ∙ sym p.2 ∙ good_unstuff s
+    p.1 ∙ ap not (sym (alone t)
+    ∙ ap (λ (x : Bool). pick t x false) (sym (good_last s i h n)) ∙ sym p.2 ∙ good_unstuff s)
   where
     alone : (t : Bool) → pick t true false ≡ t
     alone true = refl
@@ -217,13 +195,13 @@ mark_most false = omega arith
 
 -- what it has found up to an index
 pub record TalliedTo (s : List ℕ) (i : ℕ) (t : Tally) : Type 0 where
-  pub flagged : t.flags ≡ pick (flagless (take i s)) 0 1
+  pub flagged : t.flags ≡ pick (flagless (take i s)) false true
   pub few : t.escapes ≤ i
   pub paired : Paired s t.unsound i
   pub counted : t.escapes + count_of (within 0xF3 0xF3) (drop i s) ≡ count_of (within 0xF3 0xF3) s
   pub summed : sum_from t.sum (lowered (drop i s)) ≡ sum_from 0 (lowered s)
 
-pub tallied_none : (s : List ℕ) (t : Tally) → t.flags ≡ 0 → t.unsound ≡ 0 → t.escapes ≡ 0 → t.sum ≡ 0
+pub tallied_none : (s : List ℕ) (t : Tally) → t.flags ≡ false → t.unsound ≡ false → t.escapes ≡ 0 → t.sum ≡ 0
     → TalliedTo s 0 t
 unfolding none_of
 tallied_none s t f u e m = record {
@@ -236,16 +214,16 @@ tallied_none s t f u e m = record {
 
 module _ (s : List ℕ) (i : ℕ) (t : Tally) (inv : TalliedTo s i t) where
   pub tallied_more : (t' : Tally) → i + 1 < length s
-      → t'.flags ≡ bit_or t.flags (pick (is_flag (get_or s i 0)) 1 0)
-      → t'.unsound ≡ bit_or t.unsound (pick (good_pair (get_or s i 0) (get_or s (i + 1) 0)) 0 1)
+      → t'.flags ≡ (t.flags || is_flag (get_or s i 0))
+      → t'.unsound ≡ (t.unsound || not (good_pair (get_or s i 0) (get_or s (i + 1) 0)))
       → t'.escapes ≡ t.escapes + pick (within 0xF3 0xF3 (get_or s i 0)) 1 0
       → t'.sum ≡ bit_xor t.sum (lower_byte (get_or s i 0))
       → TalliedTo s (i + 1) t'
   tallied_more t' h f u e m = record {
-    flagged = f ∙ mark_more is_flag s i t.flags _ (omega arith) inv.flagged refl;
+    flagged = f ∙ found_more is_flag s i t.flags (omega arith) inv.flagged;
     few = omega (arith, e, mark_most (within 0xF3 0xF3 (get_or s i 0)), inv.few);
     paired =
-        let p = paired_more s t.unsound i _ h refl inv.paired in (p.0, u ∙ p.1, p.2);
+        let p = paired_more s t.unsound i h inv.paired in (p.0, u ∙ p.1, p.2);
     counted = omega (arith, e, count_at (within 0xF3 0xF3) s i (omega arith), inv.counted);
     summed =
         ap (λ (n : ℕ). sum_from n (lowered (drop (i + 1) s))) m ∙ sym (lowered_at t.sum s i (omega arith))
@@ -259,7 +237,7 @@ module _ (s : List ℕ) (i : ℕ) (t : Tally) (inv : TalliedTo s i t) where
       let is : get_or s i 0 ≡ last = ap (λ (k : ℕ). get_or s k 0) n in
       let k = i + 1 in
       record {
-        flagged = inv.flagged ∙ ap (λ (k : ℕ). pick (flagless (take k s)) 0 1) n;
+        flagged = inv.flagged ∙ ap (λ (k : ℕ). pick (flagless (take k s)) false true) n;
         sound = λ x. paired_all s t.unsound i h (λ q. x (sym is ∙ q)) inv.paired;
         counted =
             ap (λ (b : ℕ). t.escapes + pick (within 0xF3 0xF3 b) 1 0) (sym is)
@@ -277,12 +255,15 @@ module _ (s : List ℕ) (i : ℕ) (t : Tally) (inv : TalliedTo s i t) where
 
 -- ---- the scan by these
 
+abbrev pub counted : (len sum : ℕ) → Counted
+counted len sum = record { len = len; sum = sum }
+
 -- bytes without an escape
 pub scan_as_is : (s : List ℕ) → none_of (within 0xF3 0xF3) s ≡ true → (len sum : ℕ) → len ≡ length s → sum ≡ checksum s
-    → Good len sum ≡ scan_from 0 0 (unstuff false s)
+    → Ok (counted len sum) ≡ scan_from 0 0 (unstuff false s)
 unfolding scan_from
 scan_as_is s n len sum p q =
-    ap (λ (m : ℕ). Good m sum) (p ∙ sym (zero-add (length s))) ∙ ap (Good (0 + length s)) q
+    ap (λ (m : ℕ). Ok (counted m sum)) (p ∙ sym (zero-add (length s))) ∙ ap (λ (n : ℕ). Ok (counted (0 + length s) n)) q
     ∙ sym (ap (scan_from 0 0) (unstuff_plain s n))
 
 pub sound_bytes : (r : Unstuffed) → is_sound r ≡ true → r ≡ bytes (unstuffed_bytes r)
@@ -295,16 +276,16 @@ unsound_bad bad_escape h = refl
 unsound_bad (bytes u) h = absurd (true≢false h)
 
 module _ (s : List ℕ) where
-  pub scan_flagged : flagless s ≡ false → Flagged ≡ scan_of s
+  pub scan_flagged : flagless s ≡ false → Err Truncated ≡ scan_of s
   scan_flagged f = simp f
 
-  pub scan_unsound : flagless s ≡ true → is_sound (unstuff false s) ≡ false → Fault ≡ scan_of s
+  pub scan_unsound : flagless s ≡ true → is_sound (unstuff false s) ≡ false → Err BadEscape ≡ scan_of s
   unfolding scan_from
   scan_unsound f n = simp f (sym (ap (scan_from 0 0) (unsound_bad (unstuff false s) n)))
 
   pub scan_sound : (count sum : ℕ) → flagless s ≡ true → is_sound (unstuff false s) ≡ true
       → count ≡ count_of (within 0xF3 0xF3) s → sum ≡ checksum (lowered s)
-      → Good (length s - count) sum ≡ scan_of s
+      → Ok (counted (length s - count) sum) ≡ scan_of s
   unfolding scan_from
   scan_sound count sum f y c q =
       let u = unstuffed_bytes (unstuff false s) in
@@ -312,7 +293,7 @@ module _ (s : List ℕ) where
       let k = counts s u e in
       let len_is : length s - count ≡ 0 + length u = omega (arith, k.0) in
       let sum_is : sum ≡ sum_from 0 u = q ∙ sym (k.1 0) in
-      simp f (ap (λ (m : ℕ). Good m sum) len_is ∙ ap (Good (0 + length u)) sum_is ∙ sym (ap (scan_from 0 0) e))
+      simp f (ap (λ (m : ℕ). Ok (counted m sum)) len_is ∙ ap (λ (n : ℕ). Ok (counted (0 + length u) n)) sum_is ∙ sym (ap (scan_from 0 0) e))
 
   -- a list that ends with an escape
   pub ends_unsound : 1 ≤ length s → get_or s (length s - 1) 0 ≡ 0xF3 → is_sound (unstuff false s) ≡ false
@@ -327,43 +308,51 @@ module _ (s : List ℕ) (t : Tally) (some : 1 ≤ length s) (found : Tallied s t
   abbrev last : ℕ
   last = get_or s (length s - 1) 0
 
-  pub tally_flagged : (t.flags ≡ 0 → ⊥) → Flagged ≡ scan_of s
+  pub tally_flagged : t.flags ≡ true → Err Truncated ≡ scan_of s
   tally_flagged n =
       by_bool (flagless s)
       (λ y. let part = both_true (flagless (take (length s - 1) s)) _
       (sym (none_append is_flag (take (length s - 1) s) (drop (length s - 1) s))
       ∙ ap flagless (take-append-drop (length s - 1) s) ∙ y) in
-      absurd (n (found.flagged ∙ simp part.0)))
+      absurd (true≢false (sym n ∙ found.flagged ∙ simp part.0)))
       (λ y. scan_flagged s y)
 
-  pub last_flagged : is_flag last ≡ true → Flagged ≡ scan_of s
+  pub last_flagged : is_flag last ≡ true → Err Truncated ≡ scan_of s
   last_flagged f =
       by_bool (flagless s)
       (λ y. absurd (true≢false (sym f ∙ none_at is_flag s y (length s - 1) (omega arith))))
       (λ y. scan_flagged s y)
 
-  module _ (none : t.flags ≡ 0) (plain : is_flag last ≡ false) where
+  module _ (none : t.flags ≡ false) (plain : is_flag last ≡ false) where
     unflagged : flagless s ≡ true
     unflagged =
         none_last is_flag s some plain
         ∙ by_bool (flagless (take (length s - 1) s)) (λ y. y)
-        (λ y. let q : t.flags ≡ 1 = found.flagged ∙ simp y in absurd (omega arith))
+        (λ y. absurd (true≢false (sym (found.flagged ∙ simp y) ∙ none)))
 
-    pub last_escape : last ≡ 0xF3 → Fault ≡ scan_of s
+    pub last_escape : last ≡ 0xF3 → Err BadEscape ≡ scan_of s
     last_escape e = scan_unsound s unflagged (ends_unsound s some e)
 
-    pub tally_unsound : (last ≡ 0xF3 → ⊥) → (t.unsound ≡ 0 → ⊥) → Fault ≡ scan_of s
-    tally_unsound n u = scan_unsound s unflagged (sym (found.sound n) ∙ ne_eqb t.unsound 0 u)
+    pub tally_unsound : (last ≡ 0xF3 → ⊥) → t.unsound ≡ true → Err BadEscape ≡ scan_of s
+    tally_unsound n u = scan_unsound s unflagged (unsound (is_sound (unstuff false s)) (sym u ∙ found.sound n))
+      where
+        unsound : (x : Bool) → true ≡ not x → x ≡ false
+        unsound true e = absurd (true≢false e)
+        unsound false e = refl
 
-    pub tally_sound : (last ≡ 0xF3 → ⊥) → t.unsound ≡ 0
-        → Good (length s - t.escapes) (bit_xor t.sum last) ≡ scan_of s
+    pub tally_sound : (last ≡ 0xF3 → ⊥) → t.unsound ≡ false
+        → Ok (counted (length s - t.escapes) (bit_xor t.sum last)) ≡ scan_of s
     tally_sound n u =
         let no : within 0xF3 0xF3 last ≡ false = escape_no last (ne_eqb last 0xF3 n) in
         let low : lower_byte last ≡ last = simp (ne_eqb last 0xF3 n) in
         let c : t.escapes + 0 ≡ count_of (within 0xF3 0xF3) s =
         ap (λ (x : Bool). t.escapes + pick x 1 0) (sym no) ∙ found.counted in
-        scan_sound s t.escapes (bit_xor t.sum last) unflagged (sym (found.sound n) ∙ eq-eqb t.unsound 0 u)
+        scan_sound s t.escapes (bit_xor t.sum last) unflagged (sound (is_sound (unstuff false s)) (sym u ∙ found.sound n))
         (omega arith) (ap (bit_xor t.sum) (sym low) ∙ found.summed)
+      where
+        sound : (x : Bool) → false ≡ not x → x ≡ true
+        sound true e = refl
+        sound false e = absurd (true≢false (sym e))
 
   pub tally_few : t.escapes ≤ length s
   tally_few = omega (arith, found.counted, count_most (within 0xF3 0xF3) s)

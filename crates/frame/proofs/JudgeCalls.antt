@@ -11,6 +11,8 @@ use Rattle.lists.specs.Choice.{Exactly}
 use Rattle.lists.proofs.Cases.{exactly}
 use Rattle.answer.specs.Answer.{Answer, result, refused}
 use Rattle.frame.specs.Flags.{candidate_of}
+use Rattle.std.specs.Prelude.{Result}
+use Rattle.answer.specs.declared.Refusal.{Refusal}
 use Rattle.frame.specs.Frame.{Frame, standard, frame_kind}
 use Rattle.frame.specs.Verdict.{Verdict, verdict}
 use Rattle.frame.specs.Origin.{admit}
@@ -20,7 +22,7 @@ use Rattle.frame.specs.declared.Origin.{Origin}
 use Rattle.frame.specs.declared.Origin.TheVariants.{Live, Trace}
 use Rattle.frame.specs.declared.Kind.{Kind}
 use Rattle.frame.specs.declared.Kind.TheVariants.{Extended}
-use Rattle.frame.specs.declared.Read.{Read}
+use Rattle.frame.specs.declared.Outline.{Outline}
 use Rattle.frame.proofs.OriginLaws.{admit_means}
 use Rattle.frame.proofs.Table.{verdict_by_table}
 use Rattle.frame.proofs.Unnamed.{unnamed_verdict, one_verdict}
@@ -32,7 +34,7 @@ unfolding judge_answer left_in
 left_as (refused m) s n e = refl
 left_as (result f) s n e = let z : ◌≡◌ {A = ℕ} 0 1 = cc in absurd (omega arith)
 
-module _ (κs : Lfts 1) (o : Origin) (kind : Kind) (ρ ρ' : MutBor (List ℕ)) (len : ℕ) (r : Read)
+module _ (κs : Lfts 1) (o : Origin) (kind : Kind) (ρ ρ' : MutBor (List ℕ)) (len : ℕ) (r : Result Outline Refusal)
     (k : judge-array-reads.Learnt κs (o, (kind, (ρ, (len, tt)))) r (o, (kind, (ρ', (len, tt))))) where
   abbrev judged : Verdict
   judged = admit o (verdict (candidate_of kind (take len ρ.now)))
@@ -80,7 +82,7 @@ module _ (κs : Lfts 1) (o : Origin) (kind : Kind) (ρ ρ' : MutBor (List ℕ)) 
       (k.0 ∙ ap judge_answer same, k.1 ∙ ap (λ (v : Verdict). left_in v ρ.now) same)
 
 -- So two calls on the same bytes, at any origins, are answered alike and leave the same.
-pub judges_agree : (κs : Lfts 1) (o p : Origin) (kind : Kind) (ρ ρ' σ' : MutBor (List ℕ)) (len : ℕ) (r s : Read)
+pub judges_agree : (κs : Lfts 1) (o p : Origin) (kind : Kind) (ρ ρ' σ' : MutBor (List ℕ)) (len : ℕ) (r s : Result Outline Refusal)
     → judge-array-reads.Learnt κs (o, (kind, (ρ, (len, tt)))) r (o, (kind, (ρ', (len, tt))))
     → judge-array-reads.Learnt κs (p, (kind, (ρ, (len, tt)))) s (p, (kind, (σ', (len, tt))))
     → NoStandard (candidate_of kind (take len ρ.now))

@@ -1,14 +1,14 @@
 -- Laws of the candidate that a slice begins with: where it ends, its sum, and its verdict.
 use Prim.Native.Nat.{ℕ, ◌+◌, ◌-◌, ◌≤◌, ◌<◌}
 use mathlib.Core.Path.{◌≡◌, refl, sym, ap, ap₂, ◌∙◌}
-use mathlib.Core.Bool.{Bool, true, false, false≢true}
+use mathlib.Core.Bool.{true, false}
 use mathlib.Core.List.{List, [], ◌∷◌, ◌++◌, append_assoc}
 use native.Mathlib.Numerals.{add-one}
 use native.Mathlib.Omega.{arith}
 use lib.Bits.{bit_xor}
 use lib.Dec.{eqb, leb}
 use lib.ListN.{length, get_or, take, drop, length-drop, length-append, take-append-drop, get_or-eq_default}
-use lib.Seq.{take-suc, take-add, take_at, drop-cons, length-take-le, get_or-append_seam}
+use lib.Seq.{drop-drop, drop_at, take-suc, take-add, take_at, drop-cons, length-take-le, get_or-append_seam}
 use borrow.Author.Tests.{eqb-true, leb-true, leb-false}
 use Rattle.lists.specs.Choice.{pick, none_of, count_before}
 use Rattle.lists.proofs.Cases.{by_bool}
@@ -24,31 +24,14 @@ use Rattle.frame.specs.Private.{judge_whole, Unescaped, PlainTo, open_verdict}
 use Rattle.frame.specs.declared.Kind.{Kind}
 use Rattle.frame.specs.declared.Kind.TheVariants.{Standard, Extended}
 use Rattle.frame.proofs.FlagLaws.{none_narrower, start_kind}
-use Rattle.frame.proofs.ChecksumLaws.{sum_from_last, sum_onto}
+use Rattle.std.specs.Prelude.{Some, None}
+use Rattle.frame.proofs.ChecksumLaws.{sum_from_last, sum_onto, found_plain}
 use Rattle.frame.proofs.VerdictLaws.{candidate_verdict}
 
 -- ---- tests
 
-by_mark : (t : Bool) → eqb (pick t 1 0) 1 ≡ t
-by_mark true = refl
-by_mark false = refl
-
-pub start_mark : (b k : ℕ) → k ≡ pick (is_start b) 1 0 → eqb k 1 ≡ is_start b
-start_mark b k e = ap (λ (n : ℕ). eqb n 1) e ∙ by_mark (is_start b)
-
-pub start_none : (s : List ℕ) → length s ≡ 0 → false ≡ is_start (get_or s 0 0)
-start_none [] e = refl
-start_none (b ∷ s) e = absurd (omega arith)
-
-pub start_some : (s : List ℕ) → is_start (get_or s 0 0) ≡ true → 0 < length s
-start_some [] e = absurd (false≢true e)
-start_some (b ∷ s) e = omega arith
-
 past_default : (s : List ℕ) (at : ℕ) → length s ≤ at → get_or s at 0 ≡ 0
 past_default s at h = get_or-eq_default s 0 h
-
-pub stop_past : (s : List ℕ) (at : ℕ) → length s ≤ at → false ≡ is_stop_at s at
-stop_past s at h = sym (ap (λ (b : ℕ). eqb b stop_flag) (past_default s at h))
 
 -- what a stop flag at an index tells
 stop_means : (s : List ℕ) (at : ℕ) → is_stop_at s at ≡ true → (get_or s at 0 ≡ stop_flag) × (at < length s)
@@ -71,19 +54,28 @@ sum-append xs ys = from 0 xs ∙ sum_onto (checksum xs) ys
     from acc (b ∷ s) = from (bit_xor acc b) s
 
 -- a block more, as the code looks at it
-pub plain_block : (s : List ℕ) (i n sum more : ℕ) (clear : Bool) → PlainTo s i sum → i + n ≤ length s
-    → clear ≡ none_of is_stuffed (take (i + n - i) (drop i s)) → more ≡ checksum (take (i + n - i) (drop i s))
-    → clear ≡ true → PlainTo s (i + n) (bit_xor sum more)
-plain_block s i n sum more clear p h e q y =
+pub plain_block : (s : List ℕ) (i n sum more : ℕ) (block rest : List ℕ) → PlainTo s i sum
+    → drop i s ≡ block ++ rest → length block ≡ n
+    → Some more ≡ pick (none_of is_stuffed block) (Some (checksum block)) None
+    → PlainTo s (i + n) (bit_xor sum more) × (drop (i + n) s ≡ rest)
+plain_block s i n sum more block rest p d l e =
+    let q = found_plain block more e in
+    let here : take n (drop i s) ≡ block = ap (take n) d ∙ take_at block rest n l in
     let m : i + n - i ≡ n = omega arith in
-    record {
-      inside = h;
-      none_before = before_block is_stuffed s i n clear h e y p.none_before;
-      summed =
-          ap₂ bit_xor p.summed (q ∙ ap (λ (k : ℕ). checksum (take k (drop i s))) m)
-          ∙ sym (sum-append (take i s) (take n (drop i s)))
-          ∙ ap checksum (sym (take-add i n s));
-    }
+    let h : i + n ≤ length s = omega (arith, p.inside, ap length d, length-append block rest, length-drop i s) in (
+      record {
+        inside = h;
+        none_before =
+            before_block is_stuffed s i n true h
+            (sym (ap (λ (k : ℕ). none_of is_stuffed (take k (drop i s))) m ∙ ap (none_of is_stuffed) here ∙ q.0)) refl
+            p.none_before;
+        summed =
+            ap₂ bit_xor p.summed (q.1 ∙ ap checksum (sym here))
+            ∙ sym (sum-append (take i s) (take n (drop i s)))
+            ∙ ap checksum (sym (take-add i n s));
+      },
+      sym (drop-drop n i s) ∙ ap (drop n) d ∙ drop_at block rest n l,
+    )
 
 -- a byte more
 pub plain_byte : (s : List ℕ) (i sum : ℕ) → PlainTo s i sum → i < length s → is_stuffed (get_or s i 0) ≡ false
@@ -125,9 +117,6 @@ open_plain rest at end sum e q t same short =
       clear = ap (λ (n : ℕ). none_of is_stuffed (take n rest)) (same ∙ e) ∙ before_clear is_stuffed rest;
       summed = q ∙ ap (λ (n : ℕ). checksum (take n rest)) (sym same);
     }
-
-pub open_inside : (rest : List ℕ) (end : ℕ) → is_stop_at rest end ≡ true → end < length rest
-open_inside rest end t = (stop_means rest end t).1
 
 -- as the code counts: none, or one that ends at an index
 pub open_none : (kind : Kind) (rest : List ℕ) (end : ℕ) → end ≡ count_before is_flag rest → is_stop_at rest end ≡ false

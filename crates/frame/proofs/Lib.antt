@@ -1,3 +1,4 @@
+pub mod RestLaws
 pub mod FlagLaws
 pub mod StuffingLaws
 pub mod UnstuffsLaws

@@ -88,10 +88,10 @@ admit_means Trace v f e = (e, trace_named (frame_kind f))
 
 -- ---- a sound body
 
-module _ (o : Origin) {v : Verdict} {body : List ℕ} {start len : ℕ} where
-  pub sound_admitted : (h : Header) → SoundAt v body h start len → admits o (header_kind h) ≡ true
+module _ (o : Origin) {v : Verdict} {body : List ℕ} where
+  pub sound_admitted : {start len : ℕ} (h : Header) → SoundAt v body h start len → admits o (header_kind h) ≡ true
       → SoundAt (admit o v) body h start len
-  sound_admitted h s a = record {
+  sound_admitted {start} {len} h s a = record {
     contents = s.contents;
     judged = ap (admit o) s.judged ∙ kept o h a;
     counted = s.counted;
@@ -105,9 +105,9 @@ module _ (o : Origin) {v : Verdict} {body : List ℕ} {start len : ℕ} where
       kept Live (Addressed to from) a = refl
       kept Trace h a = refl
 
-  pub sound_unnamed : (h : Header) → SoundAt v body h start len → admits o (header_kind h) ≡ false
+  pub sound_unnamed : {start len : ℕ} (h : Header) → SoundAt v body h start len → admits o (header_kind h) ≡ false
       → admit o v ≡ refused 17
-  sound_unnamed h s a = ap (admit o) s.judged ∙ refuses o h a
+  sound_unnamed {start} {len} h s a = ap (admit o) s.judged ∙ refuses o h a
     where
       refuses : (o : Origin) (h : Header) → admits o (header_kind h) ≡ false
           → admit o (result (frame_of h s.contents)) ≡ refused 17

@@ -1,6 +1,7 @@
 -- Laws of unstuffing one byte at a time.
 use Prim.Native.Nat.{ℕ, suc, ◌+◌, ◌≤◌, ◌<◌}
-use mathlib.Core.Path.{◌≡◌, sym, ap, ◌∙◌}
+use mathlib.Core.Path.{◌≡◌, sym, ap, ◌∙◌, subst}
+use mathlib.Core.Logic.{◌⊎◌, inl, inr}
 use mathlib.Core.Bool.{Bool, true, false}
 use mathlib.Core.List.{List, []}
 use native.Mathlib.Numerals.{add-one}
@@ -13,18 +14,23 @@ use borrow.Author.Tests.{eq-eqb, ne_eqb}
 use Rattle.lists.proofs.Cases.{by_bool}
 use Rattle.lists.specs.Choice.{pick}
 use Rattle.lists.proofs.Lists.{drop_two}
+use Rattle.std.specs.Prelude.{Result, Ok, Err}
+use Rattle.answer.specs.Refusals.{number_of}
+use Rattle.answer.specs.Answer.{refused}
+use Rattle.answer.specs.declared.Refusal.{Refusal}
+use Rattle.answer.specs.declared.Refusal.TheVariants.{TooShort, BadEscape}
+use Rattle.frame.specs.Verdict.{Verdict}
 use Rattle.frame.specs.Stuffing.{Unstuffed, bad_escape, bytes, prepend, unstuff}
 use Rattle.frame.specs.Private.{next_at}
-use Rattle.frame.specs.declared.candidate.Next.{Next}
-use Rattle.frame.specs.declared.candidate.Next.TheVariants.{End, Bad, Byte}
+use Rattle.frame.specs.declared.candidate.Byte.{Byte}
 
 -- ---- one unstuffed byte
 
--- what unstuffing gives, where the next byte is known
-unfoldable pub after_next : List ℕ → Next → Unstuffed
-after_next s End = bytes []
-after_next s Bad = bad_escape
-after_next s (Byte b n) = prepend b (unstuff false (drop n s))
+-- what unstuffing gives, where the next byte is known: none is at the end, and at a bad escape
+unfoldable pub after_next : List ℕ → Result Byte Refusal → Unstuffed
+after_next s (Ok b) = prepend b.value (unstuff false (drop b.next s))
+after_next s (Err TooShort) = bytes []
+after_next s (Err why) = bad_escape
 
 module _ (s : List ℕ) (at : ℕ) where
   abbrev ScanGoal : Type 0
@@ -86,31 +92,55 @@ module _ (s : List ℕ) (at : ℕ) where
       (λ n. next_end (ltb-false _ _ n))
 
   -- a byte stands within the list, and the next index is past it
-  next_bounds : (b n : ℕ) → Byte b n ≡ next_at s at → (at < n) × (n ≤ length s)
+  next_bounds : (b : Byte) → Ok b ≡ next_at s at → (at < b.next) × (b.next ≤ length s)
   unfolding next_at
-  next_bounds b n p =
+  next_bounds b p =
       by_bool (ltb at (length s))
       (λ y. let h = ltb-true at (length s) y in
       by_bool (eqb (get_or s at 0) 0xF3)
       (λ e. by_bool (ltb (at + 1) (length s))
       (λ k. let kk = ltb-true (at + 1) (length s) k in
       by_bool (leb (get_or s (at + 1) 0) 3)
-      (λ z. let q : Byte b n ≡ Byte (0xF0 + get_or s (at + 1) 0) (at + 2) = simp (y, e, k, z) at p in
-      let r : n ≡ at + 2 = cc in omega arith)
-      (λ z. let q : Byte b n ≡ Bad = simp (y, e, k, z) at p in
-      let r : ◌≡◌ {A = ℕ} 0 1 = cc in omega arith))
-      (λ k. let q : Byte b n ≡ Bad = simp (y, e, k) at p in
-      let r : ◌≡◌ {A = ℕ} 0 1 = cc in omega arith))
-      (λ e. let q : Byte b n ≡ Byte (get_or s at 0) (at + 1) = simp (y, e) at p in
-      let r : n ≡ at + 1 = cc in omega arith))
-      (λ y. let q : Byte b n ≡ End = simp y at p in
-      let r : ◌≡◌ {A = ℕ} 0 1 = cc in omega arith)
+      (λ z. let q : Ok b ≡ Ok (record { value = 0xF0 + get_or s (at + 1) 0; next = at + 2 }) = simp (y, e, k, z) at p in
+      let r : b.next ≡ at + 2 = cc in omega arith)
+      (λ z. let q : Ok b ≡ Err BadEscape = simp (y, e, k, z) at p in cc))
+      (λ k. let q : Ok b ≡ Err BadEscape = simp (y, e, k) at p in cc))
+      (λ e. let q : Ok b ≡ Ok (record { value = get_or s at 0; next = at + 1 }) = simp (y, e) at p in
+      let r : b.next ≡ at + 1 = cc in omega arith))
+      (λ y. let q : Ok b ≡ Err TooShort = simp y at p in cc)
 
--- ---- what a call of next_at and the match on it tell
+  -- and where there is none, the bytes have ended or an escape is bad
+  next_why : (why : Refusal) → Err why ≡ next_at s at → (why ≡ TooShort) ⊎ (why ≡ BadEscape)
+  unfolding next_at
+  next_why why p =
+      by_bool (ltb at (length s))
+      (λ y. by_bool (eqb (get_or s at 0) 0xF3)
+      (λ e. by_bool (ltb (at + 1) (length s))
+      (λ k. by_bool (leb (get_or s (at + 1) 0) 3)
+      (λ z. let q : Err why ≡ Ok (record { value = 0xF0 + get_or s (at + 1) 0; next = at + 2 }) = simp (y, e, k, z) at p in cc)
+      (λ z. let q : ◌≡◌ {A = Result Byte Refusal} (Err why) (Err BadEscape) = simp (y, e, k, z) at p in let r : why ≡ BadEscape = cc in inr r))
+      (λ k. let q : ◌≡◌ {A = Result Byte Refusal} (Err why) (Err BadEscape) = simp (y, e, k) at p in let r : why ≡ BadEscape = cc in inr r))
+      (λ e. let q : Err why ≡ Ok (record { value = get_or s at 0; next = at + 1 }) = simp (y, e) at p in cc))
+      (λ y. let q : ◌≡◌ {A = Result Byte Refusal} (Err why) (Err TooShort) = simp y at p in let r : why ≡ TooShort = cc in inl r)
 
-module _ (s : List ℕ) (at : ℕ) (x : Next) (e : x ≡ next_at s at) where
-  pub told : (y : Next) → x ≡ y → unstuff false (drop at s) ≡ after_next s y
-  told y f = unstuff_next s at ∙ ap (after_next s) (sym e ∙ f)
+-- ---- what a call of next_at tells
 
-  pub bounds : (b n : ℕ) → x ≡ Byte b n → (at < n) × (n ≤ length s)
-  bounds b n f = next_bounds s at b n (sym f ∙ e)
+module _ (s : List ℕ) (at : ℕ) where
+  pub told : (x : Result Byte Refusal) → x ≡ next_at s at → unstuff false (drop at s) ≡ after_next s x
+  told x e = unstuff_next s at ∙ ap (after_next s) (sym e)
+
+  pub bounds : (b : Byte) → Ok b ≡ next_at s at → (at < b.next) × (b.next ≤ length s)
+  bounds b e = next_bounds s at b e
+
+  -- bytes of which there is no next one are refused as it says
+  pub stopped : (verdict : Unstuffed → Verdict) → verdict (bytes []) ≡ refused 4 → verdict bad_escape ≡ refused 3
+      → (why : Refusal) → Err why ≡ next_at s at → verdict (unstuff false (drop at s)) ≡ refused (number_of why)
+  unfolding after_next
+  stopped verdict short bad why e = ap verdict (told (Err why) e) ∙ of why (next_why s at why e)
+    where
+      of : (why : Refusal) → (why ≡ TooShort) ⊎ (why ≡ BadEscape)
+          → verdict (after_next s (Err why)) ≡ refused (number_of why)
+      of why (inl q) =
+          subst (λ (x : Refusal). verdict (after_next s (Err x)) ≡ refused (number_of x)) (sym q) short
+      of why (inr q) =
+          subst (λ (x : Refusal). verdict (after_next s (Err x)) ≡ refused (number_of x)) (sym q) bad

@@ -1,7 +1,7 @@
 -- Laws of the verdict: its shape test, its refusals one by one, and the frame that it accepts.
 use Prim.Native.Nat.{ℕ, suc, ◌+◌, ◌-◌, ◌≤◌, ◌<◌}
 use mathlib.Core.Path.{◌≡◌, refl, sym, ap, ◌∙◌, subst}
-use mathlib.Core.Bool.{Bool, true, false}
+use mathlib.Core.Bool.{true, false}
 use mathlib.Core.List.{List, [], ◌∷◌, ◌++◌}
 use native.Mathlib.Omega.{arith}
 use lib.Bits.{bit_xor}
@@ -9,33 +9,33 @@ use lib.Dec.{leb, eqb}
 use lib.ListN.{length, get_or, drop, length-append, length-drop}
 use lib.Seq.{take_at, get_or_at, take-suc, take_all, get_or-drop, drop-cons}
 use borrow.Author.Tests.{leb-true, eqb-true, lt-leb, le-leb, eq-eqb, ne_eqb}
-use Rattle.lists.specs.Choice.{within, none_of}
+use Rattle.lists.specs.Choice.{pick, within, none_of}
 use Rattle.lists.proofs.Cases.{by_bool, both_true}
-use Rattle.lists.proofs.Lists.{drop_two}
-use Rattle.lists.proofs.Tests.{within_yes, within_true, none_drop}
+use Rattle.lists.proofs.Tests.{within_yes, within_true}
 use Rattle.frame.specs.Flags.{flagless, kind_of, start_flag, candidate_of}
 use Rattle.frame.specs.Stuffing.{Unstuffed, bad_escape, bytes, prepend, unstuff, is_stuffed}
-use Rattle.frame.specs.Checksum.{sum_from, checksum}
+use Rattle.frame.specs.Checksum.{checksum}
 use Rattle.frame.specs.Frame.{Frame, standard, extended, contents_of, frame_kind, addresses_of, payload, frame_of}
 use Rattle.frame.specs.Verdict.{Verdict, address_count, contents_in, last_of, frame_in, judge_bytes, judge, body_of}
 use Rattle.frame.specs.Verdict.{is_terminated, verdict}
+use Rattle.std.specs.Prelude.{Option, Some, None, Result, Ok, Err}
 use Rattle.answer.specs.Answer.{result, refused}
+use Rattle.answer.specs.Refusals.{number_of}
+use Rattle.answer.specs.declared.Refusal.{Refusal}
+use Rattle.answer.specs.declared.Refusal.TheVariants.{BadEscape, Truncated}
 use Rattle.answer.specs.Draft.{draft_out}
-use Rattle.frame.specs.Answers.{outline_of, judge_answer, read_answer, read_out}
-use Rattle.frame.specs.Private.{is_bounded, header_kind, headed, read_as, scan_from, unstuffed_bytes, SoundAt}
-use Rattle.frame.specs.Private.{Unescaped, UnescapedAfter, Examines, judge_whole, ExaminesWhole, scan_of}
-use Rattle.frame.specs.Private.{WithoutHeader, EndsPlain}
+use Rattle.frame.specs.Answers.{outline_of, outline_with, read_answer, read_out}
+use Rattle.frame.specs.Private.{is_bounded, header_kind, headed, scan_from, long_refusal, unstuffed_bytes, SoundAt}
+use Rattle.frame.specs.Private.{Unescaped, CountsWhole, judge_whole, scan_of}
+use Rattle.frame.specs.Private.{AddressesIn, WithoutHeader, PlainSum}
 use Rattle.frame.specs.declared.Kind.{Kind}
-use Rattle.frame.specs.declared.Kind.TheVariants.{Extended}
 use Rattle.frame.specs.declared.Header.{Header}
 use Rattle.frame.specs.declared.Header.TheVariants.{Plain, Addressed}
-use Rattle.frame.specs.declared.candidate.Scan.TheVariants.{Flagged, Fault, Good}
-use Rattle.frame.specs.declared.candidate.Rest.{Rest}
-use Rattle.frame.specs.declared.candidate.Examined.{Examined}
+use Rattle.frame.specs.declared.candidate.Addresses.{Addresses}
+use Rattle.frame.specs.declared.candidate.Counted.{Counted}
 use Rattle.frame.proofs.FlagLaws.{kind_start, start_kind, start_between, none_narrower}
 use Rattle.frame.proofs.ChecksumLaws.{contents_last, sum_right, sum_wrong, sum_after}
-use Rattle.frame.proofs.StuffingLaws.{unstuff_plain}
-use Rattle.frame.proofs.EscapeLaws.{scan_as_is}
+use Rattle.frame.proofs.EscapeLaws.{counted, scan_as_is}
 
 -- ---- a start flag, a body and F2
 
@@ -222,7 +222,7 @@ under_frame (Addressed to from) v l = refl
 
 module _ (h : Header) (body : List ℕ) (next : ℕ) (limit : length body ≤ 118)
     (here : unstuff false body ≡ headed h (unstuff false (drop next body))) where
-  module _ (len sum : ℕ) (e : Good len sum ≡ scan_from 0 0 (unstuff false (drop next body))) where
+  module _ (len sum : ℕ) (e : Ok (counted len sum) ≡ scan_from 0 0 (unstuff false (drop next body))) where
     -- the contents and the checksum
     rest : List ℕ
     rest = unstuffed_bytes (unstuff false (drop next body))
@@ -231,13 +231,13 @@ module _ (h : Header) (body : List ℕ) (next : ℕ) (limit : length body ≤ 11
     unfolding rest scan_from unstuffed_bytes
     scanned = split (unstuff false (drop next body)) e
       where
-        split : (r : Unstuffed) → Good len sum ≡ scan_from 0 0 r
+        split : (r : Unstuffed) → Ok (counted len sum) ≡ scan_from 0 0 r
             → (r ≡ bytes (unstuffed_bytes r)) × (len ≡ length (unstuffed_bytes r)) × (sum ≡ checksum (unstuffed_bytes r))
         split bad_escape e = let z : ◌≡◌ {A = ℕ} 0 1 = cc in absurd (omega arith)
         split (bytes u) e =
-            let l : len ≡ 0 + length u = cc in
-            let s : sum ≡ sum_from 0 u = cc in
-            (refl, omega arith, s)
+            let q : counted len sum ≡ counted (0 + length u) (checksum u) = cc in
+            let l : len ≡ 0 + length u = ap (λ (c : Counted). c.len) q in
+            (refl, omega arith, ap (λ (c : Counted). c.sum) q)
 
     all : unstuff false body ≡ bytes (under h rest)
     all = here ∙ ap (headed h) scanned.0 ∙ headed_bytes h rest
@@ -278,82 +278,121 @@ module _ (h : Header) (body : List ℕ) (next : ℕ) (limit : length body ≤ 11
             inside = inside;
           }
 
--- a body that was scanned whole, without its addresses
-module _ (h : Header) (len sum : ℕ) where
-  pub headed_count : (v : Unstuffed) → Good len sum ≡ scan_from 0 0 (headed h v) → address_count (header_kind h) ≤ len
-  unfolding scan_from prepend
-  headed_count v e = counted h v e
-    where
-      counted : (h : Header) (v : Unstuffed) → Good len sum ≡ scan_from 0 0 (headed h v)
-          → address_count (header_kind h) ≤ len
-      counted Plain v e = omega arith
-      counted (Addressed to from) bad_escape e = let z : ◌≡◌ {A = ℕ} 0 1 = cc in absurd (omega arith)
-      counted (Addressed to from) (bytes u) e = let n : len ≡ 0 + length (to ∷ from ∷ u) = cc in omega arith
+-- bytes that are too many are refused as a flag among them says
+pub long_judged : (kind : Kind) (body : List ℕ) → 118 < length body
+    → judge_whole kind body ≡ refused (number_of (long_refusal body))
+long_judged kind body h = by_bool (flagless body) (λ y. simp y (judge_long kind body h)) (λ n. simp n)
 
-  pub headed_scan : (v : Unstuffed) (r : Rest) → Good len sum ≡ scan_from 0 0 (headed h v)
-      → WithoutHeader h len sum r → Good r.len r.sum ≡ scan_from 0 0 v
+-- a body that was scanned whole, without its addresses
+module _ (h : Header) (whole : Counted) where
+  pub headed_count : (v : Unstuffed) → Ok whole ≡ scan_from 0 0 (headed h v) → address_count (header_kind h) ≤ whole.len
+  unfolding scan_from prepend
+  headed_count v e = shorter h v e
+    where
+      shorter : (h : Header) (v : Unstuffed) → Ok whole ≡ scan_from 0 0 (headed h v)
+          → address_count (header_kind h) ≤ whole.len
+      shorter Plain v e = omega arith
+      shorter (Addressed to from) bad_escape e = cc
+      shorter (Addressed to from) (bytes u) e =
+          let q : whole ≡ counted (0 + length (to ∷ from ∷ u)) (checksum (to ∷ from ∷ u)) = cc in
+          omega (arith, ap (λ (c : Counted). c.len) q)
+
+  pub headed_scan : (v : Unstuffed) (r : Counted) → Ok whole ≡ scan_from 0 0 (headed h v)
+      → WithoutHeader h whole r → Ok r ≡ scan_from 0 0 v
   unfolding scan_from prepend
   headed_scan v r e w = scanned h v e w
     where
-      scanned : (h : Header) (v : Unstuffed) → Good len sum ≡ scan_from 0 0 (headed h v) → WithoutHeader h len sum r
-          → Good r.len r.sum ≡ scan_from 0 0 v
-      scanned Plain v e w = ap (λ (n : ℕ). Good n r.sum) w.0 ∙ ap (Good len) w.1 ∙ e
-      scanned (Addressed to from) bad_escape e w = let z : ◌≡◌ {A = ℕ} 0 1 = cc in absurd (omega arith)
+      scanned : (h : Header) (v : Unstuffed) → Ok whole ≡ scan_from 0 0 (headed h v) → WithoutHeader h whole r
+          → Ok r ≡ scan_from 0 0 v
+      scanned Plain v e w =
+          ap (λ (n : ℕ). Ok (counted n r.sum)) w.0 ∙ ap (λ (n : ℕ). Ok (counted whole.len n)) w.1 ∙ e
+      scanned (Addressed to from) bad_escape e w = cc
       scanned (Addressed to from) (bytes u) e w =
-          let n : len ≡ 0 + length (to ∷ from ∷ u) = cc in
-          let s : sum ≡ checksum (to ∷ from ∷ u) = cc in
+          let q : whole ≡ counted (0 + length (to ∷ from ∷ u)) (checksum (to ∷ from ∷ u)) = cc in
+          let n : whole.len ≡ 0 + length (to ∷ from ∷ u) = ap (λ (c : Counted). c.len) q in
+          let s : whole.sum ≡ checksum (to ∷ from ∷ u) = ap (λ (c : Counted). c.sum) q in
           let m : r.len ≡ 0 + length u = omega (arith, w.0) in
-          ap (λ (n : ℕ). Good n r.sum) m
-          ∙ ap (Good (0 + length u))
+          ap (λ (n : ℕ). Ok (counted n r.sum)) m
+          ∙ ap (λ (n : ℕ). Ok (counted (0 + length u) n))
           (w.1 ∙ ap (λ (n : ℕ). bit_xor n (bit_xor to from)) s ∙ sum_after to from u)
 
-pub scan_clean : (body : List ℕ) (len sum : ℕ) → Good len sum ≡ scan_of body
-    → (flagless body ≡ true) × (Good len sum ≡ scan_from 0 0 (unstuff false body))
-scan_clean body len sum e =
+pub scan_clean : (body : List ℕ) (c : Counted) → Ok c ≡ scan_of body
+    → (flagless body ≡ true) × (Ok c ≡ scan_from 0 0 (unstuff false body))
+scan_clean body c e =
     by_bool (flagless body) (λ y. (y, simp y at e))
-    (λ n. let q : Good len sum ≡ Flagged = simp n at e in
-    let z : ◌≡◌ {A = ℕ} 0 1 = cc in absurd (omega arith))
+    (λ n. let q : Ok c ≡ Err Truncated = simp n at e in cc)
 
-pub scan_flags : (kind : Kind) (body : List ℕ) → scan_of body ≡ Flagged → judge_whole kind body ≡ refused 6
+-- bytes that a scan refuses are refused alike
+pub scan_refused : (kind : Kind) (body : List ℕ) → length body ≤ 118 → (why : Refusal) → Err why ≡ scan_of body
+    → judge_whole kind body ≡ refused (number_of why)
 unfolding scan_from
-scan_flags kind body e =
-    by_bool (flagless body) (λ y. none (unstuff false body) (simp y at e)) (λ n. simp n)
-  where
-    none : (r : Unstuffed) → scan_from 0 0 r ≡ Flagged → judge_whole kind body ≡ refused 6
-    none bad_escape q = let z : ◌≡◌ {A = ℕ} 0 1 = cc in absurd (omega arith)
-    none (bytes u) q = let z : ◌≡◌ {A = ℕ} 0 1 = cc in absurd (omega arith)
-
-pub scan_faults : (kind : Kind) (body : List ℕ) → length body ≤ 118 → scan_of body ≡ Fault
-    → judge_whole kind body ≡ refused 3
-unfolding scan_from
-scan_faults kind body h e =
+scan_refused kind body h why e =
     by_bool (flagless body)
-    (λ y. simp y (judge_escape kind body h (bad (unstuff false body) (simp y at e))))
-    (λ n. let q : Flagged ≡ Fault = simp n at e in
-    let z : ◌≡◌ {A = ℕ} 0 1 = cc in absurd (omega arith))
+    (λ y. simp y (bad (unstuff false body) refl (simp y at e)))
+    (λ n. let q : ◌≡◌ {A = Result Counted Refusal} (Err why) (Err Truncated) = simp n at e in
+    let r : Truncated ≡ why = cc in simp n (ap (λ (x : Refusal). refused (number_of x)) r))
   where
-    bad : (r : Unstuffed) → scan_from 0 0 r ≡ Fault → r ≡ bad_escape
-    bad bad_escape q = refl
-    bad (bytes u) q = let z : ◌≡◌ {A = ℕ} 0 1 = cc in absurd (omega arith)
+    bad : (r : Unstuffed) → unstuff false body ≡ r → Err why ≡ scan_from 0 0 r
+        → judge kind body ≡ refused (number_of why)
+    bad bad_escape u q =
+        let r : BadEscape ≡ why = cc in
+        judge_escape kind body h u ∙ ap (λ (x : Refusal). refused (number_of x)) r
+    bad (bytes s) u q = cc
+
+-- what a scan finds of bytes that are not too many
+pub scan_counts : (body : List ℕ) → length body ≤ 118 → (found : Result Counted Refusal) → found ≡ scan_of body
+    → CountsWhole body found
+scan_counts body h (Ok c) e = (h, e)
+scan_counts body h (Err why) e = λ kind. scan_refused kind body h why e
 
 -- ---- a body between its two flags
 
 pub whole_judged : (kind : Kind) (body : List ℕ) → flagless body ≡ true → judge_whole kind body ≡ judge kind body
 whole_judged kind body f = simp f
 
-pub whole_examined : (kind : Kind) (body : List ℕ) → flagless body ≡ true → (x : Examined)
-    → Examines (judge kind body) body x → ExaminesWhole kind body x
-whole_examined kind body f x e = subst (λ (v : Verdict). Examines v body x) (sym (whole_judged kind body f)) e
+-- one that was scanned whole, whose addresses are known
+module _ (kind : Kind) (body : List ℕ) (limit : length body ≤ 118) (whole : Counted) (scanned : Ok whole ≡ scan_of body)
+    (found : Addresses) (addressed : AddressesIn kind body (Ok found)) where
+  clean : (flagless body ≡ true) × (Ok whole ≡ scan_from 0 0 (unstuff false body))
+  clean = scan_clean body whole scanned
 
--- one in which no byte is F0 to F3, as a look finds it
-pub looked_clear : (body : List ℕ) (clear : Bool) (sum : ℕ) → EndsPlain body
-    → (clear ≡ none_of is_stuffed body) × (sum ≡ checksum body) → clear ≡ true → Unescaped body sum
-looked_clear body clear sum p found y = record {
-  limit = p.1;
-  clear = sym found.0 ∙ y;
-  summed = found.1;
-}
+  scanned_all : Ok whole ≡ scan_from 0 0 (headed found.header (unstuff false (drop found.next body)))
+  scanned_all = clean.1 ∙ ap (scan_from 0 0) addressed.2
 
+  pub scanned_enough : address_count (header_kind found.header) ≤ whole.len
+  scanned_enough = headed_count found.header whole _ scanned_all
+
+  scanned_judged : judge_whole kind body ≡ judge (header_kind found.header) body
+  scanned_judged = whole_judged kind body clean.0 ∙ ap (λ (k : Kind). judge k body) (sym addressed.1)
+
+  module _ (rest : Counted) (apart : WithoutHeader found.header whole rest) where
+    scanned_rest : Ok rest ≡ scan_from 0 0 (unstuff false (drop found.next body))
+    scanned_rest = headed_scan found.header whole _ rest scanned_all apart
+
+    pub scanned_short : rest.len < 1 → judge_whole kind body ≡ refused 4
+    scanned_short h =
+        scanned_judged ∙ rest_short found.header body found.next limit addressed.2 rest.len rest.sum scanned_rest h
+
+    pub scanned_sum : 1 ≤ rest.len → (rest.sum ≡ 0 → ⊥) → judge_whole kind body ≡ refused 5
+    scanned_sum h n =
+        scanned_judged ∙ rest_sum found.header body found.next limit addressed.2 rest.len rest.sum scanned_rest h n
+
+    pub scanned_sound : 1 ≤ rest.len → rest.sum ≡ 0
+        → SoundAt (judge_whole kind body) body found.header found.next (rest.len - 1)
+    scanned_sound h z =
+        subst (λ (v : Verdict). SoundAt v body found.header found.next (rest.len - 1)) (sym scanned_judged)
+        (rest_sound found.header body found.next limit addressed.2 rest.len rest.sum scanned_rest h z addressed.0)
+
+-- one that was looked at for F0 to F3
+pub plain_sum_is : (body : List ℕ) → length body ≤ 118 → (found : Option ℕ)
+    → found ≡ pick (none_of is_stuffed body) (Some (checksum body)) None → PlainSum body found
+plain_sum_is body limit found e =
+    by_bool (none_of is_stuffed body)
+    (λ y. let q : found ≡ Some (checksum body) = simp y at e in
+    subst (PlainSum body) (sym q) (record { limit = limit; clear = y; summed = refl }))
+    (λ n. let q : found ≡ None = simp n at e in subst (PlainSum body) (sym q) tt)
+
+-- one in which no byte is F0 to F3
 module _ (body : List ℕ) (sum : ℕ) (p : Unescaped body sum) where
   escapeless : none_of (within 0xF3 0xF3) body ≡ true
   escapeless = none_narrower 0xF0 0xF3 0xF3 0xF3 body (omega arith) (omega arith) p.clear
@@ -361,82 +400,23 @@ module _ (body : List ℕ) (sum : ℕ) (p : Unescaped body sum) where
   pub plain_flagless : flagless body ≡ true
   plain_flagless = none_narrower 0xF0 0xF3 0xF0 0xF2 body (omega arith) (omega arith) p.clear
 
-  -- what stands after an index is as long as it is unstuffed
-  pub plain_rest : (start : ℕ) → length (drop start body) ≡ length (unstuffed_bytes (unstuff false (drop start body)))
-  unfolding unstuffed_bytes
-  plain_rest start =
-      sym (ap (λ (r : Unstuffed). length (unstuffed_bytes r))
-      (unstuff_plain (drop start body) (none_drop (within 0xF3 0xF3) start body escapeless)))
-
-  pub plain_whole : (kind : Kind) → judge kind body ≡ judge_whole kind body
-  plain_whole kind = sym (whole_judged kind body plain_flagless)
-
-  pub plain_standard : UnescapedAfter Plain body 0 sum
-  plain_standard =
-      record { limit = p.limit; clear = escapeless; inside = omega arith; addressed = refl; summed = p.summed }
-
-  pub plain_short : length body < 2 → judge Extended body ≡ refused 4
-  plain_short h = judge_short Extended body p.limit body (unstuff_plain body escapeless) (omega arith)
-
-  pub plain_extended : 2 ≤ length body → (to from : ℕ) → to ≡ get_or body 0 0 → from ≡ get_or body 1 0
-      → UnescapedAfter (Addressed to from) body 2 (bit_xor sum (bit_xor to from))
-  unfolding prepend
-  plain_extended h to from t f =
-      let rest = drop 2 body in
-      let parts : body ≡ to ∷ from ∷ rest =
-      drop_two body 0 (omega arith) ∙ ap (λ (b : ℕ). b ∷ get_or body 1 0 ∷ rest) (sym t)
-      ∙ ap (λ (b : ℕ). to ∷ b ∷ rest) (sym f) in
-      let clear-rest = unstuff_plain rest (none_drop (within 0xF3 0xF3) 2 body escapeless) in
-      record {
-        limit = p.limit;
-        clear = escapeless;
-        inside = h;
-        addressed =
-            unstuff_plain body escapeless ∙ ap bytes parts
-            ∙ sym (ap (λ (r : Unstuffed). prepend to (prepend from r)) clear-rest);
-        summed = ap (λ (n : ℕ). bit_xor n (bit_xor to from)) (p.summed ∙ ap checksum parts) ∙ sum_after to from rest;
-      }
-
--- and the addresses of which are known
-module _ (header : Header) (body : List ℕ) (start sum : ℕ) (p : UnescapedAfter header body start sum) where
-  after_scan : Good (length body - start) sum ≡ scan_from 0 0 (unstuff false (drop start body))
-  after_scan =
-      scan_as_is (drop start body) (none_drop (within 0xF3 0xF3) start body p.clear) (length body - start) sum
-      (sym (length-drop start body)) p.summed
-
-  pub after_short : length body ≤ start → judge (header_kind header) body ≡ refused 4
-  after_short h =
-      rest_short header body start p.limit p.addressed (length body - start) sum after_scan (omega arith)
-
-  module _ (h : start < length body) where
-    pub after_sum : (sum ≡ 0 → ⊥) → judge (header_kind header) body ≡ refused 5
-    after_sum n =
-        rest_sum header body start p.limit p.addressed (length body - start) sum after_scan (omega arith) n
-
-    pub after_sound : sum ≡ 0
-        → SoundAt (judge (header_kind header) body) body header start (length body - start - 1)
-    after_sound z =
-        rest_sound header body start p.limit p.addressed (length body - start) sum after_scan (omega arith) z
-        p.inside
+  -- it is counted as it stands
+  pub plain_counted : CountsWhole body (Ok (counted (length body) sum))
+  plain_counted = (
+    p.limit,
+    scan_as_is body escapeless (length body) sum refl p.summed ∙ sym (simp plain_flagless),
+  )
 
 -- ---- the answers of a reader and of a judge
 
-pub header_as : (h : Header) (c : List ℕ) (len : ℕ) → length c ≡ len → read_as h len ≡ result (outline_of (frame_of h c))
-header_as Plain c len e = ap (read_as Plain) (sym e)
-header_as (Addressed to from) c len e = ap (read_as (Addressed to from)) (sym e)
+pub header_as : (h : Header) (c : List ℕ) (len : ℕ) → length c ≡ len → result (outline_with h len) ≡ result (outline_of (frame_of h c))
+header_as Plain c len e = ap (λ (n : ℕ). result (outline_with Plain n)) (sym e)
+header_as (Addressed to from) c len e = ap (λ (n : ℕ). result (outline_with (Addressed to from) n)) (sym e)
 
 pub contents_of_lem : (h : Header) (c : List ℕ) → contents_of (frame_of h c) ≡ c
 unfolding contents_of
 contents_of_lem Plain c = refl
 contents_of_lem (Addressed to from) c = refl
-
-pub judge_refused : (v : Verdict) (n : ℕ) → v ≡ refused n → refused n ≡ judge_answer v
-unfolding judge_answer
-judge_refused v n e = ap judge_answer (sym e)
-
-pub judge_accepted : (v : Verdict) (f : Frame) → v ≡ result f → result (outline_of f) ≡ judge_answer v
-unfolding judge_answer
-judge_accepted v f e = ap judge_answer (sym e)
 
 pub answer_refused : (v : Verdict) (n : ℕ) (out : List ℕ) → v ≡ refused n
     → (refused n ≡ read_answer v (length out)) × (out ≡ read_out v out)

@@ -1,16 +1,18 @@
 -- What each case of an answer means, in document 01's numbers, and what each public function answers and leaves in the
 -- slice that it is lent.
-use Rattle.std.specs.Prelude.{ℕ, ◌≡◌, List, ◌++◌, leb, length, take, drop}
+use Rattle.std.specs.Prelude.{ℕ, ◌≡◌, List, ◌++◌, leb, length, take, drop, Result, Ok, Err}
 use Rattle.lists.specs.Choice.{pick}
 use Rattle.answer.specs.Answer.{Answer, result, refused, through}
 use Rattle.answer.specs.Draft.{draft_out}
 use Rattle.answer.specs.Refusals.{number_of}
+use Rattle.answer.specs.declared.Refusal.{Refusal}
 use Rattle.frame.specs.Frame.{Frame, standard, extended, contents_of}
 use Rattle.frame.specs.Verdict.{Verdict, verdict}
 use Rattle.frame.specs.Origin.{admit}
 use Rattle.frame.specs.declared.Origin.{Origin}
-use Rattle.frame.specs.declared.Read.{Read}
-use Rattle.frame.specs.declared.Read.TheVariants.{Standard, Extended, Refused}
+use Rattle.frame.specs.declared.Header.{Header}
+use Rattle.frame.specs.declared.Header.TheVariants.{Plain, Addressed}
+use Rattle.frame.specs.declared.Outline.{Outline}
 
 -- ---- reading
 
@@ -19,10 +21,14 @@ pub data FrameOutline : Type 0 where
   standard_outline : (len : ℕ) → FrameOutline
   extended_outline : (to from len : ℕ) → FrameOutline
 
-abbrev pub read_means : Read → Answer FrameOutline
-read_means (Standard len) = result (standard_outline len)
-read_means (Extended to from len) = result (extended_outline to from len)
-read_means (Refused why) = refused (number_of why)
+-- The outline of a header and a number of contents bytes.
+abbrev pub outline_with : Header → ℕ → FrameOutline
+outline_with Plain len = standard_outline len
+outline_with (Addressed to from) len = extended_outline to from len
+
+abbrev pub read_means : Result Outline Refusal → Answer FrameOutline
+read_means (Ok o) = result (outline_with o.header o.len)
+read_means (Err why) = refused (number_of why)
 
 abbrev pub outline_of : Frame → FrameOutline
 outline_of (standard c) = standard_outline (length c)

@@ -1,32 +1,28 @@
 -- Contracts of private functions, which no caller reads.
-use Rattle.std.specs.Prelude.{ℕ, ◌+◌, ◌-◌, ◌≤◌, ◌<◌, ◌≡◌, Bool, true, false, List, [], ◌∷◌, ◌++◌, leb, ltb, eqb, length, get_or, take, drop}
+use Rattle.std.specs.Prelude.{ℕ, ◌+◌, ◌-◌, ◌≤◌, ◌≡◌, Bool, true, false, not, List, [], ◌∷◌, ◌++◌, leb, ltb, eqb, length, get_or, take, drop, Option, Some, None, Result, Ok, Err}
 use Rattle.std.specs.Int.Bits.{bit_xor}
 use Rattle.lists.specs.Choice.{pick, within, none_of, count_of, count_before}
 use Rattle.answer.specs.Refusals.{number_of}
+use Rattle.answer.specs.declared.Refusal.{Refusal}
+use Rattle.answer.specs.declared.Refusal.TheVariants.{BadEscape, TooShort, TooLong, Truncated, Unnamed}
 use Rattle.frame.specs.Stuffing.{is_stuffed, unstuff, Unstuffed, bad_escape, bytes, prepend}
 use Rattle.frame.specs.Flags.{flagless, stop_flag, is_start, is_flag}
 use Rattle.frame.specs.Leading.{is_stop_at}
 use Rattle.frame.specs.Checksum.{sum_from, checksum}
 use Rattle.frame.specs.Frame.{frame_of}
-use Rattle.frame.specs.Verdict.{Verdict, judge, address_count, last_of}
-use Rattle.answer.specs.Answer.{result, refused, Answer}
-use Rattle.frame.specs.Answers.{standard_outline, extended_outline, FrameOutline}
+use Rattle.frame.specs.Verdict.{Verdict, judge, judge_bytes, last_of}
+use Rattle.answer.specs.Answer.{result, refused}
 use Rattle.frame.specs.declared.Origin.{Origin}
 use Rattle.frame.specs.declared.Origin.TheVariants.{Live, Trace}
 use Rattle.frame.specs.declared.Kind.{Kind}
 use Rattle.frame.specs.declared.Kind.TheVariants.{Standard, Extended}
 use Rattle.frame.specs.declared.Header.{Header}
 use Rattle.frame.specs.declared.Header.TheVariants.{Plain, Addressed}
-use Rattle.frame.specs.declared.candidate.Next.{Next}
-use Rattle.frame.specs.declared.candidate.Next.TheVariants.{End, Bad, Byte}
-use Rattle.frame.specs.declared.candidate.Scan.{Scan}
-use Rattle.frame.specs.declared.candidate.Scan.TheVariants.{Flagged, Fault, Good}
+use Rattle.frame.specs.declared.candidate.Byte.{Byte}
 use Rattle.frame.specs.declared.candidate.Tally.{Tally}
-use Rattle.frame.specs.declared.candidate.Rest.{Rest}
+use Rattle.frame.specs.declared.candidate.Counted.{Counted}
 use Rattle.frame.specs.declared.candidate.Addresses.{Addresses}
-use Rattle.frame.specs.declared.candidate.Addresses.TheVariants.{Broken, Missing, Found}
-use Rattle.frame.specs.declared.candidate.Examined.{Examined}
-use Rattle.frame.specs.declared.candidate.Examined.TheVariants.{Unsound, Sound}
+use Rattle.frame.specs.declared.candidate.Sound.{Sound}
 
 abbrev pub header_kind : Header → Kind
 header_kind Plain = Standard
@@ -37,29 +33,25 @@ abbrev pub headed : Header → Unstuffed → Unstuffed
 headed Plain r = r
 headed (Addressed to from) r = prepend to (prepend from r)
 
--- What is answered of a header and a number of contents bytes.
-abbrev pub read_as : Header → ℕ → Answer FrameOutline
-read_as Plain len = result (standard_outline len)
-read_as (Addressed to from) len = result (extended_outline to from len)
-
 -- Whether a list begins with a start flag and ends with the stop flag.
 unfoldable pub is_bounded : List ℕ → Bool
 is_bounded w = pick (leb 2 (length w)) (pick (is_start (get_or w 0 0)) (eqb (last_of w) stop_flag) false) false
 
 -- The unstuffed byte at an index of stuffed bytes, and the index after it.
-unfoldable pub next_at : List ℕ → ℕ → Next
+unfoldable pub next_at : List ℕ → ℕ → Result Byte Refusal
 next_at s at =
     pick (ltb at (length s))
     (pick (eqb (get_or s at 0) 0xF3)
-    (pick (ltb (at + 1) (length s)) (pick (leb (get_or s (at + 1) 0) 3) (Byte (0xF0 + get_or s (at + 1) 0) (at + 2)) Bad)
-    Bad)
-    (Byte (get_or s at 0) (at + 1)))
-    End
+    (pick (ltb (at + 1) (length s))
+    (pick (leb (get_or s (at + 1) 0) 3) (Ok (record { value = 0xF0 + get_or s (at + 1) 0; next = at + 2 })) (Err BadEscape))
+    (Err BadEscape))
+    (Ok (record { value = get_or s at 0; next = at + 1 })))
+    (Err TooShort)
 
 -- The number of unstuffed bytes and their exclusive or, where `len` bytes with the exclusive or `sum` have gone before.
-unfoldable pub scan_from : (len sum : ℕ) → Unstuffed → Scan
-scan_from len sum bad_escape = Fault
-scan_from len sum (bytes u) = Good (len + length u) (sum_from sum u)
+unfoldable pub scan_from : (len sum : ℕ) → Unstuffed → Result Counted Refusal
+scan_from len sum bad_escape = Err BadEscape
+scan_from len sum (bytes u) = Ok (record { len = len + length u; sum = sum_from sum u })
 
 -- Whether no escape is bad.
 abbrev pub is_sound : Unstuffed → Bool
@@ -79,13 +71,17 @@ lowered [] = []
 lowered (b ∷ s) = lower_byte b ∷ lowered s
 
 -- The scan of stuffed bytes. A flag among them comes first.
-abbrev pub scan_of : List ℕ → Scan
-scan_of s = pick (flagless s) (scan_from 0 0 (unstuff false s)) Flagged
+abbrev pub scan_of : List ℕ → Result Counted Refusal
+scan_of s = pick (flagless s) (scan_from 0 0 (unstuff false s)) (Err Truncated)
+
+-- Why stuffed bytes that are too many are refused.
+abbrev pub long_refusal : List ℕ → Refusal
+long_refusal s = pick (flagless s) TooLong Truncated
 
 -- What one pass over all bytes but the last finds, told with the last.
 pub record Tallied (s : List ℕ) (t : Tally) : Type 0 where
-  pub flagged : t.flags ≡ pick (flagless (take (length s - 1) s)) 0 1
-  pub sound : (get_or s (length s - 1) 0 ≡ 0xF3 → ⊥) → eqb t.unsound 0 ≡ is_sound (unstuff false s)
+  pub flagged : t.flags ≡ pick (flagless (take (length s - 1) s)) false true
+  pub sound : (get_or s (length s - 1) 0 ≡ 0xF3 → ⊥) → t.unsound ≡ not (is_sound (unstuff false s))
   pub counted : t.escapes + pick (within 0xF3 0xF3 (get_or s (length s - 1) 0)) 1 0 ≡ count_of (within 0xF3 0xF3) s
   pub summed : bit_xor t.sum (lower_byte (get_or s (length s - 1) 0)) ≡ checksum (lowered s)
 
@@ -106,18 +102,17 @@ unfoldable pub unstuffed_bytes : Unstuffed → List ℕ
 unstuffed_bytes bad_escape = []
 unstuffed_bytes (bytes u) = u
 
--- What was found of the addresses at the start of stuffed bytes.
-abbrev pub AddressesIn : Kind → List ℕ → Addresses → Type 0
-AddressesIn kind body Broken = unstuff false body ≡ bad_escape
-AddressesIn kind body Missing = (u : List ℕ) × (unstuff false body ≡ bytes u) × (length u < address_count kind)
-AddressesIn kind body (Found header next) =
-    (next ≤ length body) × (header_kind header ≡ kind)
-    × (unstuff false body ≡ headed header (unstuff false (drop next body)))
+-- What was found of the addresses at the start of stuffed bytes, or why the bytes are refused.
+abbrev pub AddressesIn : Kind → List ℕ → Result Addresses Refusal → Type 0
+AddressesIn kind body (Ok a) =
+    (a.next ≤ length body) × (header_kind a.header ≡ kind)
+    × (unstuff false body ≡ headed a.header (unstuff false (drop a.next body)))
+AddressesIn kind body (Err why) = judge_bytes kind (unstuff false body) ≡ refused (number_of why)
 
 -- How many unstuffed bytes follow the addresses, and their exclusive or.
-abbrev pub WithoutHeader : Header → (len sum : ℕ) → Rest → Type 0
-WithoutHeader Plain len sum r = (r.len ≡ len) × (r.sum ≡ sum)
-WithoutHeader (Addressed to from) len sum r = (r.len ≡ len - 2) × (r.sum ≡ bit_xor sum (bit_xor to from))
+abbrev pub WithoutHeader : Header → (whole rest : Counted) → Type 0
+WithoutHeader Plain c r = (r.len ≡ c.len) × (r.sum ≡ c.sum)
+WithoutHeader (Addressed to from) c r = (r.len ≡ c.len - 2) × (r.sum ≡ bit_xor c.sum (bit_xor to from))
 
 -- A body whose verdict is a frame, and where the frame's stuffed contents stand in it.
 pub record SoundAt (v : Verdict) (body : List ℕ) (header : Header) (start len : ℕ) : Type 0 where
@@ -127,28 +122,21 @@ pub record SoundAt (v : Verdict) (body : List ℕ) (header : Header) (start len 
   pub follows : unstuff false (drop start body) ≡ bytes (contents ++ (checksum contents ∷ []))
   pub inside : start ≤ length body
 
--- A body that is neither empty nor too long, and whose last byte is none of F0 to F3.
-abbrev pub EndsPlain : List ℕ → Type 0
-EndsPlain body = (1 ≤ length body) × (length body ≤ 118) × (is_stuffed (last_of body) ≡ false)
-
 -- A body in which no byte is F0 to F3, and its exclusive or.
 pub record Unescaped (body : List ℕ) (sum : ℕ) : Type 0 where
   pub limit : length body ≤ 118
   pub clear : none_of is_stuffed body ≡ true
   pub summed : sum ≡ checksum body
 
--- A body without an escape, whose addresses end before an index, and the exclusive or of what follows them.
-pub record UnescapedAfter (header : Header) (body : List ℕ) (start sum : ℕ) : Type 0 where
-  pub limit : length body ≤ 118
-  pub clear : none_of (within 0xF3 0xF3) body ≡ true
-  pub inside : start ≤ length body
-  pub addressed : unstuff false body ≡ headed header (unstuff false (drop start body))
-  pub summed : sum ≡ checksum (drop start body)
+-- The exclusive or of a body, where it is known that no byte of it is F0 to F3.
+abbrev pub PlainSum : List ℕ → Option ℕ → Type 0
+PlainSum body None = Unit {0}
+PlainSum body (Some sum) = Unescaped body sum
 
 -- What was found of a body whose verdict is v.
-abbrev pub Examines : (v : Verdict) → List ℕ → Examined → Type 0
-Examines v body (Unsound why) = v ≡ refused (number_of why)
-Examines v body (Sound header start len) = SoundAt v body header start len
+abbrev pub Examines : (v : Verdict) → List ℕ → Result Sound Refusal → Type 0
+Examines v body (Ok s) = SoundAt v body s.header s.start s.len
+Examines v body (Err why) = v ≡ refused (number_of why)
 
 -- Whether a frame of a kind may come from an origin.
 abbrev pub admits : Origin → Kind → Bool
@@ -156,11 +144,21 @@ admits Live Standard = false
 admits Live Extended = true
 admits Trace kind = true
 
+-- What is answered of a frame that may come from its origin, and of one that may not.
+abbrev pub Admitted : Bool → Result Unit Refusal → Type 0
+Admitted may (Ok _) = may ≡ true
+Admitted may (Err why) = (may ≡ false) × (why ≡ Unnamed)
+
 -- The verdict where flags may stand in the body: with one it is no whole candidate.
 abbrev pub judge_whole : Kind → List ℕ → Verdict
 judge_whole kind body = pick (flagless body) (judge kind body) (refused 6)
 
-abbrev pub ExaminesWhole : Kind → List ℕ → Examined → Type 0
+-- What was counted of a body, or why it is refused, whatever its kind.
+abbrev pub CountsWhole : List ℕ → Result Counted Refusal → Type 0
+CountsWhole body (Ok c) = (length body ≤ 118) × (Ok c ≡ scan_of body)
+CountsWhole body (Err why) = (kind : Kind) → judge_whole kind body ≡ refused (number_of why)
+
+abbrev pub ExaminesWhole : Kind → List ℕ → Result Sound Refusal → Type 0
 ExaminesWhole kind body x = Examines (judge_whole kind body) body x
 
 -- No byte before an index is F0 to F3, and their exclusive or.

@@ -12,9 +12,5 @@ pub const LAST: u32 = 0xFC;
 pub fn in_range(address: u32) -> bool
     ensures { result ≡ in_range address }
 {
-    if FIRST <= address {
-        address <= LAST
-    } else {
-        false
-    }
+    matches!(address, FIRST..=LAST)
 }

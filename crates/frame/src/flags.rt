@@ -21,21 +21,14 @@ pub const ESCAPE: u8 = 0xF3;
 pub fn is_flag(b: u8) -> bool
     ensures { result ≡ is_flag b }
 {
-    if b < EXTENDED_START {
-        return false;
-    }
-    b <= STOP
+    matches!(b, EXTENDED_START..=STOP)
 }
 
 // Whether a byte is sent as two between the flags.
 pub fn is_stuffed(b: u8) -> bool
     ensures { result ≡ is_stuffed b }
 {
-    if EXTENDED_START <= b {
-        b <= ESCAPE
-    } else {
-        false
-    }
+    matches!(b, EXTENDED_START..=ESCAPE)
 }
 
 // The kind of frame that a start flag opens.
@@ -43,7 +36,8 @@ pub(crate) fn kind_of(start: u8) -> Kind
     ensures { result ≡ kind_of start }
 {
     if start == EXTENDED_START {
-        return Kind::Extended;
+        Kind::Extended
+    } else {
+        Kind::Standard
     }
-    Kind::Standard
 }

@@ -7,36 +7,24 @@ ghost use Rattle.frame.specs.Checksum.{checksum};
 ghost use Rattle.frame.specs.Leading.{is_stop_at};
 ghost use Rattle.frame.specs.Private.{PlainTo};
 
+use crate::candidate::Counted;
 use crate::{bytes, flags};
 
 // The size of a small block of bytes that are looked at together.
 const SMALL_BLOCK: usize = 8;
 
-// How many bytes stand before the first F0 to F3, and their exclusive or.
-#[derive(Clone, Copy)]
-pub(crate) struct PlainRun {
-    pub(crate) at: usize,
-    pub(crate) sum: u8,
-}
-
 // Whether the first byte is a start flag.
 pub(crate) fn starts(s: &[u8]) -> bool
     ensures { result ≡ is_start (get_or s.now 0 0) }
 {
-    if s.len() == 0 {
-        return false;
-    }
-    lists::mark(s[0], flags::EXTENDED_START, flags::STANDARD_START) == 1
+    matches!(s, [flags::EXTENDED_START..=flags::STANDARD_START, ..])
 }
 
 // Whether the stop flag stands at an index.
 pub(crate) fn is_stop_at(s: &[u8], at: usize) -> bool
     ensures { result ≡ is_stop_at s.now at }
 {
-    if s.len() <= at {
-        return false;
-    }
-    s[at] == flags::STOP
+    s.get(at) == Some(&flags::STOP)
 }
 
 // The index of the first flag, where the first F0 to F3 stands at an index. Of a frame without escapes that is its stop
@@ -52,51 +40,43 @@ pub(crate) fn first_flag(s: &[u8], at: usize) -> usize
 }
 
 // The bytes before the first F0 to F3: whole blocks first, then small ones, then single bytes.
-pub(crate) fn plain_run(s: &[u8]) -> PlainRun
-    ensures at_value { result.at ≡ count_before is_stuffed s.now }
-    ensures sum_value { result.sum ≡ checksum (take result.at s.now) }
+pub(crate) fn plain_run(s: &[u8]) -> Counted
+    ensures len_value { result.len ≡ count_before is_stuffed s.now }
+    ensures sum_value { result.sum ≡ checksum (take result.len s.now) }
 {
-    let blocks = plain_blocks(s);
-    let small = small_blocks(s, blocks);
-    let mut i = small.at;
-    let mut sum = small.sum;
-    while i < s.len() {
-        if flags::is_stuffed(s[i]) {
-            return PlainRun { at: i, sum };
+    let mut run = small_blocks(s, plain_blocks(s));
+    for b in &s[run.len..] {
+        if flags::is_stuffed(*b) {
+            return run;
         }
-        sum = sum ^ s[i];
-        i += 1;
+        run.len += 1;
+        run.sum ^= *b;
     }
-    PlainRun { at: i, sum }
+    run
 }
 
 // Passes over whole blocks without F0 to F3. They are counted first and summed then: two loops are faster than one that
 // sums each block as it is looked at.
-fn plain_blocks(s: &[u8]) -> PlainRun
-    ensures { PlainTo s.now result.at result.sum }
+fn plain_blocks(s: &[u8]) -> Counted
+    ensures { PlainTo s.now result.len result.sum }
 {
-    let at = lists::blocks_before(s, flags::EXTENDED_START, flags::ESCAPE);
-    let looked = bytes::look(&s[..at], flags::EXTENDED_START, flags::ESCAPE);
-    PlainRun {
-        at,
-        sum: looked.sum,
-    }
+    let len = lists::blocks_before(s, flags::EXTENDED_START, flags::ESCAPE);
+    let sum = bytes::sum_of(&s[..len]);
+    Counted { len, sum }
 }
 
 // Passes over small blocks without F0 to F3, from a run on. A block is looked at without a branch for each byte.
-fn small_blocks(s: &[u8], from: PlainRun) -> PlainRun
-    requires { PlainTo s.now from.at from.sum }
-    ensures { PlainTo s.now result.at result.sum }
+fn small_blocks(s: &[u8], from: Counted) -> Counted
+    requires { PlainTo s.now from.len from.sum }
+    ensures { PlainTo s.now result.len result.sum }
 {
-    let mut i = from.at;
-    let mut sum = from.sum;
-    while SMALL_BLOCK <= s.len() - i {
-        let looked = bytes::look(&s[i..i + SMALL_BLOCK], flags::EXTENDED_START, flags::ESCAPE);
-        if !looked.clear {
-            return PlainRun { at: i, sum };
-        }
-        sum = sum ^ looked.sum;
-        i += SMALL_BLOCK;
+    let mut run = from;
+    for block in s[from.len..].chunks_exact(SMALL_BLOCK) {
+        let Some(sum) = bytes::plain_sum(block) else {
+            return run;
+        };
+        run.len += SMALL_BLOCK;
+        run.sum ^= sum;
     }
-    PlainRun { at: i, sum }
+    run
 }

@@ -19,7 +19,8 @@ use Rattle.framing.specs.Reference.{Call, byte, finish, Role, starts, stops, pla
 use Rattle.framing.specs.Reference.{opened, Protocol, byte_answer, byte_after, end_answer, answer_to, candidate_after}
 use Rattle.framing.specs.Reference.{reference}
 use Rattle.framing.specs.Demand3.{Follows, Demand3}
-use Rattle.framing.specs.Bounded.{BoundedMode, outside, inside, overlong, BoundedReader, bounded, Bounds, Suits}
+use Rattle.framing.specs.declared.Mode.TheVariants.{Outside, Inside, Overlong}
+use Rattle.framing.specs.Bounded.{BoundedMode, BoundedReader, bounded, Bounds, Suits}
 use Rattle.framing.specs.Bounded.{truncated_in, terminated_in, left_by_stop, grown_in, byte_turn, bounded_turn}
 use Rattle.framing.proofs.Restart.{follows, demand3_of}
 
@@ -39,9 +40,9 @@ module _ {K A : Type 0} (P : Protocol A) (B : Bounds K A) (suits : Suits P B) wh
     pub flag_free : FlagFree P.role body
 
   abbrev pub StandsAt : BoundedMode K → List ℕ → ℕ → Candidate → Type 0
-  StandsAt outside bytes len k = k ≡ none
-  StandsAt (inside kind) bytes len k = (len ≤ B.capacity) × HoldsBody kind (take len bytes) k
-  StandsAt overlong bytes len k = (kind : K) × (body : List ℕ) × (B.capacity < length body) × HoldsBody kind body k
+  StandsAt Outside bytes len k = k ≡ none
+  StandsAt (Inside kind) bytes len k = (len ≤ B.capacity) × HoldsBody kind (take len bytes) k
+  StandsAt Overlong bytes len k = (kind : K) × (body : List ℕ) × (B.capacity < length body) × HoldsBody kind body k
 
   abbrev pub StandsFor : BoundedReader K → Candidate → Type 0
   StandsFor r k = (length r.bytes ≡ B.capacity) × StandsAt r.mode r.bytes r.len k
@@ -50,36 +51,36 @@ module _ {K A : Type 0} (P : Protocol A) (B : Bounds K A) (suits : Suits P B) wh
 
   truncated_at : (m : BoundedMode K) (bytes : List ℕ) (len : ℕ) (k : Candidate) (b : ℕ) → StandsAt m bytes len k
       → (truncated_in P B m ≡ byte_answer P starts k b) × (truncated_in P B m ≡ end_answer P k)
-  truncated_at outside bytes len k b s = rw s (refl, refl)
-  truncated_at (inside kind) bytes len k b s = rw s.1.holds (refl, refl)
-  truncated_at overlong bytes len k b s = rw s.3.holds (refl, refl)
+  truncated_at Outside bytes len k b s = rw s (refl, refl)
+  truncated_at (Inside kind) bytes len k b s = rw s.1.holds (refl, refl)
+  truncated_at Overlong bytes len k b s = rw s.3.holds (refl, refl)
 
   -- ---- the stop flag
 
   terminated_at : (m : BoundedMode K) (bytes : List ℕ) (len : ℕ) (k : Candidate) (b : ℕ) → P.role b ≡ stops
       → length bytes ≡ B.capacity
       → StandsAt m bytes len k → terminated_in P B m bytes len ≡ byte_answer P stops k b
-  terminated_at outside bytes len k b e n s = rw s
-  terminated_at (inside kind) bytes len k b e n s =
+  terminated_at Outside bytes len k b e n s = rw s
+  terminated_at (Inside kind) bytes len k b e n s =
       let h = s.1 in
       let judged = suits.held h.flag (take len bytes) b h.starting e in
       rw h.holds (sym (judged ∙ ap (λ (x : K). B.judge x (take len bytes)) h.opens))
-  terminated_at overlong bytes len k b e n s =
+  terminated_at Overlong bytes len k b e n s =
       let h = s.3 in
       rw h.holds (sym (suits.too_long h.flag s.1 b h.starting h.flag_free e s.2))
 
   kept_at : (m : BoundedMode K) (bytes : List ℕ) (len : ℕ) → length bytes ≡ B.capacity
       → length (left_by_stop P B m bytes len) ≡ B.capacity
-  kept_at outside bytes len e = e
-  kept_at (inside kind) bytes len e = suits.kept kind len bytes e
-  kept_at overlong bytes len e = e
+  kept_at Outside bytes len e = e
+  kept_at (Inside kind) bytes len e = suits.kept kind len bytes e
+  kept_at Overlong bytes len e = e
 
   grown_kept : (m : BoundedMode K) (bytes : List ℕ) (len b : ℕ) → length bytes ≡ B.capacity
       → length (grown_in P B m bytes len b).bytes ≡ B.capacity
-  grown_kept outside bytes len b h = h
-  grown_kept (inside kind) bytes len b h =
+  grown_kept Outside bytes len b h = h
+  grown_kept (Inside kind) bytes len b h =
       by_bool (ltb len B.capacity) (λ y. simp (y, length-set bytes len b) h) (λ n. simp n h)
-  grown_kept overlong bytes len b h = h
+  grown_kept Overlong bytes len b h = h
 
   byte_kept : (r : BoundedReader K) (b : ℕ) → length r.bytes ≡ B.capacity → (ρ : Role)
       → length (byte_turn P B ρ r b).next.bytes ≡ B.capacity
@@ -108,11 +109,11 @@ module _ {K A : Type 0} (P : Protocol A) (B : Bounds K A) (suits : Suits P B) wh
   grown_at : (m : BoundedMode K) (bytes : List ℕ) (len : ℕ) (k : Candidate) (b : ℕ) → length bytes ≡ B.capacity
       → P.role b ≡ plain
       → StandsAt m bytes len k → StandsFor (grown_in P B m bytes len b) (byte_after P plain k b)
-  grown_at outside bytes len k b e q s = (e, rw s)
-  grown_at (inside kind) bytes len k b e q s = by_capacity (ltb len B.capacity) refl
+  grown_at Outside bytes len k b e q s = (e, rw s)
+  grown_at (Inside kind) bytes len k b e q s = by_capacity (ltb len B.capacity) refl
     where
       by_capacity : (t : Bool) → ltb len B.capacity ≡ t
-          → StandsFor (pick t (bounded (set bytes len b) (len + 1) (inside kind)) (bounded bytes 0 overlong))
+          → StandsFor (pick t (bounded (set bytes len b) (len + 1) (Inside kind)) (bounded bytes 0 Overlong))
           (byte_after P plain k b)
       by_capacity true y =
           let l : len < B.capacity = ltb-true len B.capacity y in
@@ -132,7 +133,7 @@ module _ {K A : Type 0} (P : Protocol A) (B : Bounds K A) (suits : Suits P B) wh
                   (take len bytes) k b q s.1,
             ),
           )
-  grown_at overlong bytes len k b e q s =
+  grown_at Overlong bytes len k b e q s =
       (e, (s.0, s.1 ++ b ∷ [], omega (arith, length-append s.1 (b ∷ []), s.2), grows s.0 s.1 k b q s.3))
 
   -- ---- a call
@@ -178,13 +179,13 @@ module _ {K A : Type 0} (P : Protocol A) (B : Bounds K A) (suits : Suits P B) wh
         )
 
     -- One that is outside of a candidate stands for none: what the array and the length are doesn't matter.
-    pub seen_outside : (s : S) → sort s → length (seen s).bytes ≡ B.capacity → (seen s).mode ≡ outside → SeenFor s none
+    pub seen_outside : (s : S) → sort s → length (seen s).bytes ≡ B.capacity → (seen s).mode ≡ Outside → SeenFor s none
     seen_outside s h e o =
         (h, (e, subst (λ (m : BoundedMode K). StandsAt m (seen s).bytes (seen s).len none) (sym o) refl))
 
     -- Demand 3 of a machine whose states of one sort can be seen as a bounded reader and stay of that sort, from a state
     -- that is outside of a candidate.
-    pub bounded_follows : (s : S) → sort s → length (seen s).bytes ≡ B.capacity → (seen s).mode ≡ outside
+    pub bounded_follows : (s : S) → sort s → length (seen s).bytes ≡ B.capacity → (seen s).mode ≡ Outside
         → Follows P (run (λ s c. (turn_of s c).answer) (λ s c. (turn_of s c).next) s)
     bounded_follows s h e o =
         follows P (λ s c. (turn_of s c).answer) (λ s c. (turn_of s c).next) SeenFor seen_call s (seen_outside s h e o)
@@ -194,7 +195,7 @@ module _ {K A : Type 0} (P : Protocol A) (B : Bounds K A) (suits : Suits P B) wh
   module _ {S : Type 0} (called : S → Call → A → S → Type 0) (new : S → Type 0) (seen : S → BoundedReader K)
       (each : (s t : S) (c : Call) (a : A) → called s c a t
       → (a ≡ (bounded_turn P B (seen s) c).answer) × (seen t ≡ (bounded_turn P B (seen s) c).next))
-      (new_outside : (s : S) → new s → (length (seen s).bytes ≡ B.capacity) × ((seen s).mode ≡ outside)) where
+      (new_outside : (s : S) → new s → (length (seen s).bytes ≡ B.capacity) × ((seen s).mode ≡ Outside)) where
     abbrev from : BoundedReader K → List Call → List A
     from r calls = run (λ s c. (bounded_turn P B s c).answer) (λ s c. (bounded_turn P B s c).next) r calls
 
@@ -220,15 +221,15 @@ module _ {K A : Type 0} (P : Protocol A) (B : Bounds K A) where
       (cut : (bytes : List ℕ) → T P.truncated bytes) (long : (bytes : List ℕ) → T B.long bytes)
       (judges : (kind : K) (body bytes : List ℕ) → T (B.judge kind body) (B.left (B.judge kind body) bytes)) where
     at_truncation : (m : BoundedMode K) (bytes : List ℕ) → T (truncated_in P B m) bytes
-    at_truncation outside bytes = quiet bytes
-    at_truncation (inside kind) bytes = cut bytes
-    at_truncation overlong bytes = cut bytes
+    at_truncation Outside bytes = quiet bytes
+    at_truncation (Inside kind) bytes = cut bytes
+    at_truncation Overlong bytes = cut bytes
 
     at_termination : (m : BoundedMode K) (bytes : List ℕ) (len : ℕ)
         → T (terminated_in P B m bytes len) (left_by_stop P B m bytes len)
-    at_termination outside bytes len = quiet bytes
-    at_termination (inside kind) bytes len = judges kind (take len bytes) bytes
-    at_termination overlong bytes len = long bytes
+    at_termination Outside bytes len = quiet bytes
+    at_termination (Inside kind) bytes len = judges kind (take len bytes) bytes
+    at_termination Overlong bytes len = long bytes
 
     at_byte : (r : BoundedReader K) (b : ℕ) (ρ : Role) → T (byte_turn P B ρ r b).answer (byte_turn P B ρ r b).next.bytes
     at_byte r b starts = at_truncation r.mode r.bytes
@@ -253,11 +254,11 @@ module _ {K A : Type 0} (P : Protocol A) (B : Bounds K A) where
   bounded_len limit room r (byte b) h = of_byte (P.role b)
     where
       grown : (m : BoundedMode K) → (grown_in P B m r.bytes r.len b).len < limit
-      grown outside = h
-      grown (inside kind) =
+      grown Outside = h
+      grown (Inside kind) =
           by_bool (ltb r.len B.capacity) (λ y. simp y (omega (arith, room, ltb-true r.len B.capacity y)))
           (λ n. simp n (omega (arith, room)))
-      grown overlong = h
+      grown Overlong = h
 
       of_byte : (ρ : Role) → (byte_turn P B ρ r b).next.len < limit
       of_byte starts = omega (arith, room)

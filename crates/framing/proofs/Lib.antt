@@ -3,6 +3,8 @@ pub mod Bounded
 pub mod Table
 pub mod Chunk
 pub mod Growth
+pub mod RunLaws
+pub mod FedLaws
 pub mod Located
 pub mod Counting
 pub mod LocatedCandidates

@@ -2,13 +2,13 @@
 use Rattle.std.specs.Prelude.{◌≡◌, List, [], ◌∷◌, ◌++◌, ℕ, ◌+◌, ◌<◌, ltb, length, take, set}
 use Rattle.lists.specs.Choice.{pick}
 use Rattle.lists.specs.Machine.{Turn, turn}
+use Rattle.framing.specs.declared.Mode.{Mode}
+use Rattle.framing.specs.declared.Mode.TheVariants.{Outside, Inside, Overlong}
 use Rattle.framing.specs.Reference.{Call, byte, finish, Role, starts, stops, plain, FlagFree, Protocol}
 
 -- Outside of any candidate; in one of a kind; in one with more bytes than there is room for, which are not held.
-pub data BoundedMode (K : Type 0) : Type 0 where
-  outside : BoundedMode K
-  inside : (kind : K) → BoundedMode K
-  overlong : BoundedMode K
+abbrev pub BoundedMode : (K : Type 0) → Type 0
+BoundedMode K = Mode K
 
 -- An array, how many of its first bytes are held, and the mode.
 pub record BoundedReader (K : Type 0) : Type 0 where
@@ -44,37 +44,37 @@ module _ {K A : Type 0} (P : Protocol A) (B : Bounds K A) where
 
   -- Whatever is open is truncated.
   abbrev pub truncated_in : BoundedMode K → A
-  truncated_in outside = P.nothing
-  truncated_in (inside kind) = P.truncated
-  truncated_in overlong = P.truncated
+  truncated_in Outside = P.nothing
+  truncated_in (Inside kind) = P.truncated
+  truncated_in Overlong = P.truncated
 
   -- The stop flag terminates what is open.
   abbrev pub terminated_in : BoundedMode K → (bytes : List ℕ) → (len : ℕ) → A
-  terminated_in outside bytes len = P.nothing
-  terminated_in (inside kind) bytes len = B.judge kind (take len bytes)
-  terminated_in overlong bytes len = B.long
+  terminated_in Outside bytes len = P.nothing
+  terminated_in (Inside kind) bytes len = B.judge kind (take len bytes)
+  terminated_in Overlong bytes len = B.long
 
   -- The array afterwards.
   abbrev pub left_by_stop : BoundedMode K → (bytes : List ℕ) → (len : ℕ) → List ℕ
-  left_by_stop outside bytes len = bytes
-  left_by_stop (inside kind) bytes len = B.left (B.judge kind (take len bytes)) bytes
-  left_by_stop overlong bytes len = bytes
+  left_by_stop Outside bytes len = bytes
+  left_by_stop (Inside kind) bytes len = B.left (B.judge kind (take len bytes)) bytes
+  left_by_stop Overlong bytes len = bytes
 
   -- Any other byte: an open candidate has one byte more, or is over-long where there is no room for it.
   abbrev pub grown_in : BoundedMode K → (bytes : List ℕ) → (len b : ℕ) → BoundedReader K
-  grown_in outside bytes len b = bounded bytes len outside
-  grown_in (inside kind) bytes len b =
-      pick (ltb len B.capacity) (bounded (set bytes len b) (len + 1) (inside kind)) (bounded bytes 0 overlong)
-  grown_in overlong bytes len b = bounded bytes len overlong
+  grown_in Outside bytes len b = bounded bytes len Outside
+  grown_in (Inside kind) bytes len b =
+      pick (ltb len B.capacity) (bounded (set bytes len b) (len + 1) (Inside kind)) (bounded bytes 0 Overlong)
+  grown_in Overlong bytes len b = bounded bytes len Overlong
 
   -- A byte of a role.
   abbrev pub byte_turn : Role → BoundedReader K → ℕ → Turn (BoundedReader K) A
-  byte_turn starts r b = turn (truncated_in r.mode) (bounded r.bytes 0 (inside (B.kind b)))
+  byte_turn starts r b = turn (truncated_in r.mode) (bounded r.bytes 0 (Inside (B.kind b)))
   byte_turn stops r b =
-      turn (terminated_in r.mode r.bytes r.len) (bounded (left_by_stop r.mode r.bytes r.len) 0 outside)
+      turn (terminated_in r.mode r.bytes r.len) (bounded (left_by_stop r.mode r.bytes r.len) 0 Outside)
   byte_turn plain r b = turn P.nothing (grown_in r.mode r.bytes r.len b)
 
   -- A call.
   abbrev pub bounded_turn : BoundedReader K → Call → Turn (BoundedReader K) A
   bounded_turn r (byte b) = byte_turn (P.role b) r b
-  bounded_turn r finish = turn (truncated_in r.mode) (bounded r.bytes 0 outside)
+  bounded_turn r finish = turn (truncated_in r.mode) (bounded r.bytes 0 Outside)

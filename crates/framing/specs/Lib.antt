@@ -2,8 +2,10 @@ pub mod Reference
 pub mod Demand3
 pub mod Table
 pub mod Bounded
+pub mod Held
 pub mod Chunk
 pub mod Located
 pub mod LocatedDemand3
 pub mod LocatedTable
 pub mod Counting
+pub mod Fed

@@ -12,7 +12,8 @@ use Rattle.lists.proofs.Machines.{ran-run, ran_every}
 use Rattle.numbers.specs.Number.{bytes_of_all}
 use Rattle.answer.specs.Answer.{result, refused, Answer}
 use Rattle.answer.specs.Draft.{written_means}
-use Rattle.answer.specs.declared.Written.{Written}
+use Rattle.answer.specs.declared.Refusal.{Refusal}
+use Rattle.std.specs.Prelude.{Result}
 use Rattle.lease.specs.Lease.{LeaseCall, hold, release, stop, table_answer, table_after, lent_answer, lent_after}
 use Rattle.lease.specs.Answers.{lease_means, written_length, out_after, stop_told}
 use Rattle.lease.specs.History.{new_table, new_bytes, answers_on, table_on, Tokens, TokenFits}
@@ -20,7 +21,6 @@ use Rattle.lease.specs.History.{Exchange, calls_of, answers_of}
 use Rattle.lease.specs.Leases.{Leases, LentLeases}
 use Rattle.lease.specs.declared.LeaseTable.{LeaseTable}
 use Rattle.lease.specs.declared.Leased.{Leased}
-use Rattle.lease.specs.declared.LeaseAnswer.{LeaseAnswer}
 use Rattle.lease.proofs.TableHistory.{follows_answers}
 use Rattle.lease.proofs.Sentences.{sentences}
 use Rattle.lease.proofs.Lent.{stop_table, stop_lent, lent_runs, lent_sentences}
@@ -49,7 +49,7 @@ pub data Called : LeaseTable → LeaseCall → Answer (List ℕ) → LeaseTable 
       → Called t (hold a u) (lease_means r.answer) r.table
   released : {t : LeaseTable} {a u : ℕ} (r : Leased) → release-reads.Learnt tt (t, (a, (u, tt))) r (t, (a, (u, tt)))
       → Called t (release a u) (lease_means r.answer) r.table
-  stopped : {t : LeaseTable} {a u : ℕ} (r : Written) (κs : Lfts 1) (out out' : MutBor (List ℕ))
+  stopped : {t : LeaseTable} {a u : ℕ} (r : Result ℕ Refusal) (κs : Lfts 1) (out out' : MutBor (List ℕ))
       → stop-reads.Learnt κs (t, (a, (u, (out, tt)))) r (t, (a, (u, (out', tt))))
       → Called t (stop a u (length out.now)) (stop_told (written_means r) out'.now) t
 
@@ -103,13 +103,13 @@ table_leases =
 
 -- A call on lent bytes, with its answer and the bytes afterwards: what its contract tells the caller.
 pub data CalledLent : List ℕ → LeaseCall → Answer (List ℕ) → List ℕ → Type 0 where
-  lent_held : {a u : ℕ} (r : LeaseAnswer) (κs : Lfts 1) (s s' : MutBor (List ℕ))
+  lent_held : {a u : ℕ} (r : Result (Unit {0}) Refusal) (κs : Lfts 1) (s s' : MutBor (List ℕ))
       → hold-lent-reads.Learnt κs (s, (a, (u, tt))) r (s', (a, (u, tt)))
       → CalledLent s.now (hold a u) (lease_means r) s'.now
-  lent_released : {a u : ℕ} (r : LeaseAnswer) (κs : Lfts 1) (s s' : MutBor (List ℕ))
+  lent_released : {a u : ℕ} (r : Result (Unit {0}) Refusal) (κs : Lfts 1) (s s' : MutBor (List ℕ))
       → release-lent-reads.Learnt κs (s, (a, (u, tt))) r (s', (a, (u, tt)))
       → CalledLent s.now (release a u) (lease_means r) s'.now
-  lent_stopped : {a u : ℕ} (r : Written) (κs : Lfts 2) (s : Bor (List ℕ)) (out out' : MutBor (List ℕ))
+  lent_stopped : {a u : ℕ} (r : Result ℕ Refusal) (κs : Lfts 2) (s : Bor (List ℕ)) (out out' : MutBor (List ℕ))
       → stop-lent-reads.Learnt κs (s, (a, (u, (out, tt)))) r (s, (a, (u, (out', tt))))
       → CalledLent s.now (stop a u (length out.now)) (stop_told (written_means r) out'.now) s.now
 

@@ -1,16 +1,19 @@
 -- Laws of one call, which the functions' proofs cite.
-use Prim.Native.Nat.{ℕ, ◌*◌, ◌≤◌, ◌<◌}
+use Prim.Native.Nat.{ℕ, zero, suc, ◌+◌, ◌*◌, ◌/◌, ◌%◌, ◌≤◌, ◌<◌}
 use mathlib.Core.Path.{◌≡◌, refl, sym, ap, ◌∙◌, subst}
 use mathlib.Core.Bool.{true, false}
 use mathlib.Core.List.{List, [], ◌∷◌}
 use native.Mathlib.Omega.{arith}
 use native.Mathlib.Nat.{zero-add}
+use native.Mathlib.Numerals.{add-one}
+use Rattle.lists.specs.Splice.{splice}
+use Rattle.lists.proofs.Splices.{splice_nil, set-splice, splice-splice}
 use lib.Dec.{leb, eqb}
-use lib.ListN.{length, get_or}
+use lib.ListN.{length, get_or, set, length-set}
 use borrow.Author.Tests.{eq-eqb, ne_eqb}
 use Rattle.answer.specs.Draft.{draft_answer, draft_out, Writes}
 use Rattle.answer.specs.Answer.{refused, result, Answer}
-use Rattle.numbers.specs.Number.{number, bytes_of}
+use Rattle.numbers.specs.Number.{number, put, bytes_of}
 use Rattle.lists.specs.Choice.{pick}
 use Rattle.lists.proofs.Cases.{by_bool}
 use Rattle.lists.proofs.Tests.{within_true}
@@ -22,10 +25,13 @@ use Rattle.frame.specs.Frame.{wire_of, payload, addresses_of, contents_of, exten
 use Rattle.writer.specs.Answers.{frame_draft}
 use Rattle.writer.proofs.WireLaws.{draft_fits}
 use Rattle.lease.specs.Lease.{LeaseCall, hold, release, stop, address_of, token_of, owns, stop_frame, answer_of}
-use Rattle.lease.specs.Lease.{table_answer, table_left, table_of, lent_answer, lent_left, lent_after}
+use Rattle.lease.specs.Lease.{table_answer, table_of, lent_answer, lent_left, lent_after}
 use Rattle.lease.specs.Answers.{written_length, out_after}
-use Rattle.lease.specs.Promises.{TableCall, Real, LentCall}
-use Rattle.lease.specs.Private.{token_in, Settles, settled, settled_lent}
+use Rattle.lease.specs.Promises.{Real, LentCall}
+use Rattle.answer.specs.Refusals.{number_of}
+use Rattle.answer.specs.declared.Refusal.{Refusal}
+use Rattle.std.specs.Prelude.{Ok, Err}
+use Rattle.lease.specs.Private.{token_in, TokenIn, Settles}
 
 -- ---- the range
 
@@ -49,25 +55,19 @@ pub settles : (h : ℕ) (c : LeaseCall) (x : Answer (List ℕ)) → x ≡ answer
 settles h c (result w) e = range_means (address_of c) (accepted_range h c w (sym e))
 settles h c (refused n) e = tt
 
--- ---- a call on a table
+-- ---- a token's bytes
 
--- What an accepted or refused hold or release stores is what it leaves.
-pub hold_stored : (a t : ℕ) (ts : List ℕ) (x : Answer (List ℕ)) → settled x a t ts ≡ table_left x (hold a t) ts
-hold_stored a t ts (result w) = refl
-hold_stored a t ts (refused n) = refl
-
-pub release_stored : (a t : ℕ) (ts : List ℕ) (x : Answer (List ℕ)) → settled x a 0 ts ≡ table_left x (release a t) ts
-release_stored a t ts (result w) = refl
-release_stored a t ts (refused n) = refl
-
--- What was judged and stored is the table after the call.
-pub table_call : (ts : List ℕ) (c : LeaseCall) (v : ℕ)
-    → ((x : Answer (List ℕ)) → settled x (address_of c) v ts ≡ table_left x c ts)
-    → (h : ℕ) (x a : Answer (List ℕ)) (after : List ℕ) → h ≡ get_or ts (address_of c) 0 → x ≡ answer_of h c
-    → (a ≡ x) × (after ≡ settled x (address_of c) v ts) → TableCall ts c a after
-table_call ts c v stored h x a after held e s =
-    let y = e ∙ ap (λ (g : ℕ). answer_of g c) held in
-    record { answered = s.0 ∙ y; left = s.1 ∙ stored x ∙ ap (λ (r : Answer (List ℕ)). table_left r c ts) y }
+-- A number written byte by byte is its bytes written at once.
+pub put_spliced : (w at n : ℕ) (s : List ℕ) → at + w ≤ length s → put w at n s ≡ splice s at (bytes_of w n)
+unfolding put bytes_of
+put_spliced zero at n s h = sym (splice_nil s at)
+put_spliced (suc w) at n s h =
+    let b = n % 256 in
+    let rest = bytes_of w (n / 256) in
+    put_spliced w (suc at) (n / 256) (set s at b) (omega (arith, length-set s at b))
+    ∙ ap (λ (l : List ℕ). splice l (suc at) rest) (set-splice s at b (omega arith))
+    ∙ ap (λ (k : ℕ). splice (splice s at (b ∷ [])) k rest) (sym (add-one at))
+    ∙ splice-splice s at (b ∷ []) (omega arith) rest
 
 -- ---- a call on lent bytes
 
@@ -103,28 +103,28 @@ pub lent_judged : (s : List ℕ) (c : LeaseCall) (h : ℕ) → length s ≡ 2048
 lent_judged s c h size held =
     ap (λ (g : ℕ). answer_of g c) held ∙ token_matters (get_or (table_of s) (address_of c) 0) c ∙ sym (lent_answer_lem s c size)
 
-pub hold_stored_lent : (a t : ℕ) (s : List ℕ) (x : Answer (List ℕ)) → settled_lent x a t s ≡ lent_left x (hold a t) s
-hold_stored_lent a t s (result w) = refl
-hold_stored_lent a t s (refused n) = refl
+-- What every call on lent bytes comes to: refused for the bytes' length, refused by the judge, or accepted.
+module _ (s : List ℕ) (c : LeaseCall) (real : Real s (token_of c)) where
+  pub lent_other_length : (why : Refusal) → TokenIn s (address_of c) (Err why) → LentCall s c (refused (number_of why)) s
+  lent_other_length why (k, n) =
+      let q = lent_size s c n in
+      record { answered = ap (λ (r : Refusal). refused (number_of r)) k ∙ q.0; left = q.1; real = real }
 
-pub release_stored_lent : (a t : ℕ) (s : List ℕ) (x : Answer (List ℕ))
-    → settled_lent x a 0 s ≡ lent_left x (release a t) s
-release_stored_lent a t s (result w) = refl
-release_stored_lent a t s (refused n) = refl
+  module _ (h : ℕ) (held : TokenIn s (address_of c) (Ok h)) where
+    pub lent_refused : (n : ℕ) → refused n ≡ answer_of h c → LentCall s c (refused n) s
+    lent_refused n e =
+        let y : refused n ≡ lent_answer s c = e ∙ lent_judged s c h held.0 held.1 in
+        record { answered = y; left = ap (λ (r : Answer (List ℕ)). lent_left r c s) y; real = real }
 
--- What was judged and stored in 2,048 bytes are the bytes after the call.
-pub lent_call : (s : List ℕ) (c : LeaseCall) (v : ℕ)
-    → ((x : Answer (List ℕ)) → settled_lent x (address_of c) v s ≡ lent_left x c s)
-    → length s ≡ 2048 → Real s (token_of c) → (h : ℕ) (x a : Answer (List ℕ)) (after : List ℕ)
-    → h ≡ token_in s (address_of c) → x ≡ answer_of h c
-    → (a ≡ x) × (after ≡ settled_lent x (address_of c) v s) → LentCall s c a after
-lent_call s c v stored size real h x a after held e k =
-    let y = e ∙ lent_judged s c h size held in
-    record {
-      answered = k.0 ∙ y;
-      left = k.1 ∙ stored x ∙ ap (λ (r : Answer (List ℕ)). lent_left r c s) y;
-      real = real;
-    }
+    pub lent_accepted : (w after : List ℕ) → result w ≡ answer_of h c → after ≡ lent_left (result w) c s
+        → LentCall s c (result w) after
+    lent_accepted w after e l =
+        let y : result w ≡ lent_answer s c = e ∙ lent_judged s c h held.0 held.1 in
+        record { answered = y; left = l ∙ ap (λ (r : Answer (List ℕ)). lent_left r c s) y; real = real }
+
+    -- an accepted call's eight bytes are there
+    pub lent_room : (w : List ℕ) → result w ≡ answer_of h c → 8 * address_of c + 8 ≤ length s
+    lent_room w e = omega (arith, held.0, range_means (address_of c) (accepted_range h c w (sym e)))
 
 -- ---- a stop
 
@@ -142,14 +142,26 @@ abbrev pub Stops : Answer (List ℕ) → List ℕ → Answer ℕ → List ℕ �
 Stops x out a last = (a ≡ written_length x) × (last ≡ out_after x out)
 
 module _ (h a t : ℕ) (out : List ℕ) where
-  pub stop_outside : in_range a ≡ false → Stops (answer_of h (stop a t (length out))) out (refused 9) out
+  -- who may release may stop, and who may not is refused alike
+  pub holder_found : (w : List ℕ) → result w ≡ answer_of h (release a t) → (in_range a ≡ true) × (owns t h ≡ true)
   unfolding answer_of
-  stop_outside n = (simp n, simp n)
+  holder_found w e =
+      by_bool (in_range a)
+      (λ y. by_bool (owns t h) (λ o. (y, o))
+      (λ n. let q : result w ≡ refused 11 = e ∙ simp (y, n) in let z : ◌≡◌ {A = ℕ} 0 1 = cc in absurd (omega arith)))
+      (λ n. let q : result w ≡ refused 9 = e ∙ simp n in let z : ◌≡◌ {A = ℕ} 0 1 = cc in absurd (omega arith))
 
-  pub stop_not_holder : in_range a ≡ true → owns t h ≡ false
-      → Stops (answer_of h (stop a t (length out))) out (refused 11) out
+  pub stop_refused : (n : ℕ) → refused n ≡ answer_of h (release a t)
+      → Stops (answer_of h (stop a t (length out))) out (refused n) out
   unfolding answer_of
-  stop_not_holder y n = (simp (y, n), simp (y, n))
+  stop_refused n e =
+      let same : refused n ≡ answer_of h (stop a t (length out)) =
+      by_bool (in_range a)
+      (λ y. by_bool (owns t h)
+      (λ o. let q : refused n ≡ result [] = e ∙ simp (y, o) in let z : ◌≡◌ {A = ℕ} 0 1 = cc in absurd (omega arith))
+      (λ o. e ∙ simp (y, o)))
+      (λ y. e ∙ simp y) in
+      (ap written_length same, ap (λ (r : Answer (List ℕ)). out_after r out) same)
 
   stop_wrote : in_range a ≡ true → owns t h ≡ true → (x : Answer ℕ) (last : List ℕ)
       → Writes (frame_draft (extended a 0x00 (0x76 ∷ 0x04 ∷ 0x13 ∷ 0x02 ∷ 0x01 ∷ 0x02 ∷ []))) out x last
@@ -169,17 +181,6 @@ module _ (h a t : ℕ) (out : List ℕ) where
   stop_writes range owner x last w =
       stop_wrote range owner x last
       (subst (λ (c : List ℕ). Writes (frame_draft (extended a 0x00 c)) out x last) terminate_bytes w)
-
-  -- A stop by the holder that is refused has no room.
-  pub stop_no_room : in_range a ≡ true → owns t h ≡ true → (n : ℕ) (last : List ℕ)
-      → Stops (answer_of h (stop a t (length out))) out (refused n) last
-      → Stops (answer_of h (stop a t (length out))) out (refused 1) last
-  unfolding answer_of
-  stop_no_room range owner n last s =
-      by_bool (leb (length (stop_frame a)) (length out))
-      (λ y. let q : refused n ≡ result (length (stop_frame a)) = simp (range, owner, y) at s.0 in
-      let z : ◌≡◌ {A = ℕ} 0 1 = cc in absurd (omega arith))
-      (λ y. (simp (range, owner, y), s.1))
 
 -- A stop's answer may be replaced by an equal one.
 pub stop_by : (x y : Answer (List ℕ)) (out : List ℕ) (a : Answer ℕ) (last : List ℕ) → x ≡ y → Stops x out a last

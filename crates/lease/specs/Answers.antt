@@ -1,14 +1,13 @@
 -- What each case of an answer means, in document 01's numbers, and the output afterwards.
-use Rattle.std.specs.Prelude.{ℕ, List, [], ◌++◌, length, take, drop}
+use Rattle.std.specs.Prelude.{ℕ, List, [], ◌++◌, length, take, drop, Result, Ok, Err}
 use Rattle.answer.specs.Answer.{Answer, result, refused, through}
 use Rattle.answer.specs.Refusals.{number_of}
-use Rattle.lease.specs.declared.LeaseAnswer.{LeaseAnswer}
-use Rattle.lease.specs.declared.LeaseAnswer.TheVariants.{Done, Refused}
+use Rattle.answer.specs.declared.Refusal.{Refusal}
 
 -- Hold and release write nothing.
-abbrev pub lease_means : LeaseAnswer → Answer (List ℕ)
-lease_means Done = result []
-lease_means (Refused why) = refused (number_of why)
+abbrev pub lease_means : Result (Unit {0}) Refusal → Answer (List ℕ)
+lease_means (Ok u) = result []
+lease_means (Err why) = refused (number_of why)
 
 -- A stop tells the length of what it wrote.
 abbrev pub written_length : Answer (List ℕ) → Answer ℕ

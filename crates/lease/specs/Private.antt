@@ -1,9 +1,10 @@
 -- Contracts of private functions, which no caller reads: the token in lent bytes, and the store of hold and release.
-use Rattle.std.specs.Prelude.{ℕ, ◌*◌, ◌≤◌, List, get_or, set}
+use Rattle.std.specs.Prelude.{ℕ, ◌≤◌, ◌≡◌, List, length, get_or, set, Result, Ok, Err}
 use Rattle.lists.specs.Choice.{pick}
 use Rattle.answer.specs.Answer.{Answer, result, refused}
 use Rattle.frame.specs.Address.{in_range}
-use Rattle.numbers.specs.Number.{put}
+use Rattle.answer.specs.declared.Refusal.{Refusal}
+use Rattle.answer.specs.declared.Refusal.TheVariants.{BadTable}
 use Rattle.lease.specs.Lease.{table_of}
 
 -- The token of a machine or a console, 0 for any other address, whose call is refused whatever its bytes are.
@@ -19,6 +20,7 @@ abbrev pub settled : Answer (List ℕ) → (address token : ℕ) → List ℕ �
 settled (result w) address token tokens = set tokens address token
 settled (refused n) address token tokens = tokens
 
-abbrev pub settled_lent : Answer (List ℕ) → (address token : ℕ) → List ℕ → List ℕ
-settled_lent (result w) address token table = put 8 (8 * address) token table
-settled_lent (refused n) address token table = table
+-- Bytes of another length are refused with 18. Else the token is told.
+abbrev pub TokenIn : (table : List ℕ) (address : ℕ) → Result ℕ Refusal → Type 0
+TokenIn table address (Ok held) = (length table ≡ 2048) × (held ≡ token_in table address)
+TokenIn table address (Err why) = (why ≡ BadTable) × (length table ≡ 2048 → ⊥)

@@ -1,45 +1,34 @@
-// The token of an address: in an array, and in lent bytes.
-ghost use Rattle.std.specs.Prelude.{◌≡◌, ◌+◌, ◌≤◌, get_or, length};
+// The token of an address in the bytes of a table: eight for each of 256 addresses, lowest first.
+ghost use Rattle.std.specs.Prelude.{◌≡◌, ◌+◌, ◌*◌, ◌≤◌, length};
 ghost use Rattle.numbers.specs.Number.{put};
-ghost use Rattle.lease.specs.Private.{token_in};
+ghost use Rattle.lease.specs.Private.{TokenIn};
 
+use answer::Refusal;
 use frame::address;
 
-// The bytes of a token.
+// The bytes of a token, and of a table.
 const WIDTH: usize = 8;
 
-// The token of an address, 0 where there is none.
-pub(crate) fn token_at(tokens: &[u64], address: u32) -> u64
-    ensures { result ≡ get_or tokens.now address 0 }
-{
-    let at = address as usize;
-    if tokens.len() <= at {
-        return 0;
-    }
-    tokens[at]
-}
+const TABLE_BYTES: usize = 2048;
 
-// The token of a machine's address in the bytes of a table, 0 for any other address.
-pub(crate) fn token_in(bytes: &[u8], address: u32) -> u64
-    ensures { result ≡ token_in bytes.now address }
+// The token of a machine's address, 0 for any other address, whose call is refused whatever its bytes are. Refusal 18.
+pub(crate) fn token_in(bytes: &[u8], address: u32) -> Result<u64, Refusal>
+    ensures { TokenIn bytes.now address result }
 {
-    if !address::in_range(address) {
-        return 0;
+    if bytes.len() != TABLE_BYTES {
+        return Err(Refusal::BadTable);
     }
-    let at = address as usize;
-    numbers::eight_at(bytes, WIDTH * at)
+    if !address::in_range(address) {
+        return Ok(0);
+    }
+    Ok(numbers::eight_at(bytes, WIDTH * address as usize))
 }
 
 // Writes a token into the bytes of an address.
-pub(crate) fn put_token(bytes: &mut [u8], at: usize, token: u64)
-    requires { at + 8 ≤ length bytes.old }
-    ensures { bytes.new ≡ put 8 at token bytes.old }
+pub(crate) fn put_token(bytes: &mut [u8], address: u32, token: u64)
+    requires { 8 * address + 8 ≤ length bytes.old }
+    ensures { bytes.new ≡ put 8 (8 * address) token bytes.old }
 {
-    let mut n = token;
-    let mut i: usize = 0;
-    while i < WIDTH {
-        bytes[at + i] = (n % 256) as u8;
-        n = n / 256;
-        i += 1;
-    }
+    let at = WIDTH * address as usize;
+    bytes[at..at + WIDTH].copy_from_slice(&token.to_le_bytes());
 }

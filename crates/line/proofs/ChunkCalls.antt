@@ -25,10 +25,9 @@ use Rattle.framing.proofs.Located.{located_demand3_of}
 use Rattle.framing.specs.Chunk.{cut_chunk}
 use Rattle.frame.specs.Flags.{role_of}
 use Rattle.frame.specs.declared.Origin.{Origin}
-use Rattle.candidate.specs.Outcome.{Outcome, told_means, summary_of}
+use Rattle.candidate.specs.Outcome.{Told, Outcome, told_means, summary_of}
 use Rattle.candidate.specs.Holder.{holder}
 use Rattle.candidate.specs.Feed.{feed_held, unanswered}
-use Rattle.candidate.specs.declared.Told.{Told}
 use Rattle.candidate.proofs.ValueLaws.{fed_whole}
 use Rattle.line.specs.Rowing.{most_bytes, located_rowing}
 use Rattle.line.specs.Answers.{located_outcome, ValueAnswer, value_outcome}

@@ -4,15 +4,16 @@ use mathlib.Core.Path.{◌≡◌, refl, sym, ap, ap₂, ◌∙◌, subst}
 use mathlib.Core.Bool.{Bool, true, false}
 use mathlib.Core.List.{List, [], ◌∷◌}
 use native.Mathlib.Omega.{arith}
-use Prim.Native.Nat.{ℕ, suc, ◌+◌, ◌-◌, ◌≤◌, ◌<◌}
-use lib.Dec.{leb, ltb}
+use Prim.Native.Nat.{ℕ, suc, ◌+◌, ◌-◌, ◌≤◌, ◌<◌, min}
+use Rattle.std.proofs.lemmas.List.{take_min, length-take}
+use lib.Dec.{ltb}
 use lib.ListN.{length, take}
-use lib.Seq.{take-nil, take-take, length-take-le}
+use lib.Seq.{take-nil, take-take}
 use borrow.Author.Tests.{lt-ltb, le-ltb, ltb-true, ltb-false, ne_eqb}
 use Rattle.lists.specs.Choice.{pick}
 use Rattle.lists.specs.Machine.{turn}
 use Rattle.lists.proofs.Cases.{by_bool}
-use Rattle.lists.proofs.Lists.{take_bounds, take_lesser}
+use Rattle.lists.proofs.Lists.{take_bounds}
 use Rattle.framing.proofs.Counting.{start_within}
 use Rattle.framing.specs.Reference.{Role, starts, stops, plain}
 use Rattle.framing.specs.Located.{located, answer_in}
@@ -203,19 +204,15 @@ last_within k most s h =
     start_within role_of most 0 1 (take k s) (omega arith) (omega (arith, (take_bounds k s).0))
 
 -- the part of a chunk, as the code cuts it: to 65,536 bytes, and to those that can be counted
-pub part_cut : (s : List ℕ) (room most n : ℕ) → most ≡ pick (leb chunk_limit (length s)) chunk_limit (length s)
-    → n ≡ pick (leb room most) room most → (take n s ≡ take room (cut_chunk s)) × (n ≤ length s)
+part_cut : (s : List ℕ) (room most n : ℕ) → most ≡ min (length s) chunk_limit → n ≡ min most room
+    → take n s ≡ take room (cut_chunk s)
 part_cut s room most n e k =
-    let c = take_lesser s chunk_limit most e in
-    let l : most ≡ length (cut_chunk s) = sym (length-take-le most s c.1) ∙ ap length c.0 in
-    let d = take_lesser (cut_chunk s) room n (k ∙ ap (λ (m : ℕ). pick (leb room m) room m) l) in (
-      sym (take-take n chunk_limit s (omega (arith, d.1, (take_bounds chunk_limit s).0))) ∙ d.0,
-      omega (arith, d.1, (take_bounds chunk_limit s).1),
-    )
+    let l : n ≡ min room (length (cut_chunk s)) = omega (arith, length-take chunk_limit s) in
+    sym (take-take n chunk_limit s (omega arith)) ∙ ap (λ (m : ℕ). take m (cut_chunk s)) l ∙ take_min room (cut_chunk s)
 
 -- the part of a chunk that is taken, by how many bytes can be counted
-module _ (bytes left : List ℕ) (state : State) (s : List ℕ) (n : ℕ) (room : state.count < most_bytes)
-    (part : take n s ≡ take (most_bytes - state.count) (cut_chunk s)) (fed : HeldChunk)
+module _ (bytes left : List ℕ) (state : State) (s : List ℕ) (most n : ℕ) (cut : most ≡ min (length s) chunk_limit)
+    (fits : n ≡ min most (most_bytes - state.count)) (room : most_bytes - state.count ≡ 0 → ⊥) (fed : HeldChunk)
     (taken : HeldChunkIs left fed (feed_held (holder bytes state.held) (take n s)))
     (opens : Opens (take n s) fed (feed_held (holder bytes state.held) (take n s))) where
   abbrev given : FedHeld
@@ -223,6 +220,9 @@ module _ (bytes left : List ℕ) (state : State) (s : List ℕ) (n : ℕ) (room 
 
   abbrev counted : FedHeld
   counted = feed_held (holder bytes state.held) (take (most_bytes - state.count) (cut_chunk s))
+
+  part : take n s ≡ take (most_bytes - state.count) (cut_chunk s)
+  part = part_cut s (most_bytes - state.count) most n cut fits
 
   same : given ≡ counted
   same = ap (feed_held (holder bytes state.held)) part
@@ -264,7 +264,7 @@ module _ (bytes left : List ℕ) (state : State) (s : List ℕ) (n : ℕ) (room 
   whole = from_held (lent_reader bytes state) (cut_chunk s) counted
 
   chunk_is : chunk_of (lent_reader bytes state) s ≡ whole
-  chunk_is = chunk_taken (lent_reader bytes state) s room ∙ feed_held_lem (lent_reader bytes state) (cut_chunk s)
+  chunk_is = chunk_taken (lent_reader bytes state) s (omega (arith, room)) ∙ feed_held_lem (lent_reader bytes state) (cut_chunk s)
 
   pub chunk_advances : (r : ChunkStep) → Advances state.start state.count fed r
       → ChunkStepIs left r (chunk_of (lent_reader bytes state) s)

@@ -10,19 +10,15 @@ use Rattle.lists.specs.Machine.{turn}
 use Rattle.lists.proofs.Cases.{by_bool}
 use Rattle.framing.specs.Located.{located, answer_in, position_in}
 use Rattle.framing.specs.Counting.{locate, taken_turn}
-use Rattle.answer.specs.declared.Refusal.TheVariants.{Full}
-use Rattle.frame.specs.Answers.{judge_answer}
 use Rattle.candidate.specs.Outcome.{Outcome, nothing, judged, Summary, told_means, summary_of}
 use Rattle.candidate.specs.Holder.{Holder, HolderTurn, turn_held, HeldStepIs}
 use Rattle.candidate.specs.Feed.{is_answer}
-use Rattle.candidate.specs.declared.Told.TheVariants.{Refused}
 use Rattle.candidate.specs.declared.HeldStep.{HeldStep}
 use Rattle.line.specs.Rowing.{most_bytes, full, located_rowing}
-use Rattle.line.specs.Reader.{reader, lent_reader, origin_of, counter_of, ReaderTurn, turn_from, step_of}
+use Rattle.line.specs.Reader.{reader, origin_of, counter_of, ReaderTurn, turn_from, step_of}
 use Rattle.line.specs.Reader.{LentStepIs}
 use Rattle.line.specs.Private.{told_at}
 use Rattle.line.specs.declared.LineReader.{LineReader}
-use Rattle.line.specs.declared.State.{State}
 
 -- ---- an outcome at a position
 
@@ -63,12 +59,6 @@ module _ (r : LineReader) (b : ℕ) where
       (λ n. let h = ltb-false r.state.count most_bytes n in subst P (sym (step_full h)) (refused h))
 
 -- ---- as the code makes them
-
-pub full_step : (bytes : List ℕ) (state : State)
-    → LentStepIs bytes (record { told = Refused Full; position = 0; state = state })
-    (turn (located 0 full) (lent_reader bytes state))
-unfolding judge_answer
-full_step bytes state = record { told_is = refl; position_is = refl; next_is = refl }
 
 -- what is held, with a start and a count beside it, where the code has worked out the position and the next start
 pub located_step : (left : List ℕ) (start next count : ℕ) (s : HeldStep) (t : HolderTurn) → HeldStepIs left s t

@@ -3,9 +3,8 @@ use Rattle.std.specs.Prelude.{◌≡◌, List, [], ◌∷◌, ℕ, ltb}
 use Rattle.lists.specs.Choice.{pick}
 use Rattle.framing.specs.Located.{Located, unlocated, located, answer_in, position_in}
 use Rattle.framing.specs.Chunk.{FedTurn, fed_turn, later_by, cut_chunk}
-use Rattle.candidate.specs.Outcome.{Outcome, nothing, told_means, summary_of}
+use Rattle.candidate.specs.Outcome.{Told, Outcome, nothing, told_means, summary_of}
 use Rattle.candidate.specs.Feed.{is_answer}
-use Rattle.candidate.specs.declared.Told.{Told}
 use Rattle.line.specs.Rowing.{most_bytes, full}
 use Rattle.line.specs.Reader.{lent_reader, step_of}
 use Rattle.line.specs.declared.LineReader.{LineReader}

@@ -10,8 +10,9 @@ use Rattle.candidate.specs.Outcome.{Outcome, told_means, summary_of, capacity, z
 use Rattle.candidate.specs.Holder.{Holder, holder, turn_held}
 use Rattle.candidate.specs.Feed.{is_answer}
 use Rattle.candidate.specs.declared.Held.{Held}
-use Rattle.candidate.specs.declared.Mode.{Mode}
-use Rattle.candidate.specs.declared.Mode.TheVariants.{Outside}
+use Rattle.frame.specs.declared.Kind.{Kind}
+use Rattle.framing.specs.declared.Mode.{Mode}
+use Rattle.framing.specs.declared.Mode.TheVariants.{Outside}
 use Rattle.line.specs.Rowing.{located_rowing}
 use Rattle.line.specs.Answers.{located_as, located_outcome, ValueAnswer, value_answer_of}
 use Rattle.line.specs.declared.State.{State}
@@ -24,7 +25,7 @@ use Rattle.line.specs.declared.Stepped.{Stepped}
 abbrev pub lent_reader : List ℕ → State → LineReader
 lent_reader bytes state = record { bytes = bytes; state = state }
 
-abbrev pub held_of : Origin → ℕ → Mode → Held
+abbrev pub held_of : Origin → ℕ → Mode Kind → Held
 held_of o len mode = record { len = len; mode = mode; origin = o }
 
 abbrev pub reader : List ℕ → Held → (start count : ℕ) → LineReader

@@ -3,21 +3,16 @@
 // No. 4, No. 7 and No. 9.
 #![tactic(auto)]
 
-ghost use Rattle.std.specs.Prelude.{◌≡◌, List, ℕ, ◌+◌, ◌≤◌, take};
-ghost use Rattle.lists.specs.Machine.{turn};
-ghost use Rattle.framing.specs.Located.{located};
-ghost use Rattle.framing.specs.Counting.{start_after};
-ghost use Rattle.frame.specs.Flags.{role_of};
+ghost use Rattle.std.specs.Prelude.{◌≡◌, List, ℕ, ◌+◌, ◌≤◌};
 ghost use Rattle.candidate.specs.Outcome.{told_means};
-ghost use Rattle.line.specs.Rowing.{most_bytes, full as refuses_full};
-ghost use Rattle.line.specs.Answers.{padded};
+ghost use Rattle.line.specs.Rowing.{most_bytes};
 ghost use Rattle.line.specs.Reader.{lent_reader, new_reader, step_of, finish_of, LentStepIs, StepIs, ReaderTurn};
 ghost use Rattle.line.specs.Feed.{chunk_of, ChunkStepIs, ChunkAnswerIs};
 ghost use Rattle.line.specs.Private.{Whole, beside_told, told_at, place_at, Advances};
 
 use answer::Refusal;
-use candidate::{Held, HeldChunk, Mode, Told, chunk};
-use frame::{Origin, flags};
+use candidate::{Held, HeldChunk, HeldStep, Mode, Told, chunk};
+use frame::Origin;
 
 // The most bytes of a chunk that a call takes.
 pub const CHUNK_LIMIT: usize = 65536;
@@ -34,6 +29,64 @@ pub struct State {
     pub count: u32,
 }
 
+impl State {
+    // No byte was taken yet.
+    fn uncounted(held: Held) -> State
+        ensures { result ≡ record { held = held; start = 0; count = 0 } }
+    {
+        State {
+            held,
+            start: 0,
+            count: 0,
+        }
+    }
+
+    // A chunk given to a reader that is full: its first byte is refused. A chunk of no bytes has none.
+    #[tactic(auto, using(crate::proofs::FeedLaws::chunk_full), unfolding(frame::specs::Answers::judge_answer))]
+    fn refuse(self, chunk: &[u8]) -> ChunkStep
+        requires { self.count ≡ most_bytes }
+        ensures { (bytes : List ℕ)
+            → ChunkStepIs bytes result (chunk_of (lent_reader bytes self) chunk.now) }
+    {
+        if chunk.is_empty() {
+            return ChunkStep::untaken(None, self);
+        }
+        ChunkStep::untaken(Some(Err(Refusal::Full)), self)
+    }
+
+    // What bytes that were taken make of the position and the count.
+    fn advanced(self, fed: HeldChunk) -> ChunkStep
+        requires taken_bound { self.count + fed.taken ≤ most_bytes }
+        requires began_le_taken { fed.began ≤ fed.taken }
+        requires opened_le_taken { fed.opened ≤ fed.taken }
+        ensures { Advances self.start self.count fed result }
+    {
+        let told = fed.told;
+        let position = self.place_at(fed.began);
+        ChunkStep {
+            told,
+            position: told_at(told, position),
+            state: State {
+                held: fed.held,
+                start: self.place_at(fed.opened),
+                count: self.count + fed.taken as u32,
+            },
+            taken: fed.taken,
+        }
+    }
+
+    // The position of the last start flag of a chunk, by its place in the chunk, or the one from before.
+    fn place_at(self, place: usize) -> u32
+        requires { self.count + place ≤ most_bytes }
+        ensures { result ≡ place_at self.start self.count place }
+    {
+        if place == 0 {
+            return self.start;
+        }
+        self.count + (place - 1) as u32
+    }
+}
+
 // Every value of the struct is a reader.
 #[derive(Clone, Copy)]
 pub struct LineReader {
@@ -43,6 +96,7 @@ pub struct LineReader {
 
 // The answer to a call, and its position: that of the candidate's start flag, 0 where nothing is told and for 16. The
 // array holds a frame's contents, and zeros after them; where no frame is told, zeros alone.
+// Stays a position beside what is told, here and below: `StepIs`, `LentStepIs` and `ChunkIs` say it as a number in each case.
 #[derive(Clone, Copy)]
 pub struct StepAnswer {
     pub told: Told,
@@ -66,6 +120,27 @@ pub struct LentStep {
     pub state: State,
 }
 
+impl LentStep {
+    // The answer by value, from this one over a lent array and the array.
+    fn by_value(self, bytes: [u8; 118]) -> Stepped
+        ensures { (t : ReaderTurn) → LentStepIs bytes self t → Whole t → StepIs result t }
+    {
+        let LentStep {
+            told,
+            position,
+            state,
+        } = self;
+        Stepped {
+            answer: StepAnswer {
+                told,
+                position,
+                contents: beside(told, bytes),
+            },
+            next: LineReader { bytes, state },
+        }
+    }
+}
+
 // The answer to a chunk over a lent array, its position, the state afterwards, and how many bytes of the chunk were taken.
 #[derive(Clone, Copy)]
 pub struct ChunkStep {
@@ -73,6 +148,20 @@ pub struct ChunkStep {
     pub position: u32,
     pub state: State,
     pub taken: usize,
+}
+
+impl ChunkStep {
+    // No byte of a chunk is taken.
+    fn untaken(told: Told, state: State) -> ChunkStep
+        ensures { result ≡ record { told = told; position = 0; state = state; taken = 0 } }
+    {
+        ChunkStep {
+            told,
+            position: 0,
+            state,
+            taken: 0,
+        }
+    }
 }
 
 // The answer to a chunk, its position, and how many of its bytes were taken. A frame's contents are the first bytes of
@@ -97,7 +186,7 @@ impl LineReader {
     {
         LineReader {
             bytes: [0u8; 118],
-            state: uncounted(Held {
+            state: State::uncounted(Held {
                 len: 0,
                 mode: Mode::Outside,
                 origin,
@@ -110,9 +199,8 @@ impl LineReader {
         ensures { StepIs result (step_of self b) }
     {
         let mut bytes = self.bytes;
-        let state = self.state;
-        let step = step_in(&mut bytes, state, b);
-        by_value(step, bytes)
+        let step = step_in(&mut bytes, self.state, b);
+        step.by_value(bytes)
     }
 
     // Feeds a chunk up to the first byte that is answered; with no answer it takes all of it, or as much as it can still
@@ -121,12 +209,12 @@ impl LineReader {
         ensures { ChunkAnswerIs result.next result.answer (chunk_of self chunk.now) }
     {
         let mut bytes = self.bytes;
-        let before = self.state;
-        let step = feed_in(&mut bytes, before, chunk);
-        let told = step.told;
-        let position = step.position;
-        let taken = step.taken;
-        let state = step.state;
+        let ChunkStep {
+            told,
+            position,
+            state,
+            taken,
+        } = feed_in(&mut bytes, self.state, chunk);
         ChunkFed {
             answer: ChunkAnswer {
                 told,
@@ -141,33 +229,33 @@ impl LineReader {
     pub fn finish(self) -> Stepped
         ensures { StepIs result (finish_of self) }
     {
-        let bytes = self.bytes;
-        let state = self.state;
-        let step = finish_in(state);
-        by_value(step, bytes)
+        finish_in(self.state).by_value(self.bytes)
     }
 }
 
 // Feeds a byte to a reader whose array is lent and whose state goes in and comes back. Refusal 16 where it can't be taken.
+#[tactic(auto, using(crate::proofs::StepLaws::step_full), unfolding(frame::specs::Answers::judge_answer))]
 pub fn step_in(bytes: &mut [u8; 118], state: State, b: u8) -> LentStep
     ensures { LentStepIs bytes.new result (step_of (lent_reader bytes.old state) b) }
 {
-    let held = state.held;
-    let start = state.start;
-    let count = state.count;
+    let State { held, start, count } = state;
     if count == LIMIT {
-        return full(state);
+        return LentStep {
+            told: Some(Err(Refusal::Full)),
+            position: 0,
+            state,
+        };
     }
-    let step = candidate::step_in(bytes, held, b);
-    let told = step.told;
-    let next = step.held;
-    let opened = start_after(b, start, count);
+    let HeldStep { told, held } = candidate::step_in(bytes, held, b);
+    // What is held is made of its fields, because a copy of the struct copies its unused bytes too.
+    let Held { len, mode, origin } = held;
+    let opened = chunk::opened_by(b, start, count);
     let position = told_at(told, start);
     LentStep {
         told,
         position,
         state: State {
-            held: next,
+            held: Held { len, mode, origin },
             start: opened,
             count: count + 1,
         },
@@ -178,15 +266,12 @@ pub fn step_in(bytes: &mut [u8; 118], state: State, b: u8) -> LentStep
 pub fn finish_in(state: State) -> LentStep
     ensures { (bytes : List ℕ) → LentStepIs bytes result (finish_of (lent_reader bytes state)) }
 {
-    let held = state.held;
-    let start = state.start;
-    let step = candidate::finish_in(held);
+    let step = candidate::finish_in(state.held);
     let told = step.told;
-    let next = step.held;
     LentStep {
         told,
-        position: told_at(told, start),
-        state: uncounted(next),
+        position: told_at(told, state.start),
+        state: State::uncounted(step.held),
     }
 }
 
@@ -196,17 +281,13 @@ pub fn feed_in(bytes: &mut [u8; 118], state: State, chunk: &[u8]) -> ChunkStep
     ensures { ChunkStepIs bytes.new result
         (chunk_of (lent_reader bytes.old state) chunk.now) }
 {
-    let held = state.held;
-    let start = state.start;
-    let count = state.count;
-    let room = (LIMIT - count) as usize;
+    let room = (LIMIT - state.count) as usize;
     if room == 0 {
-        return refuse(state, chunk);
+        return state.refuse(chunk);
     }
-    let most = lists::lesser(CHUNK_LIMIT, chunk.len());
-    let part = lists::lesser(room, most);
-    let fed = chunk::feed_all(bytes, held, &chunk[..part]);
-    advanced(start, count, fed)
+    let part = chunk.len().min(CHUNK_LIMIT).min(room);
+    let fed = chunk::feed_all(bytes, state.held, &chunk[..part]);
+    state.advanced(fed)
 }
 
 // Feeds a chunk to a reader that is lent, as `LineReader::feed` does, and leaves the next reader in its place. The
@@ -214,136 +295,16 @@ pub fn feed_in(bytes: &mut [u8; 118], state: State, chunk: &[u8]) -> ChunkStep
 pub fn feed_lent(reader: &mut LineReader, chunk: &[u8]) -> ChunkAnswer
     ensures { ChunkAnswerIs reader.new result (chunk_of reader.old chunk.now) }
 {
-    let fed = LineReader::feed(*reader, chunk);
+    let fed = reader.feed(chunk);
     *reader = fed.next;
     fed.answer
-}
-
-// No byte was taken yet.
-fn uncounted(held: Held) -> State
-    ensures { result ≡ record { held = held; start = 0; count = 0 } }
-{
-    State {
-        held,
-        start: 0,
-        count: 0,
-    }
-}
-
-// A byte fed to a reader that is full is refused, and the reader stays as it is.
-fn full(state: State) -> LentStep
-    ensures { (bytes : List ℕ) → LentStepIs bytes result (turn (located 0 refuses_full) (lent_reader bytes state)) }
-{
-    LentStep {
-        told: Told::Refused(Refusal::Full),
-        position: 0,
-        state,
-    }
-}
-
-// A chunk given to a reader that is full: its first byte is refused. A chunk of no bytes has none.
-fn refuse(state: State, chunk: &[u8]) -> ChunkStep
-    requires { state.count ≡ most_bytes }
-    ensures { (bytes : List ℕ)
-        → ChunkStepIs bytes result (chunk_of (lent_reader bytes state) chunk.now) }
-{
-    if chunk.len() == 0 {
-        return untaken(Told::Nothing, state);
-    }
-    untaken(Told::Refused(Refusal::Full), state)
-}
-
-// No byte of a chunk is taken.
-fn untaken(told: Told, state: State) -> ChunkStep
-    ensures { result ≡ record { told = told; position = 0; state = state; taken = 0 } }
-{
-    ChunkStep {
-        told,
-        position: 0,
-        state,
-        taken: 0,
-    }
-}
-
-// What bytes that were taken make of the position and the count.
-fn advanced(start: u32, count: u32, fed: HeldChunk) -> ChunkStep
-    requires taken_bound { count + fed.taken ≤ most_bytes }
-    requires began_le_taken { fed.began ≤ fed.taken }
-    requires opened_le_taken { fed.opened ≤ fed.taken }
-    ensures { Advances start count fed result }
-{
-    let told = fed.told;
-    let held = fed.held;
-    let taken = fed.taken;
-    let position = place_at(start, count, fed.began);
-    ChunkStep {
-        told,
-        position: told_at(told, position),
-        state: State {
-            held,
-            start: place_at(start, count, fed.opened),
-            count: count + taken as u32,
-        },
-        taken,
-    }
-}
-
-// The position of the last start flag of a chunk, by its place in the chunk, or the one from before.
-fn place_at(start: u32, count: u32, place: usize) -> u32
-    requires { count + place ≤ most_bytes }
-    ensures { result ≡ place_at start count place }
-{
-    if place == 0 {
-        return start;
-    }
-    count + (place - 1) as u32
 }
 
 // The position that is told of an answer. Nothing has none.
 fn told_at(told: Told, position: u32) -> u32
     ensures { result ≡ told_at (told_means told) position }
 {
-    match told {
-        Told::Nothing => 0,
-        Told::Refused(_) => position,
-        Told::Standard { len: _ } => position,
-        Told::Extended {
-            to: _,
-            from: _,
-            len: _,
-        } => position,
-    }
-}
-
-// The position of the last start flag after one byte more: a start flag's own is the count before it.
-fn start_after(b: u8, start: u32, count: u32) -> u32
-    ensures { result ≡ start_after (role_of b) start count }
-{
-    if b == flags::EXTENDED_START {
-        return count;
-    }
-    if b == flags::STANDARD_START {
-        return count;
-    }
-    start
-}
-
-// The answer by value, from the one over a lent array and the array.
-fn by_value(step: LentStep, bytes: [u8; 118]) -> Stepped
-    ensures { (t : ReaderTurn) → LentStepIs bytes step t → Whole t → StepIs result t }
-{
-    let told = step.told;
-    let position = step.position;
-    let state = step.state;
-    let contents = beside(told, bytes);
-    Stepped {
-        answer: StepAnswer {
-            told,
-            position,
-            contents,
-        },
-        next: LineReader { bytes, state },
-    }
+    if told.is_some() { position } else { 0 }
 }
 
 // The array that stands beside what is told: a frame's contents, which are the first bytes of the reader's array, and
@@ -351,23 +312,10 @@ fn by_value(step: LentStep, bytes: [u8; 118]) -> Stepped
 fn beside(told: Told, bytes: [u8; 118]) -> [u8; 118]
     ensures { result ≡ beside_told (told_means told) bytes }
 {
-    match told {
-        Told::Nothing => [0u8; 118],
-        Told::Refused(_) => [0u8; 118],
-        Told::Standard { len } => first_of(bytes, len),
-        Told::Extended {
-            to: _,
-            from: _,
-            len,
-        } => first_of(bytes, len),
-    }
-}
-
-// The first bytes of an array, and zeros after them.
-fn first_of(bytes: [u8; 118], len: usize) -> [u8; 118]
-    ensures { result ≡ padded (take len bytes) }
-{
+    let Some(Ok(outline)) = told else {
+        return [0u8; 118];
+    };
     let mut contents = bytes;
-    lists::clear_from(&mut contents, len);
+    lists::clear_from(&mut contents, outline.len);
     contents
 }

@@ -1,12 +1,12 @@
 -- The laws of the program's loops and of its end.
 use Rattle.std.specs.declared.io.Error.{Error}
-use Rattle.std.proofs.Common.{◌≡◌, ℕ, ◌+◌, ◌-◌, ◌≤◌, leb, Option, Result, IsOk, IsErr, List, [], ◌++◌, length, take, drop, sym, refl, ap, ◌∙◌, subst, inl, inr, arith, length-append, length-drop, length-take-le, take_at, take-add, le-leb, leb-false, leb-true}
+use Rattle.std.proofs.Common.{◌≡◌, ℕ, ◌+◌, ◌-◌, ◌≤◌, Option, Result, Ok, Err, IsOk, IsErr, List, [], ◌++◌, length, take, drop, sym, refl, ap, ◌∙◌, subst, inl, inr, arith, length-append, length-drop, length-take-le, take_at, take-add}
 use lib.Seq.{take-length}
 use Rattle.lists.proofs.Lists.{rest_part}
-use Rattle.lists.specs.Choice.{pick}
-use Rattle.lists.proofs.Cases.{by_bool}
-use Rattle.answer.specs.Answer.{Answer, result, refused}
-use Rattle.answer.specs.Draft.{draft_answer, draft_out}
+use Rattle.answer.specs.Answer.{result}
+use Rattle.answer.specs.Draft.{draft_answer, draft_out, written_means}
+use Rattle.answer.specs.declared.Refusal.{Refusal}
+use Rattle.trace.proofs.AnswerLaws.{writes_length, writes_out}
 use Rattle.text.specs.Text.{text}
 use Rattle.trace.specs.Machine.{add64, new_listing, listing_after, texts, last_text, Lists}
 use Rattle.line.specs.Rowing.{most_bytes}
@@ -15,11 +15,9 @@ use Rattle.trace.specs.declared.Listed.{Listed}
 use Rattle.trace.proofs.ChunkLaws.{after_append, texts-append}
 use Rattle.trace.proofs.Cuttings.{new_text}
 use Rattle.listing.specs.Runs.{Pumps, TextCounted, Stops, Runs}
-use Rattle.listing.specs.Private.{Fetches, ran, Closes}
+use Rattle.listing.specs.Private.{ran, Closes}
 use Rattle.listing.specs.declared.Stop.{Stop}
 use Rattle.listing.specs.declared.Stop.TheVariants.{LastRead, AtLimit, LastWrite}
-use Rattle.listing.specs.declared.Fetched.{Fetched}
-use Rattle.listing.specs.declared.Fetched.TheVariants.{Bytes, Failed}
 use Rattle.listing.specs.declared.Pumped.{Pumped}
 use Rattle.listing.specs.declared.Ran.{Ran}
 
@@ -30,13 +28,6 @@ add_on a b = omega arith
 -- a part at the front of a list has so many elements
 pub part_size : {n : ℕ} (l : List ℕ) → n ≤ length l → n ≡ length (take n l)
 part_size {n} l h = sym (length-take-le n l h)
-
--- the lesser of two numbers is at most each of them
-pub lesser_both : {a b n : ℕ} → n ≡ pick (leb a b) a b → (n ≤ a) × (n ≤ b)
-lesser_both {a} {b} {n} e =
-    by_bool (leb a b)
-    (λ y. let q : n ≡ a = e ∙ simp y refl in (omega arith, omega (arith, leb-true a b y)))
-    (λ y. let q : n ≡ b = e ∙ simp y refl in (omega (arith, leb-false a b y), omega arith))
 
 -- the state and the number of bytes written after bytes
 pub record After (s₀ : Listing) (bytes : List ℕ) (s : Listing) (wrote : ℕ) : Type 0 where
@@ -71,22 +62,19 @@ pumping_none s chunk = (omega arith, after_none s)
 
 pub pumping_more : (s₀ : Listing) (chunk : List ℕ) (s : Listing) (wrote taken : ℕ) → Pumping s₀ chunk s wrote taken
     → (out out' : List ℕ) (r : Listed) → Lists s (take (length chunk - taken) (drop taken chunk)) out out' r
-    → (len wrote' : ℕ) → len ≡ r.wrote → wrote' ≡ add64 wrote len
+    → (wrote' : ℕ) → wrote' ≡ add64 wrote r.wrote
     → Pumping s₀ chunk r.next wrote' (taken + r.taken)
-pumping_more s₀ chunk s wrote taken g out out' r l len wrote' e w =
+pumping_more s₀ chunk s wrote taken g out out' r l wrote' w =
     let rest : Lists s (drop taken chunk) out out' r =
     subst (λ (x : List ℕ). Lists s x out out' r) (rest_part chunk taken) l in
     let ys : List ℕ = take r.taken (drop taken chunk) in
-    let m : add64 0 len ≡ add64 0 (length (texts s ys)) = ap (add64 0) (e ∙ rest.wrote_is) in (
+    let m : add64 0 r.wrote ≡ add64 0 (length (texts s ys)) = ap (add64 0) rest.wrote_is in (
       omega (arith, g.0, rest.taken_fits, length-drop taken chunk),
       subst (λ (x : List ℕ). After s₀ x r.next wrote') (sym (take-add taken r.taken chunk))
-          (after_more s₀ (take taken chunk) ys s r.next wrote len wrote' g.1 rest.next_is m w),
+          (after_more s₀ (take taken chunk) ys s r.next wrote r.wrote wrote' g.1 rest.next_is m w),
     )
 
 -- ---- the whole input
-
-pub fetched : (room left n : ℕ) (f : Fetched) → Fetches room left f → f ≡ Bytes n → (n ≤ room) × (n ≤ left)
-fetched room left n f h e = subst (Fetches room left) e h
 
 -- some bytes were read, and all of them were listed
 pub record Reading (s : Listing) (read wrote : ℕ) : Type 0 where
@@ -134,7 +122,7 @@ module _ (s : Listing) (read wrote : ℕ) (g : Reading s read wrote) (chunk : Li
   }
 
 module _ (s : Listing) (read wrote : ℕ) (g : Reading s read wrote) where
-  pub read_failed : (e : Error) (out' : List ℕ) → Runs out' (ran (LastRead (Failed e)) read wrote)
+  pub read_failed : (e : Error) (out' : List ℕ) → Runs out' (ran (LastRead (Err e)) read wrote)
   read_failed e out' =
       record { bytes = g.bytes; read_is = g.read_is; within = g.within; stops = g.after.wrote_is }
 
@@ -170,10 +158,10 @@ module _ (s : Listing) (read wrote : ℕ) (g : Reading s read wrote) where
       })
 
   pub input_ended : (n : ℕ) → n ≡ 0 → (out out' : List ℕ) (held held' : Option (List ℕ)) (r : Ran)
-      → Closes s (LastRead (Bytes n)) read wrote out out' held held' r → Runs out' r
+      → Closes s (LastRead (Ok n)) read wrote out out' held held' r → Runs out' r
   input_ended n e out out' held held' r c =
-      closed (LastRead (Bytes n)) out out' held held' r c
-      (λ w t. subst (λ (k : ℕ). Stops g.bytes (LastRead (Bytes k)) w out') (sym e) t)
+      closed (LastRead (Ok n)) out out' held held' r c
+      (λ w t. subst (λ (k : ℕ). Stops g.bytes (LastRead (Ok k)) w out') (sym e) t)
 
   pub at_limit : read ≡ most_bytes → (out out' : List ℕ) (held held' : Option (List ℕ)) (r : Ran)
       → Closes s AtLimit read wrote out out' held held' r → Runs out' r
@@ -181,37 +169,21 @@ module _ (s : Listing) (read wrote : ℕ) (g : Reading s read wrote) where
 
 -- ---- the finish
 
-module _ (w out out' : List ℕ) (a : Answer ℕ) (room : length w ≤ length out)
-    (e : a ≡ draft_answer (result w) (length out)) where
-  pub finished : (n : ℕ) → a ≡ result n → n ≡ length w
-  unfolding draft_answer
-  finished n q = let t : a ≡ result (length w) = simp (le-leb (length w) (length out) room) at e in cc
-
-  pub not_refused : (n : ℕ) → a ≡ refused n → ⊥
-  unfolding draft_answer
-  not_refused n q =
-      let t : a ≡ result (length w) = simp (le-leb (length w) (length out) room) at e in
-      let z : ◌≡◌ {A = ℕ} 0 1 = cc in omega arith
-
-pub finish_left : (w out out' : List ℕ) → length w ≤ length out → out' ≡ draft_out (result w) out
-    → out' ≡ w ++ drop (length w) out
-unfolding draft_out
-finish_left w out out' room e = simp (le-leb (length w) (length out) room) at e
-
--- what a finish that answered a length left
+-- what a finish with room left
 pub record Finished (w out out' : List ℕ) (n : ℕ) : Type 0 where
   pub size : n ≡ length w
   pub fits : n ≤ length out'
   pub out_is : out' ≡ w ++ drop (length w) out
   pub first : take n out' ≡ w
 
-pub finished_with : (w out out' : List ℕ) (n room : ℕ) → length w ≤ room → room ≤ length out
-    → ◌≡◌ {A = Answer ℕ} (result n) (draft_answer (result w) (length out)) → out' ≡ draft_out (result w) out
-    → length out' ≡ length out → Finished w out out' n
-finished_with w out out' n room short h e left kept =
+pub finished : (w out out' : List ℕ) (r : Result ℕ Refusal) (n room : ℕ) → length w ≤ room → room ≤ length out
+    → written_means r ≡ draft_answer (result w) (length out) → out' ≡ draft_out (result w) out → length out' ≡ length out
+    → r ≡ Ok n → Finished w out out' n
+finished w out out' r n room short h e left kept q =
     let fits : length w ≤ length out = omega arith in
-    let size : n ≡ length w = finished w out out' (result n) fits e n refl in
-    let is : out' ≡ w ++ drop (length w) out = finish_left w out out' fits left in
+    let same = sym q ∙ writes_length w (length out) r fits e in
+    let size : n ≡ length w = cc same in
+    let is : out' ≡ w ++ drop (length w) out = writes_out w out out' fits left in
     record {
       size = size;
       fits = omega arith;
@@ -219,10 +191,7 @@ finished_with w out out' n room short h e left kept =
       first = ap (take n) is ∙ take_at w (drop (length w) out) n (sym size);
     }
 
--- the lines of a call, which stand first in the output, are as many bytes as it counts
-pub lines_counted : (out' : List ℕ) (room n len : ℕ) → n ≤ room → length out' ≡ room → len ≡ length (take n out')
-    → len ≡ n
-lines_counted out' room n len h e k = k ∙ length-take-le n out' (omega arith)
+-- ---- the lines of a call stand first in the output
 
 pub first_lines : (s : Listing) (chunk out out' : List ℕ) (taken : ℕ) (r : Listed)
     → Lists s (take (length chunk - taken) (drop taken chunk)) out out' r

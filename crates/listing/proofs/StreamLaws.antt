@@ -15,7 +15,6 @@ use Rattle.listing.specs.Private.{ran, Closes}
 use Rattle.listing.specs.Streams.{GivesFirst, Gives, Stopped, Carries}
 use Rattle.listing.specs.declared.Stop.{Stop}
 use Rattle.listing.specs.declared.Stop.TheVariants.{LastRead, AtLimit, LastWrite}
-use Rattle.listing.specs.declared.Fetched.TheVariants.{Bytes, Failed}
 use Rattle.listing.specs.declared.Pumped.{Pumped}
 use Rattle.listing.specs.declared.Ran.{Ran}
 
@@ -125,7 +124,7 @@ flowing_none left held s e = record {
 
 module _ (left now held here : Option (List ℕ)) (s : Listing) (read : ℕ) (f : Flowing left now held here s read) where
   pub read_failed_flow : (e : Error) (left' : Option (List ℕ)) (wrote : ℕ) → Keeps now left'
-      → Carries left left' held here (ran (LastRead (Failed e)) read wrote)
+      → Carries left left' held here (ran (LastRead (Err e)) read wrote)
   read_failed_flow e left' wrote k = record {
     bytes = f.bytes;
     read_is = f.read_is;
@@ -226,7 +225,7 @@ module _ (left now held here : Option (List ℕ)) (s : Listing) (read : ℕ) (f 
         ]
 
     pub input_ended_flow : (n : ℕ) (input' : List ℕ) → n ≡ 0 → Consumes now left' (take n input') × (n ≡ 0 → IsAtEnd left')
-        → stop ≡ LastRead (Bytes n) → Carries left left' held held' r
+        → stop ≡ LastRead (Ok n) → Carries left left' held held' r
     input_ended_flow n input' e (c, end) is =
         closed_flow (Consumes-kept left now left' f.bytes f.taken (kept_of_none_left now left' input' n e c))
         (λ a. subst (Stopped left' held held' f.bytes) (sym is) (end e, a))

@@ -1,5 +1,5 @@
 -- What the program's arguments ask for.
-use Rattle.std.specs.Prelude.{ℕ, zero, suc, Bool, true, false, List, [], ◌∷◌, ◌==◌}
+use Rattle.std.specs.Prelude.{ℕ, zero, suc, Bool, true, false, List, [], ◌∷◌, ◌==◌, Option, Some, None}
 use Rattle.listing.specs.declared.Source.{Source}
 use Rattle.listing.specs.declared.Source.TheVariants.{StandardInput, File, TooLong, Usage}
 
@@ -16,8 +16,8 @@ source_of_word [] = Usage
 source_of_word (b ∷ rest) = source_of_rest (b == 0x2D) rest
 
 -- So many arguments. The word is the first of them if that is whole.
-abbrev pub source_of : (arguments : ℕ) → (whole : Bool) → (word : List ℕ) → Source
-source_of zero whole word = StandardInput
-source_of (suc zero) true word = source_of_word word
-source_of (suc zero) false word = TooLong
-source_of (suc (suc n)) whole word = Usage
+abbrev pub source_of : (arguments : ℕ) → (word : Option (List ℕ)) → Source
+source_of zero word = StandardInput
+source_of (suc zero) (Some word) = source_of_word word
+source_of (suc zero) None = TooLong
+source_of (suc (suc n)) word = Usage

@@ -1,5 +1,5 @@
 -- Contracts of the functions that `run` is made of.
-use Rattle.std.specs.Prelude.{◌≡◌, ℕ, ◌≤◌, Err, ◌⊎◌, List, ◌++◌, length, take, drop, Option}
+use Rattle.std.specs.Prelude.{◌≡◌, ℕ, ◌≤◌, Result, Ok, Err, ◌⊎◌, List, ◌++◌, length, take, drop, Option}
 use Rattle.std.specs.Io.KnownBytes.{Keeps, Appends, Consumes, IsAtEnd}
 use Rattle.std.specs.declared.io.Error.{Error}
 use Rattle.listing.specs.Streams.{GivesFirst}
@@ -7,20 +7,18 @@ use Rattle.trace.specs.Machine.{add64, last_text}
 use Rattle.trace.specs.declared.Listing.{Listing}
 use Rattle.listing.specs.declared.Stop.{Stop}
 use Rattle.listing.specs.declared.Stop.TheVariants.{LastWrite}
-use Rattle.listing.specs.declared.Fetched.{Fetched}
-use Rattle.listing.specs.declared.Fetched.TheVariants.{Bytes, Failed}
 use Rattle.listing.specs.declared.Ran.{Ran}
 
 -- A read of at most so many bytes.
-abbrev pub Fetches : (room left : ℕ) → Fetched → Type 0
-Fetches room left (Bytes n) = (n ≤ room) × (n ≤ left)
-Fetches room left (Failed e) = Unit {0}
+abbrev pub Fetches : (room left : ℕ) → Result ℕ Error → Type 0
+Fetches room left (Ok n) = (n ≤ room) × (n ≤ left)
+Fetches room left (Err e) = Unit {0}
 
 -- The bytes of a read stand first in the input, and are the first that the reader had left. Where it gave none it is at
 -- its end, and where it failed it has left what it had.
-abbrev pub Takes : (left left' : Option (List ℕ)) → Fetched → (input' : List ℕ) → Type 0
-Takes left left' (Bytes n) input' = Consumes left left' (take n input') × (n ≡ 0 → IsAtEnd left')
-Takes left left' (Failed e) input' = Keeps left left'
+abbrev pub Takes : (left left' : Option (List ℕ)) → Result ℕ Error → (input' : List ℕ) → Type 0
+Takes left left' (Ok n) input' = Consumes left left' (take n input') × (n ≡ 0 → IsAtEnd left')
+Takes left left' (Err e) input' = Keeps left left'
 
 abbrev pub ran : Stop → (read wrote : ℕ) → Ran
 ran stop read wrote = record { stop = stop; read = read; wrote = wrote }

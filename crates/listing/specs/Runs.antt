@@ -1,12 +1,11 @@
 -- What the program's functions answer, on the bytes that the system gave them.
-use Rattle.std.specs.Prelude.{◌≡◌, ℕ, zero, suc, ◌≤◌, IsOk, IsErr, List, ◌++◌, length, take, drop}
+use Rattle.std.specs.Prelude.{◌≡◌, ℕ, zero, suc, ◌≤◌, Ok, Err, IsOk, IsErr, List, ◌++◌, length, take, drop}
 use Rattle.text.specs.Text.{text}
 use Rattle.trace.specs.Machine.{add64, new_listing, listing_after, texts, last_text}
 use Rattle.line.specs.Rowing.{most_bytes}
 use Rattle.trace.specs.declared.Listing.{Listing}
 use Rattle.listing.specs.declared.Stop.{Stop}
 use Rattle.listing.specs.declared.Stop.TheVariants.{LastRead, AtLimit, LastWrite}
-use Rattle.listing.specs.declared.Fetched.TheVariants.{Bytes, Failed}
 use Rattle.listing.specs.declared.Sent.{Sent}
 use Rattle.listing.specs.declared.Pumped.{Pumped}
 use Rattle.listing.specs.declared.Ran.{Ran}
@@ -33,9 +32,9 @@ TextCounted bytes wrote out' =
 -- What holds of the bytes that were listed and of the count of bytes for writing, by the reason for which the program
 -- stopped. Where a read failed the lines are counted, without the totals.
 abbrev pub Stops : (bytes : List ℕ) → Stop → ℕ → (out' : List ℕ) → Type 0
-Stops bytes (LastRead (Bytes zero)) wrote out' = TextCounted bytes wrote out'
-Stops bytes (LastRead (Bytes (suc n))) wrote out' = ⊥
-Stops bytes (LastRead (Failed e)) wrote out' = wrote ≡ add64 0 (length (texts new_listing bytes))
+Stops bytes (LastRead (Ok zero)) wrote out' = TextCounted bytes wrote out'
+Stops bytes (LastRead (Ok (suc n))) wrote out' = ⊥
+Stops bytes (LastRead (Err e)) wrote out' = wrote ≡ add64 0 (length (texts new_listing bytes))
 Stops bytes AtLimit wrote out' = (length bytes ≡ most_bytes) × TextCounted bytes wrote out'
 Stops bytes (LastWrite all) wrote out' = IsErr all
 

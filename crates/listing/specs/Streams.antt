@@ -1,12 +1,11 @@
 -- What the program's functions take from a reader and give to a writer, where these say which bytes they have.
 -- Standard input and output and files don't say it.
-use Rattle.std.specs.Prelude.{◌≡◌, ℕ, List, ◌++◌, length, Option, Result, MatchResult}
+use Rattle.std.specs.Prelude.{◌≡◌, ℕ, List, ◌++◌, length, Option, Result, Ok, Err, MatchResult}
 use Rattle.std.specs.Io.KnownBytes.{Appends, Consumes, IsAtEnd}
 use Rattle.text.specs.Text.{text}
 use Rattle.trace.specs.Machine.{new_listing, texts}
 use Rattle.listing.specs.declared.Stop.{Stop}
 use Rattle.listing.specs.declared.Stop.TheVariants.{LastRead, AtLimit, LastWrite}
-use Rattle.listing.specs.declared.Fetched.TheVariants.{Bytes, Failed}
 use Rattle.listing.specs.declared.Ran.{Ran}
 
 -- The writer got the first bytes of a text, maybe all or none.
@@ -21,8 +20,8 @@ Gives held held' r w = MatchResult r (λ _. Appends held held' w) (λ _. GivesFi
 -- What the writer got of the text of the bytes that were listed, by the reason for which the program stopped, and that
 -- the reader is at its end where a read gave none. Where a read failed it got the lines, without the totals.
 abbrev pub Stopped : (left' held held' : Option (List ℕ)) → (bytes : List ℕ) → Stop → Type 0
-Stopped left' held held' bytes (LastRead (Bytes n)) = IsAtEnd left' × Appends held held' (text bytes)
-Stopped left' held held' bytes (LastRead (Failed e)) = Appends held held' (texts new_listing bytes)
+Stopped left' held held' bytes (LastRead (Ok n)) = IsAtEnd left' × Appends held held' (text bytes)
+Stopped left' held held' bytes (LastRead (Err e)) = Appends held held' (texts new_listing bytes)
 Stopped left' held held' bytes AtLimit = Appends held held' (text bytes)
 Stopped left' held held' bytes (LastWrite all) = GivesFirst held held' (text bytes)
 

@@ -10,12 +10,12 @@
 ghost use Rattle.std.specs.Prelude.{◌≡◌, ◌-◌, ◌<◌, ◌≤◌, length, take};
 ghost use Rattle.text.specs.Writing.{line_room};
 ghost use Rattle.trace.specs.Machine.{last_room, last_text, texts};
+ghost use Rattle.std.specs.Option.{option_copied};
 ghost use Rattle.listing.specs.Arguments.{source_of_word, source_of};
 ghost use Rattle.listing.specs.Runs.{Pumps, Finishes, Runs};
 ghost use Rattle.listing.specs.Private.{Fetches, Takes, Closes};
 ghost use Rattle.listing.specs.Streams.{Gives, Carries};
 
-use answer::Written;
 use std::env::{Env, FillError};
 use std::fs::File;
 use std::io;
@@ -33,6 +33,7 @@ const ROOM: usize = 65536;
 
 // What the arguments ask for: to list standard input or the file that the only argument names, or to say that this name
 // is too long, or how the program is used.
+// Stays one enum, the two misuses included: `source_of` of the specification gives all four.
 #[derive(Clone, Copy)]
 enum Source {
     StandardInput,
@@ -41,23 +42,16 @@ enum Source {
     Usage,
 }
 
-// What a read gave: so many bytes, none at the end of the input, or why it failed.
-#[derive(Clone, Copy)]
-enum Fetched {
-    Bytes(usize),
-    Failed(io::Error),
-}
-
 // Why the program stops: what the last read gave, the limit, or whether the last write took all. Each reason holds the
 // answer that it goes by.
 #[derive(Clone, Copy)]
 enum Stop {
-    LastRead(Fetched),
+    LastRead(io::Result<usize>),
     AtLimit,
     LastWrite(io::Result<()>),
 }
 
-// How long a text is, and whether all of it was written, or why not.
+// How long the last text is, and whether all of it was written, or why not.
 #[derive(Clone, Copy)]
 struct Sent {
     len: u64,
@@ -82,15 +76,17 @@ struct Ran {
     wrote: u64,
 }
 
+// Stays a read of each argument into an array: `env::args` is an error where one is not UTF-8 and says not which, and a
+// name that is longer than the array is to be said to be too long.
 fn main(rt: HostRuntime) {
     let mut word = [0u8; NAME_ROOM];
-    let first = rt.arg(1, &mut word);
-    let whole = first.is_ok();
-    let len = first.unwrap_or(0);
-    let source = choose(count_arguments(&rt), whole, &word[..len]);
-    match source {
+    let first = match rt.arg(1, &mut word) {
+        Ok(len) => Some(&word[..len]),
+        Err(_) => None,
+    };
+    match choose(count_arguments(&rt), first) {
         Source::StandardInput => list(&rt, &mut rt.stdin(), b"standard input"),
-        Source::File => list_file(&rt, &word[..len]),
+        Source::File => list_file(&rt, first.unwrap_or(b"")),
         Source::TooLong => say(&rt, &[b"the file's name: File name too long\n"]),
         Source::Usage => say_usage(&rt),
     }
@@ -98,46 +94,33 @@ fn main(rt: HostRuntime) {
 
 // How many arguments there are, the program's own name among them.
 fn count_arguments(env: &impl Env) -> usize {
-    let mut room = [0u8; 1];
-    for i in 0..usize::MAX {
-        if let Err(FillError::NotPresent) = env.arg(i, &mut room) {
-            return i;
-        }
-    }
-    usize::MAX
+    (0..usize::MAX)
+        .find(|i| matches!(env.arg(*i, &mut []), Err(FillError::NotPresent)))
+        .unwrap_or(usize::MAX)
 }
 
-// What the command line asks for: it has so many words, the program's own name among them, and `word` is the first
+// What the command line asks for: it has so many words, the program's own name among them, and `first` is the first
 // argument if that is whole.
-fn choose(count: usize, whole: bool, word: &[u8]) -> Source
-    ensures { result ≡ source_of (count - 1) whole word.now }
+fn choose(count: usize, first: Option<&[u8]>) -> Source
+    ensures { result ≡ source_of (count - 1) (option_copied first.entry) }
 {
-    if count <= 1 {
-        return Source::StandardInput;
+    match (count, first) {
+        (0 | 1, _) => Source::StandardInput,
+        (2, Some(word)) => source_of_word(word),
+        (2, None) => Source::TooLong,
+        _ => Source::Usage,
     }
-    if count > 2 {
-        return Source::Usage;
-    }
-    if !whole {
-        return Source::TooLong;
-    }
-    source_of_word(word)
 }
 
 // What one argument asks for.
 fn source_of_word(word: &[u8]) -> Source
     ensures { result ≡ source_of_word word.now }
 {
-    if word.len() == 0 {
-        return Source::Usage;
+    match word {
+        [b'-'] => Source::StandardInput,
+        [] | [b'-', ..] => Source::Usage,
+        _ => Source::File,
     }
-    if word[0] != b'-' {
-        return Source::File;
-    }
-    if word.len() == 1 {
-        return Source::StandardInput;
-    }
-    Source::Usage
 }
 
 fn say_usage(rt: &HostRuntime) {
@@ -167,6 +150,7 @@ fn list<R: Read + IsTerminal>(rt: &HostRuntime, reader: &mut R, name: &[u8]) {
     if reader.is_terminal() {
         say(rt, &[b"listing: waiting for a trace from ", name, b"\n"]);
     }
+    // Stay two arrays: the program holds these bytes however long the trace is, and asks for no memory.
     let mut input = [0u8; ROOM];
     let mut out = [0u8; ROOM];
     let ran = run(reader, &mut rt.stdout(), &mut input, &mut out);
@@ -175,7 +159,7 @@ fn list<R: Read + IsTerminal>(rt: &HostRuntime, reader: &mut R, name: &[u8]) {
 
 fn say_failure(rt: &HostRuntime, stop: Stop, name: &[u8]) {
     match stop {
-        Stop::LastRead(Fetched::Failed(error)) => say_error(rt, name, error),
+        Stop::LastRead(Err(error)) => say_error(rt, name, error),
         Stop::LastWrite(Err(error)) => say_error(rt, b"standard output", error),
         _ => {}
     }
@@ -211,6 +195,8 @@ fn say(rt: &HostRuntime, parts: &[&[u8]]) {
 
 // Reads and lists until the input ends, or the limit is reached, and writes the totals. Where a read or a write fails,
 // no totals are written.
+// Stay slices with a bound, here and below: a type of an output that is long enough would ask more of what calls `run`.
+// Stay a writer and an output beside a state: in a struct that held both borrows each clause would name them by ghosts.
 fn run<R: Read, W: Write>(reader: &mut R, writer: &mut W, input: &mut [u8], out: &mut [u8]) -> Ran
     requires input_nonzero { 0 < length input.old }
     requires last_room_in_bounds { last_room ≤ length out.old }
@@ -221,25 +207,21 @@ fn run<R: Read, W: Write>(reader: &mut R, writer: &mut W, input: &mut [u8], out:
     let mut state = trace::new();
     let mut read: u64 = 0;
     let mut wrote: u64 = 0;
+    // Stays a `while`: a read gives as many bytes as the system has.
     while read < LIMIT {
-        let fetched = fetch(reader, input, LIMIT - read);
-        let Fetched::Bytes(n) = fetched else {
-            let stop = Stop::LastRead(fetched);
-            return Ran { stop, read, wrote };
+        let n = match fetch(reader, input, LIMIT - read) {
+            Ok(n) => n,
+            Err(error) => {
+                let stop = Stop::LastRead(Err(error));
+                return Ran { stop, read, wrote };
+            }
         };
         if n == 0 {
-            return close(
-                state,
-                Stop::LastRead(Fetched::Bytes(n)),
-                read,
-                wrote,
-                writer,
-                out,
-            );
+            return close(state, Stop::LastRead(Ok(n)), read, wrote, writer, out);
         }
         let pumped = pump(state, &input[..n], writer, out);
         state = pumped.next;
-        read = read + n as u64;
+        read += n as u64;
         wrote = wrote.wrapping_add(pumped.wrote);
         if pumped.whole.is_err() {
             let stop = Stop::LastWrite(pumped.whole);
@@ -250,17 +232,14 @@ fn run<R: Read, W: Write>(reader: &mut R, writer: &mut W, input: &mut [u8], out:
 }
 
 // Reads once, at most `left` bytes. It asks for at least one byte, so that none is the end of the input.
-fn fetch<R: Read>(reader: &mut R, input: &mut [u8], left: u64) -> Fetched
+fn fetch<R: Read>(reader: &mut R, input: &mut [u8], left: u64) -> io::Result<usize>
     requires input_nonzero { 0 < length input.old }
     requires left_nonzero { 0 < left }
     ensures fetches { Fetches (length input.old) left result }
     ensures takes { Takes (R.remaining reader.old) (R.remaining reader.new) result input.new }
 {
-    let most = lists::lesser(input.len(), left as usize);
-    match reader.read(&mut input[..most]) {
-        Ok(n) => Fetched::Bytes(n),
-        Err(error) => Fetched::Failed(error),
-    }
+    let most = input.len().min(left as usize);
+    reader.read(&mut input[..most])
 }
 
 // Lists all of a chunk and writes what it gives. With room for the line of any answer each call takes a byte, so the loop
@@ -274,18 +253,18 @@ fn pump<W: Write>(s: Listing, chunk: &[u8], writer: &mut W, out: &mut [u8]) -> P
     let mut state = s;
     let mut wrote: u64 = 0;
     let mut taken: usize = 0;
+    // Stays a `while`: a call takes as many bytes as it has room for their lines.
     while taken < chunk.len() {
-        let r = trace::list(state, &chunk[taken..], out);
-        let len = r.wrote;
-        state = r.next;
-        taken = taken + r.taken;
-        let sent = send(writer, &out[..len]);
-        wrote = wrote.wrapping_add(sent.len);
-        if sent.whole.is_err() {
+        let listed = trace::list(state, &chunk[taken..], out);
+        state = listed.next;
+        taken += listed.taken;
+        wrote = wrote.wrapping_add(listed.wrote as u64);
+        let whole = write_all(writer, &out[..listed.wrote]);
+        if whole.is_err() {
             return Pumped {
                 taken,
                 wrote,
-                whole: sent.whole,
+                whole,
                 next: state,
             };
         }
@@ -311,55 +290,45 @@ fn close<W: Write>(
     ensures { Closes s stop read wrote out.old out.new (W.contents writer.old) (W.contents writer.new) result }
 {
     let sent = finish(s, writer, out);
-    if sent.whole.is_err() {
-        let failed = Stop::LastWrite(sent.whole);
-        return Ran {
-            stop: failed,
+    match sent.whole {
+        Ok(()) => Ran {
+            stop,
+            read,
+            wrote: wrote.wrapping_add(sent.len),
+        },
+        Err(error) => Ran {
+            stop: Stop::LastWrite(Err(error)),
             read,
             wrote,
-        };
-    }
-    Ran {
-        stop,
-        read,
-        wrote: wrote.wrapping_add(sent.len),
+        },
     }
 }
 
+// Writes the last text, and answers how long it is, also where a write fails.
 fn finish<W: Write>(s: Listing, writer: &mut W, out: &mut [u8]) -> Sent
     requires { last_room ≤ length out.old }
     ensures finishes { Finishes s out.old out.new result }
     ensures gives { Gives (W.contents writer.old) (W.contents writer.new) result.whole (last_text s) }
 {
-    let written = trace::finish(s, out);
-    match written {
-        Written::Length(n) => send(writer, &out[..n]),
-        Written::Refused(_) => unreachable!(),
-    }
-}
-
-fn send<W: Write>(writer: &mut W, text: &[u8]) -> Sent
-    ensures len { result.len ≡ length text.now }
-    ensures gives { Gives (W.contents writer.old) (W.contents writer.new) result.whole text.now }
-{
-    let whole = write_all(writer, text);
-    let len = text.len() as u64;
+    let len = trace::finish(s, out).unwrap();
+    let whole = write_all(writer, &out[..len]);
+    let len = len as u64;
     Sent { len, whole }
 }
 
 // Writes all of a text, or stops at the first write that takes nothing or fails.
+// Stays a loop of its own: `write_all` of the library says nothing of what was written before a failure, as `Gives` does.
 fn write_all<W: Write>(writer: &mut W, text: &[u8]) -> io::Result<()>
     ensures { Gives (W.contents writer.old) (W.contents writer.new) result text.now }
 {
     let mut done: usize = 0;
     while done < text.len() {
-        match writer.write(&text[done..]) {
-            Ok(0) => {
+        match writer.write(&text[done..])? {
+            0 => {
                 let why = "failed to write whole buffer";
                 return Err(io::Error::new(ErrorKind::WriteZero, why));
             }
-            Ok(n) => done += n,
-            Err(error) => return Err(error),
+            n => done += n,
         }
     }
     Ok(())

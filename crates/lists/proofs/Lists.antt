@@ -6,7 +6,7 @@ use native.Mathlib.Numerals.{add-one}
 use native.Mathlib.Omega.{arith}
 use lib.Dec.{leb}
 use lib.ListN.{length, get_or, take, drop, set, length-drop, take-append-drop}
-use lib.Seq.{take-suc, drop-cons, set_at, length-take-le, drop-drop, drop-append-add, drop-append-le, get_or-drop}
+use lib.Seq.{take-suc, drop-cons, set_at, length-take-le, drop-drop, drop-append-add, drop-append-le}
 use lib.Seq.{take_all, take-add, drop_at}
 use borrow.Author.Tests.{leb-true, leb-false}
 use Rattle.lists.specs.Choice.{pick, Every}
@@ -49,23 +49,6 @@ module _ (s s₀ p : List ℕ) (k : ℕ) (e : s ≡ p ++ drop k s₀) (l : lengt
       ∙ drop-append-add p (drop k s₀) (at - k)
       ∙ drop-drop (at - k) k s₀
       ∙ ap (λ (i : ℕ). drop i s₀) n
-
-  pub get_behind : (at i : ℕ) → k ≤ at → get_or s (at + i) 0 ≡ get_or s₀ (at + i) 0
-  get_behind at i h =
-      sym (get_or-drop at s i 0) ∙ ap (λ (t : List ℕ). get_or t i 0) (drop_behind at h) ∙ get_or-drop at s₀ i 0
-
--- A turn of a loop that moves the elements from an index on to the front.
-pub shift_more : (s₀ s : List ℕ) (from k : ℕ) → from + k < length s₀ → s ≡ take k (drop from s₀) ++ drop k s₀
-    → set s k (get_or s (from + k) 0) ≡ take (k + 1) (drop from s₀) ++ drop (k + 1) s₀
-shift_more s₀ s from k h e =
-    let l : length (take k (drop from s₀)) ≡ k = length-take-le k (drop from s₀) (omega (arith, length-drop from s₀)) in
-    let c : k + from ≡ from + k = omega arith in
-    let g : get_or s (from + k) 0 ≡ get_or (drop from s₀) k 0 =
-    ap (λ (i : ℕ). get_or s i 0) (sym c) ∙ get_behind s s₀ (take k (drop from s₀)) k e l k from (omega arith)
-    ∙ ap (λ (i : ℕ). get_or s₀ i 0) c ∙ sym (get_or-drop from s₀ k 0) in
-    let f = fill (drop from s₀) s₀ k (get_or (drop from s₀) k 0) (drop (suc k) (drop from s₀))
-    (drop-cons (drop from s₀) k 0 (omega (arith, length-drop from s₀))) (omega arith) in
-    ap (λ (b : ℕ). set s k b) g ∙ ap (λ (t : List ℕ). set t k (get_or (drop from s₀) k 0)) e ∙ f.1
 
 -- A part that was changed at its front, put back into the whole.
 pub back_in : (s last c : List ℕ) (n : ℕ) → n ≤ length s → length c ≤ n → last ≡ c ++ drop (length c) (take n s)

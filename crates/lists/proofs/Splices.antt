@@ -1,18 +1,15 @@
 -- The laws of a list put into another at an index.
-use Prim.Native.Nat.{ℕ, suc, ◌+◌, ◌≤◌, ◌<◌, ◌-◌}
+use Prim.Native.Nat.{ℕ, ◌+◌, ◌≤◌, ◌<◌, ◌-◌}
 use mathlib.Core.Path.{◌≡◌, refl, sym, ap, ◌∙◌}
 use mathlib.Core.List.{List, [], ◌∷◌, ◌++◌, append_assoc, append-nil}
 use native.Mathlib.Nat.{add-zero, add_assoc}
 use native.Mathlib.Numerals.{add-one}
 use native.Mathlib.Omega.{arith}
-use lib.ListN.{length, get_or, take, drop, set, length-append, take-append-drop, length-drop, length-set}
-use lib.Dec.{leb}
-use lib.ListN.{drop_of_length-le, replicate}
-use lib.Seq.{set_split, take_at, take_all, drop-drop, length-take-le, drop-append-add, paste, paste-suc, take-length}
-use lib.Seq.{take-suc-set}
-use borrow.Author.Tests.{le-leb, lt-leb, leb-true, leb-false}
-use Rattle.lists.proofs.Cases.{by_bool}
-use Rattle.lists.specs.Splice.{splice, copied, shifted, cleared}
+use lib.ListN.{length, take, drop, set, length-append, take-append-drop, length-drop, length-set}
+use lib.ListN.{drop_of_length-le}
+use lib.Seq.{set_split, take_at, take_all, drop-drop, length-take-le, drop-append-add, take-length}
+use borrow.Author.Tests.{le-leb}
+use Rattle.lists.specs.Splice.{splice, copied, shifted}
 
 pub splice_nil : (out : List ℕ) (at : ℕ) → splice out at [] ≡ out
 splice_nil out at = ap (λ (n : ℕ). take at out ++ drop n out) (add-zero at) ∙ take-append-drop at out
@@ -99,20 +96,6 @@ set2_splice out at a b h =
     ∙ ap (λ (l : List ℕ). splice l (at + 1) (b ∷ [])) (set-splice out at a (omega arith))
     ∙ splice-splice out at (a ∷ []) (omega arith) (b ∷ [])
 
--- A turn of a loop that copies a list into another, and its end.
-module _ (out₀ : List ℕ) (at : ℕ) (s out : List ℕ) (i : ℕ) (e : out ≡ paste out₀ at s i) where
-  pub paste_more : at + length s ≤ length out₀ → i < length s → set out (at + i) (get_or s i 0) ≡ paste out₀ at s (i + 1)
-  paste_more room h =
-      ap (λ (l : List ℕ). set l (at + i) (get_or s i 0)) e ∙ paste-suc out₀ at s i 0 (omega arith) h
-      ∙ ap (paste out₀ at s) (sym (add-one i))
-
-  pub paste_all : i ≤ length s → length s ≤ i → out ≡ splice out₀ at s
-  paste_all h k =
-      let n : i ≡ length s = omega arith in
-      e ∙ ap (λ (m : ℕ). take at out₀ ++ take i s ++ drop (at + m) out₀) n
-      ∙ ap (λ (l : List ℕ). take at out₀ ++ l ++ drop (at + length s) out₀) (take_all i s k)
-      ∙ append_assoc (take at out₀) s (drop (at + length s) out₀)
-
 -- A list copied to the front of the part from an index on, put back into the whole.
 pub part_splice : (xs d last : List ℕ) (at : ℕ) → at + length d ≤ length xs
     → last ≡ take (length d) d ++ drop (length d) (take (length xs - at) (drop at xs))
@@ -140,48 +123,8 @@ pub copied_fits : (s out last : List ℕ) (at : ℕ) → at + length s ≤ lengt
     → last ≡ splice out at s
 copied_fits s out last at h e = e ∙ simp (le-leb (at + length s) (length out) h) refl
 
-pub fits_copied : (s out last : List ℕ) (at : ℕ) → at + length s ≤ length out → last ≡ splice out at s
-    → last ≡ copied out at s
-fits_copied s out last at h e = e ∙ sym (copied_fits s out _ at h refl)
-
-pub past_copied : (s out : List ℕ) (at : ℕ) → length out < at + length s → out ≡ copied out at s
-past_copied s out at h = simp (lt-leb (at + length s) (length out) h)
-
 -- ---- elements brought to the front
 
 pub shifted_fits : (s last : List ℕ) (by count : ℕ) → by + count ≤ length s
     → last ≡ take count (drop by s) ++ drop count s → last ≡ shifted s by count
 shifted_fits s last by count h e = e ∙ sym (simp (le-leb (by + count) (length s) h) refl)
-
-pub past_shifted : (s : List ℕ) (by count : ℕ) → length s < by + count → s ≡ shifted s by count
-past_shifted s by count h = simp (lt-leb (by + count) (length s) h)
-
--- ---- zeros from an index on
-
--- a turn of a loop that clears one element after the other
-pub clear_more : (i : ℕ) (s all : List ℕ) → i < length s → take i s ++ replicate (length s - i) 0 ≡ all
-    → take (i + 1) (set s i 0) ++ replicate (length (set s i 0) - (i + 1)) 0 ≡ all
-clear_more i s all l e =
-    let n : length s - i ≡ suc (length (set s i 0) - (i + 1)) = omega (arith, l, length-set s i 0) in
-    let f : take (i + 1) (set s i 0) ≡ take i s ++ 0 ∷ [] = rw (add-one, take-suc-set s i 0 l) in
-    ap (λ (x : List ℕ). x ++ replicate (length (set s i 0) - (i + 1)) 0) f
-    ∙ append_assoc (take i s) (0 ∷ []) (replicate (length (set s i 0) - (i + 1)) 0)
-    ∙ ap (λ (m : ℕ). take i s ++ replicate m 0) (sym n)
-    ∙ e
-
--- its beginning and its end
-pub clear_none : (from : ℕ) (s : List ℕ) → take from s ++ replicate (length s - from) 0 ≡ cleared s from
-clear_none from s =
-    let e : length s - from ≡ length s - length (take from s) =
-    by_bool (leb from (length s))
-    (λ y. omega (arith, length-take-le from s (leb-true from (length s) y)))
-    (λ n. let l = leb-false from (length s) n in
-    omega (arith, l, ap length (take_all from s (omega (arith, l))))) in
-    ap (λ (n : ℕ). take from s ++ replicate n 0) e
-
-pub clear_all : (i : ℕ) (s all : List ℕ) → length s ≤ i → take i s ++ replicate (length s - i) 0 ≡ all → s ≡ all
-clear_all i s all l e =
-    let n : length s - i ≡ 0 = omega arith in
-    sym (take_all i s l) ∙ sym (append-nil (take i s))
-    ∙ sym (ap (λ (m : ℕ). take i s ++ replicate m 0) n)
-    ∙ e

@@ -3,7 +3,7 @@
 // test, and a machine run on a list of calls.
 #![tactic(auto)]
 
-ghost use Rattle.std.specs.Prelude.{◌≡◌, ◌++◌, ◌+◌, ◌%◌, ◌≤◌, ◌<◌, leb, length, take, drop};
+ghost use Rattle.std.specs.Prelude.{◌≡◌, ◌+◌, ◌%◌, ◌≤◌, ◌<◌, length, drop};
 ghost use Rattle.lists.specs.Choice.{pick, within, none_of, count_before, in_blocks};
 ghost use Rattle.lists.specs.Splice.{splice, copied, shifted, cleared};
 
@@ -12,38 +12,21 @@ const BLOCK: usize = 32;
 
 const SMALL_BLOCK: usize = 8;
 
-// How many bytes are copied through an array.
-const SHORT: usize = 128;
-
-// The lesser of two numbers.
-pub fn lesser(a: usize, b: usize) -> usize
-    ensures { result ≡ pick (leb a b) a b }
-{
-    if a <= b { a } else { b }
-}
-
 // 1 for a byte between two others, both included, else 0.
 pub fn mark(b: u8, low: u8, high: u8) -> u8
     ensures { result ≡ pick (within low high b) 1 0 }
 {
-    if b < low {
-        return 0;
-    }
-    if high < b {
-        return 0;
-    }
-    1
+    u8::from(low <= b && b <= high)
 }
 
 // Whether no byte lies between two values, both included. The loop has no branch on the bytes.
+// Stay two bounds, here and below: an inclusive range also holds whether it was run through.
 pub fn none_within(s: &[u8], low: u8, high: u8) -> bool
     ensures { result ≡ none_of (within low high) s.now }
 {
     let mut seen: u8 = 0;
-    let mut i: usize = 0;
-    while i < s.len() {
-        seen = seen | mark(s[i], low, high);
-        i += 1;
+    for b in s {
+        seen |= mark(*b, low, high);
     }
     seen == 0
 }
@@ -54,21 +37,24 @@ pub fn none_within(s: &[u8], low: u8, high: u8) -> bool
 pub fn count_before(s: &[u8], low: u8, high: u8) -> usize
     ensures { result ≡ count_before (within low high) s.now }
 {
-    if s.len() == 0 {
+    if s.is_empty() || mark(s[0], low, high) == 1 {
         return 0;
     }
-    if mark(s[0], low, high) == 1 {
-        return 0;
-    }
-    let passed = pass_blocks(s, low, high, 0, BLOCK);
-    let mut i = pass_blocks(s, low, high, passed, SMALL_BLOCK);
-    while i < s.len() {
-        if mark(s[i], low, high) == 1 {
+    let in_blocks = pass_blocks(s, low, high, 0, BLOCK);
+    let passed = pass_blocks(s, low, high, in_blocks, SMALL_BLOCK);
+    passed + first_within(&s[passed..], low, high)
+}
+
+// The same, one byte after the other.
+fn first_within(s: &[u8], low: u8, high: u8) -> usize
+    ensures { result ≡ count_before (within low high) s.now }
+{
+    for (i, b) in s.iter().enumerate() {
+        if mark(*b, low, high) == 1 {
             return i;
         }
-        i += 1;
     }
-    i
+    s.len()
 }
 
 // How many bytes there are in the whole blocks of 32 before the first byte that lies between two values, both included.
@@ -82,46 +68,12 @@ pub fn blocks_before(s: &[u8], low: u8, high: u8) -> usize
 }
 
 // Copies a slice into another from an index on, where it fits.
+// Stays beside the library's `copy_from_slice`: the clause is total, and that one asks for lengths that agree.
 pub fn copy(s: &[u8], out: &mut [u8], at: usize)
     ensures { out.new ≡ copied out.old at s.now }
 {
-    if out.len() < at {
-        return;
-    }
-    if out.len() - at < s.len() {
-        return;
-    }
-    copy_each(s, out, at)
-}
-
-// As `copy`, for a slice that is short: through an array, which overlaps neither slice, so that the compiler calls the
-// C library for it.
-pub fn copy_short(s: &[u8], out: &mut [u8], at: usize)
-    ensures { out.new ≡ copied out.old at s.now }
-{
-    if SHORT < s.len() {
-        copy(s, out, at);
-        return;
-    }
-    if out.len() < at {
-        return;
-    }
-    if out.len() - at < s.len() {
-        return;
-    }
-    let mut held = [0u8; SHORT];
-    copy_each(s, &mut held, 0);
-    copy_each(&held[..s.len()], out, at);
-}
-
-fn copy_each(s: &[u8], out: &mut [u8], at: usize)
-    requires { at + length s.now ≤ length out.old }
-    ensures { out.new ≡ splice out.old at s.now }
-{
-    let mut i: usize = 0;
-    while i < s.len() {
-        out[at + i] = s[i];
-        i += 1;
+    if at <= out.len() && s.len() <= out.len() - at {
+        out[at..at + s.len()].copy_from_slice(s);
     }
 }
 
@@ -130,23 +82,8 @@ fn copy_each(s: &[u8], out: &mut [u8], at: usize)
 pub fn shift(s: &mut [u8], by: usize, count: usize)
     ensures { s.new ≡ shifted s.old by count }
 {
-    if s.len() < by {
-        return;
-    }
-    if s.len() - by < count {
-        return;
-    }
-    shift_each(s, by, count)
-}
-
-fn shift_each(s: &mut [u8], by: usize, count: usize)
-    requires { by + count ≤ length s.old }
-    ensures { s.new ≡ take count (drop by s.old) ++ drop count s.old }
-{
-    let mut k: usize = 0;
-    while k < count {
-        s[k] = s[by + k];
-        k += 1;
+    if by <= s.len() && count <= s.len() - by {
+        s.copy_within(by..by + count, 0);
     }
 }
 
@@ -154,10 +91,8 @@ fn shift_each(s: &mut [u8], by: usize, count: usize)
 pub fn clear_from(s: &mut [u8], from: usize)
     ensures { s.new ≡ cleared s.old from }
 {
-    let mut i = from;
-    while i < s.len() {
-        s[i] = 0;
-        i += 1;
+    if from < s.len() {
+        s[from..].fill(0);
     }
 }
 
@@ -174,6 +109,7 @@ fn pass_blocks(s: &[u8], low: u8, high: u8, from: usize, size: usize) -> usize
     ensures size_value { result % size ≡ from % size }
 {
     let mut i = from;
+    // Stays a loop by index: it ends at the index where no whole block is left, which an iterator of blocks does not tell.
     while size <= s.len() - i {
         if !none_within(&s[i..i + size], low, high) {
             return i;

@@ -227,13 +227,6 @@ number_down w at left n b s h k e d =
     ap (λ (j : ℕ). number j (at + (left - 1)) s) p in
     ap₂ (λ (x y : ℕ). x + 256 * y) d e' ∙ sym r
 
--- at the end
-pub number_all : (w at left n : ℕ) (s : List ℕ) → left ≤ 0 → n ≡ number (w - left) (at + left) s → n ≡ number w at s
-number_all w at left n s h e =
-    let p : w - left ≡ w = omega arith in
-    let q : at + left ≡ at = omega arith in
-    e ∙ ap₂ (λ (i j : ℕ). number i j s) p q
-
 -- where at most k bytes have been read, the number is below what k bytes hold
 pub number_down_bound : (w at left n k : ℕ) (s : List ℕ) → Bytes s → w - left ≤ k → n ≡ number (w - left) (at + left) s
     → n < 256 ^ k

@@ -14,10 +14,8 @@ pub fn number_at(s: &[u8], at: usize, width: usize) -> u64
     ensures { result ≡ number (pick (leb width 8) width 8) at s.now }
 {
     let mut n: u64 = 0;
-    let mut left = lists::lesser(width, WIDEST);
-    while 0 < left {
-        left = left - 1;
-        n = byte_at(s, at, left) + 256 * n;
+    for k in (0..width.min(WIDEST)).rev() {
+        n = byte_at(s, at, k) + 256 * n;
     }
     n
 }
@@ -26,13 +24,10 @@ pub fn number_at(s: &[u8], at: usize, width: usize) -> u64
 fn byte_at(s: &[u8], at: usize, k: usize) -> u64
     ensures { result ≡ get_or s.now (at + k) 0 }
 {
-    if s.len() <= at {
-        return 0;
+    if at < s.len() && k < s.len() - at {
+        return u64::from(s[at + k]);
     }
-    if s.len() - at <= k {
-        return 0;
-    }
-    s[at + k] as u64
+    0
 }
 
 // The number of eight bytes from an index on, lowest first. A byte past the end counts as 0. Where the eight are there
@@ -40,16 +35,14 @@ fn byte_at(s: &[u8], at: usize, k: usize) -> u64
 pub fn eight_at(s: &[u8], at: usize) -> u64
     ensures { result ≡ number 8 at s.now }
 {
-    if s.len() < WIDEST {
-        return number_at(s, at, WIDEST);
-    }
-    if s.len() - WIDEST < at {
+    if s.len() < WIDEST || s.len() - WIDEST < at {
         return number_at(s, at, WIDEST);
     }
     four_at(s, at) + 0x1_0000_0000 * four_at(s, at + 4)
 }
 
 // The number of four bytes that are all there.
+// Stays a sum: `from_le_bytes` takes an array, and no function on the way to a stop has one (`tools/check-arrays`).
 fn four_at(s: &[u8], at: usize) -> u64
     requires { at + 4 ≤ length s.now }
     ensures { result ≡ number 4 at s.now }

@@ -6,6 +6,7 @@ use mathlib.Core.Bool.{Bool}
 use mathlib.Core.List.{List, [], ◌∷◌, ◌++◌, append_assoc, append-nil}
 use lib.ListN.{length, take, drop}
 use borrow.Author.Tests.{lt-ltb}
+use Rattle.std.specs.Prelude.{Result, Ok}
 use contract.Lifetimes.{Lfts}
 use denote.MutBor.{MutBor}
 use denote.Ref.{Bor}
@@ -15,12 +16,11 @@ use Rattle.lists.proofs.Cases.{exactly, both_exactly}
 use Rattle.lists.proofs.Machines.{ran_every}
 use Rattle.answer.specs.Answer.{Answer, result, refused}
 use Rattle.answer.specs.Draft.{written_means}
-use Rattle.answer.specs.declared.Written.{Written}
-use Rattle.answer.specs.declared.Written.TheVariants.{Length}
+use Rattle.answer.specs.declared.Refusal.{Refusal}
 use Rattle.command.specs.Entries.{Entry, entry, items, list_bytes, head_of, Extent, found}
 use Rattle.command.specs.Answers.{found_means, part_of}
 use Rattle.command.specs.Parts.{StandsAt, start_of}
-use Rattle.command.specs.declared.entries.Found.{Found}
+use Rattle.command.specs.declared.entries.Entry.{Entry as FoundEntry}
 use Rattle.command.proofs.Extents.{nth_at}
 use Rattle.command.proofs.PartLaws.{stands_as, stands_exactly}
 use Rattle.command.proofs.Table.{entry_data}
@@ -29,7 +29,7 @@ use Rattle.reply.specs.Replies.{Reply, reply, reply_in, ReplyOutline, reply_outl
 use Rattle.reply.specs.Replies.{reply_answer}
 use Rattle.reply.specs.Table.{IsReply, ReplyJudged, ItemJudged, item_refused, absent_item, present_item, ItemData}
 use Rattle.reply.specs.Table.{data_of, no_data, StatusWritten, ItemWritten}
-use Rattle.reply.specs.declared.ReplyRead.{ReplyRead}
+use Rattle.reply.specs.declared.Reply.{Reply as ReadReply}
 use Rattle.reply.proofs.Table.{is_reply_lem, read_by_table, item_by_table, status_written_by_table}
 use Rattle.reply.proofs.Table.{item_written_by_table}
 use Rattle.reply.proofs.StatusLaws.{sound_byte}
@@ -42,21 +42,21 @@ use Rattle.reply.proofs.write_item.Reads as item-reads
 
 -- ---- a call of each
 
-abbrev pub CalledRead : Lfts 1 → (contents : Bor (List ℕ)) → ReplyRead → Type 0
+abbrev pub CalledRead : Lfts 1 → (contents : Bor (List ℕ)) → Result ReadReply Refusal → Type 0
 CalledRead κs s r = read-reads.Learnt κs (s, tt) r (s, tt)
 
-abbrev pub CalledNth : Lfts 1 → (contents : Bor (List ℕ)) (n : ℕ) → Found → Type 0
+abbrev pub CalledNth : Lfts 1 → (contents : Bor (List ℕ)) (n : ℕ) → Result FoundEntry Refusal → Type 0
 CalledNth κs s n r = nth-reads.Learnt κs (s, (n, tt)) r (s, (n, tt))
 
 abbrev pub CalledData : Lfts 1 → (contents : Bor (List ℕ)) (n : ℕ) → Bor (List ℕ) → Type 0
 CalledData κs s n r = data-reads.Learnt κs (s, (n, tt)) r (s, (n, tt))
 
 -- Of a writer, with the output before and after the call.
-abbrev pub CalledStatus : Lfts 1 → ℕ → (out : MutBor (List ℕ)) → Written → (last : MutBor (List ℕ)) → Type 0
+abbrev pub CalledStatus : Lfts 1 → ℕ → (out : MutBor (List ℕ)) → Result ℕ Refusal → (last : MutBor (List ℕ)) → Type 0
 CalledStatus κs b out r last = status-reads.Learnt κs (b, (out, tt)) r (b, (last, tt))
 
 abbrev pub CalledItem : Lfts 3 → (prior : Bor (List ℕ)) (byte : ℕ) (body : Bor (List ℕ)) (out : MutBor (List ℕ))
-    → Written → (last : MutBor (List ℕ)) → Type 0
+    → Result ℕ Refusal → (last : MutBor (List ℕ)) → Type 0
 CalledItem κs s b d out r last = item-reads.Learnt κs (s, (b, (d, (out, tt)))) r (s, (b, (d, (last, tt))))
 
 -- ---- exactly when
@@ -84,12 +84,14 @@ data_given s n = given ((item_by_table s n (nth_item s n)).0 refl)
     given (present_item {start = start} j e) = (start, e.here.body, data_of j e)
 
 -- `read_reply` gives each answer, a status and the number of items or 4, 8, 7, exactly when the table gives it.
-pub read_exactly : (κs : Lfts 1) (s : Bor (List ℕ)) (r : ReplyRead) → CalledRead κs s r → (a : Answer ReplyOutline)
+pub read_exactly : (κs : Lfts 1) (s : Bor (List ℕ)) (r : Result ReadReply Refusal) → CalledRead κs s r
+    → (a : Answer ReplyOutline)
     → Exactly (reply_means r ≡ a) (ReplyJudged s.now a)
 read_exactly κs s r k a = exactly k (read_by_table s.now a)
 
 -- `nth_item` gives each answer, an item with its place or 4, 8, 7, 15, exactly when the table gives it.
-pub nth_exactly : (κs : Lfts 1) (s : Bor (List ℕ)) (n : ℕ) (r : Found) → CalledNth κs s n r → (a : Answer Extent)
+pub nth_exactly : (κs : Lfts 1) (s : Bor (List ℕ)) (n : ℕ) (r : Result FoundEntry Refusal) → CalledNth κs s n r
+    → (a : Answer Extent)
     → Exactly (found_means r ≡ a) (ItemJudged s.now n a)
 nth_exactly κs s n r k a = exactly k (item_by_table s.now n a)
 
@@ -102,13 +104,14 @@ data_exactly κs s n r k =
 
 -- `write_status` gives each answer, 1 as the length or 8, 1 as refusals, and leaves the output, exactly when the table
 -- says so.
-pub status_exactly : (κs : Lfts 1) (b : ℕ) (out last : MutBor (List ℕ)) (r : Written) → CalledStatus κs b out r last
+pub status_exactly : (κs : Lfts 1) (b : ℕ) (out last : MutBor (List ℕ)) (r : Result ℕ Refusal)
+    → CalledStatus κs b out r last
     → (a : Answer ℕ) (o : List ℕ) → Exactly ((written_means r ≡ a) × (last.now ≡ o)) (StatusWritten b out.now a o)
 status_exactly κs b out last r k a o = both_exactly k (status_written_by_table b out.now a o)
 
 -- `write_item` gives each answer, a length or 4, 8, 7, 2, 1, and leaves the output, exactly when the table says so.
 pub item_exactly : (κs : Lfts 3) (s : Bor (List ℕ)) (b : ℕ) (d : Bor (List ℕ)) (out last : MutBor (List ℕ))
-    (r : Written) → CalledItem κs s b d out r last → (a : Answer ℕ) (o : List ℕ)
+    (r : Result ℕ Refusal) → CalledItem κs s b d out r last → (a : Answer ℕ) (o : List ℕ)
     → Exactly ((written_means r ≡ a) × (last.now ≡ o)) (ItemWritten s.now b d.now out.now a o)
 item_exactly κs s b d out last r k a o =
     both_exactly (k.0, k.1.0) (item_written_by_table s.now b d.now out.now a o)
@@ -117,13 +120,13 @@ item_exactly κs s b d out last r k a o =
 
 -- A reply that a call of `write_status` with this byte wrote: the first bytes of its output, as many as it answered.
 pub data Begun (b : ℕ) : List ℕ → Type 0 where
-  begun : (κs : Lfts 1) (out last : MutBor (List ℕ)) (n : ℕ) → CalledStatus κs b out (Length n) last
+  begun : (κs : Lfts 1) (out last : MutBor (List ℕ)) (n : ℕ) → CalledStatus κs b out (Ok n) last
       → Begun b (take n last.now)
 
 -- A call of `write_item` that was given the bytes u as the contents so far, and wrote the bytes v, n of them.
 pub data Added : (u : List ℕ) → Entry → (n : ℕ) → (v : List ℕ) → Type 0 where
   added : (κs : Lfts 3) (prior body : Bor (List ℕ)) (out last : MutBor (List ℕ)) (b n : ℕ)
-      → CalledItem κs prior b body out (Length n) last
+      → CalledItem κs prior b body out (Ok n) last
       → Added prior.now (entry b body.now) n (take n last.now)
 
 -- A run: `write_status`, and then `write_item` for each item, each given the bytes that the last one wrote.
@@ -138,15 +141,16 @@ pub record ReadsBack (b : ℕ) (es : List Entry) (w : List ℕ) : Type 0 where
   pub previous : ℕ
   pub state : ℕ
   pub status_is : StatusByte b (status toggle previous state)
-  pub reads : (κs : Lfts 1) (s : Bor (List ℕ)) (r : ReplyRead) → s.now ≡ w → CalledRead κs s r
+  pub reads : (κs : Lfts 1) (s : Bor (List ℕ)) (r : Result ReadReply Refusal) → s.now ≡ w → CalledRead κs s r
       → reply_means r ≡ result (reply_outline toggle previous state (length es))
   pub finds : (before : List Entry) (e : Entry) (after : List Entry) → es ≡ before ++ (e ∷ after)
-      → (κs : Lfts 1) (s : Bor (List ℕ)) (r : Found) → s.now ≡ w → CalledNth κs s (length before) r
+      → (κs : Lfts 1) (s : Bor (List ℕ)) (r : Result FoundEntry Refusal) → s.now ≡ w → CalledNth κs s (length before) r
       → found_means r ≡ result (found e.byte (1 + length (list_bytes items before) + 2) (length e.body))
   pub hands : (before : List Entry) (e : Entry) (after : List Entry) → es ≡ before ++ (e ∷ after)
       → (κs : Lfts 1) (s r : Bor (List ℕ)) → s.now ≡ w → CalledData κs s (length before) r
       → StandsAt s r (1 + length (list_bytes items before) + 2) e.body
-  pub ends : (n : ℕ) → length es ≤ n → (κs : Lfts 1) (s : Bor (List ℕ)) (r : Found) → s.now ≡ w → CalledNth κs s n r
+  pub ends : (n : ℕ) → length es ≤ n → (κs : Lfts 1) (s : Bor (List ℕ)) (r : Result FoundEntry Refusal)
+      → s.now ≡ w → CalledNth κs s n r
       → found_means r ≡ refused 15
 
 begun_is : {b : ℕ} {w : List ℕ} → Begun b w

@@ -14,10 +14,9 @@ use Rattle.lists.proofs.Splices.{length-splice, splice_next, set-splice}
 use Rattle.command.specs.Entries.{items, Parsed, unsound, sound, parse, nth_in, Extent}
 use Rattle.command.specs.Answers.{entry_count, fails_at, counted, InContents}
 use Rattle.command.proofs.Extents.{within_nth}
-use Rattle.reply.specs.Status.{status, status_in, status_means, StatusParts}
+use Rattle.reply.specs.Status.{status, status_in, StatusParts}
 use Rattle.reply.specs.Replies.{reply, head_in, after_status, reply_in, reply_outline, reply_answer, item_of, nth_item}
 use Rattle.reply.specs.Replies.{status_draft, item_bytes, with_item, after_reply, item_draft, Reply}
-use Rattle.reply.specs.declared.status.StatusRead.{StatusRead}
 
 -- ---- the status at the head
 
@@ -31,12 +30,11 @@ unfolding head_in
 head_is [] h e = absurd (h refl)
 head_is (b ∷ s) h e = e
 
--- contents as a reply, where a call's result x is found to be y
-pub head_status : (s : List ℕ) {x : StatusRead} (y : StatusRead) → status_means x ≡ head_in s → x ≡ y
-    → reply_in s ≡ after_status (status_means y) (parse items (drop 1 s) 0)
+-- contents as a reply, by what their head is answered
+pub headed : (s : List ℕ) {a : Answer StatusParts} → a ≡ head_in s
+    → reply_in s ≡ after_status a (parse items (drop 1 s) 0)
 unfolding reply_in
-head_status s y d e =
-    ap (λ (a : Answer StatusParts). after_status a (parse items (drop 1 s) 0)) (sym d ∙ ap status_means e)
+headed s e = ap (λ (a : Answer StatusParts). after_status a (parse items (drop 1 s) 0)) (sym e)
 
 -- ---- reading
 

@@ -18,12 +18,9 @@ use Rattle.reply.specs.Status.{bit_six, no_state, PartsJudged, byte_named, have_
 
 -- ---- names and numbers
 
-pub not_state : (n k : ℕ) → n ≡ k → is_state k ≡ false → false ≡ is_state n
-not_state n k e h = sym (ap is_state e ∙ h)
-
-pub other_state : (n : ℕ) → (n ≡ 4 → ⊥) → leb n 9 ≡ is_state n
+pub no_name : (n : ℕ) → ((n ≡ 4 → ⊥) → 9 < n) → is_state n ≡ false
 unfolding is_state
-other_state n h = simp (ne_eqb n 4 h)
+no_name n h = by_bool (eqb n 4) (λ y. simp y) (λ y. simp y (lt-leb n 9 (h (eqb-false n 4 y))))
 
 state_bound : (s : ℕ) → is_state s ≡ true → s ≤ 9
 unfolding is_state
@@ -72,6 +69,24 @@ named_previous bad = omega arith
 named_previous not_ready = omega arith
 
 -- ---- parts
+
+-- what a status of three parts is answered, by what its numbers name
+pub of_named : (t : Bool) (p : Previous) (s : State) {n k : ℕ} → previous_number p ≡ n → state_number s ≡ k
+    → result (status t (previous_number p) (state_number s)) ≡ status_of t n k
+unfolding status_of
+of_named t p s {n} e f =
+    sym (simp (le-leb (previous_number p) 3 (named_previous p), named_state s))
+    ∙ ap (λ (x : ℕ). status_of t x (state_number s)) e ∙ ap (status_of t n) f
+
+pub no_result : (t : Bool) (n k : ℕ) → 3 < n → refused 8 ≡ status_of t n k
+unfolding status_of
+no_result t n k h = simp (lt-leb n 3 h)
+
+pub result_alone : (t : Bool) (p : Previous) {n : ℕ} (k : ℕ) → previous_number p ≡ n → is_state k ≡ false
+    → refused 8 ≡ status_of t n k
+unfolding status_of
+result_alone t p k e h =
+    sym (simp (le-leb (previous_number p) 3 (named_previous p), h)) ∙ ap (λ (x : ℕ). status_of t x k) e
 
 -- what parts are told
 sound_parts : (t : Bool) (p s : ℕ) (u : StatusParts) → status_of t p s ≡ result u

@@ -1,13 +1,13 @@
 -- Replies: what contents are as a reply, and what is written (document 01, "Commands and replies").
-use Rattle.std.specs.Prelude.{ℕ, Bool, List, [], ◌∷◌, ◌++◌, leb, length, drop}
+use Rattle.std.specs.Prelude.{ℕ, Bool, List, [], ◌∷◌, ◌++◌, leb, length, drop, Result, Ok, Err}
 use Rattle.lists.specs.Choice.{pick}
 use Rattle.answer.specs.Answer.{Answer, result, refused, through, and_then}
 use Rattle.answer.specs.Draft.{Draft}
 use Rattle.answer.specs.Refusals.{number_of}
 use Rattle.command.specs.Entries.{Entry, items, Parsed, unsound, sound, parse, nth_of, Extent}
-use Rattle.reply.specs.Status.{status, status_in, StatusParts}
-use Rattle.reply.specs.declared.ReplyRead.{ReplyRead}
-use Rattle.reply.specs.declared.ReplyRead.TheVariants.{Reply as ReadReply, Refused}
+use Rattle.answer.specs.declared.Refusal.{Refusal}
+use Rattle.reply.specs.Status.{status, status_in, StatusParts, previous_number, state_number}
+use Rattle.reply.specs.declared.Reply.{Reply as ReadReply}
 
 -- ---- reading
 
@@ -39,9 +39,11 @@ reply_in s = after_status (head_in s) (parse items (drop 1 s) 0)
 pub data ReplyOutline : Type 0 where
   reply_outline : (toggle : Bool) (previous state count : ℕ) → ReplyOutline
 
-abbrev pub reply_means : ReplyRead → Answer ReplyOutline
-reply_means (ReadReply s n) = result (reply_outline s.toggle s.previous s.state n)
-reply_means (Refused why) = refused (number_of why)
+abbrev pub reply_means : Result ReadReply Refusal → Answer ReplyOutline
+reply_means (Ok r) =
+    let s = r.status in
+    result (reply_outline s.toggle (previous_number s.previous) (state_number s.state) r.items)
+reply_means (Err why) = refused (number_of why)
 
 abbrev pub reply_outline_of : Reply → ReplyOutline
 reply_outline_of (reply t p s es) = reply_outline t p s (length es)

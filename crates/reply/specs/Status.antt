@@ -1,26 +1,23 @@
 -- The status byte (document 01, "Commands and replies").
-use Rattle.std.specs.Prelude.{ℕ, ◌+◌, ◌*◌, ◌/◌, ◌%◌, ◌≡◌, Bool, false, List, [], ◌∷◌, leb, ltb, eqb}
+use Rattle.std.specs.Prelude.{ℕ, ◌+◌, ◌*◌, ◌/◌, ◌%◌, ◌≡◌, ◌<◌, Bool, false, List, [], ◌∷◌, leb, ltb, eqb}
+use Rattle.std.specs.Prelude.{Result, Ok, Err, MatchResult}
 use Rattle.lists.specs.Choice.{pick}
 use Rattle.answer.specs.Answer.{Answer, result, refused}
 use Rattle.answer.specs.Refusals.{number_of}
+use Rattle.answer.specs.declared.Refusal.{Refusal}
+use Rattle.answer.specs.declared.Refusal.TheVariants.{BadStatus}
+pub use Rattle.reply.specs.declared.status.State.{State}
+pub use Rattle.reply.specs.declared.status.Previous.{Previous}
 use Rattle.reply.specs.declared.status.Status.{Status}
-use Rattle.reply.specs.declared.status.StatusRead.{StatusRead}
-use Rattle.reply.specs.declared.status.StatusRead.TheVariants.{Status as ReadStatus, Refused}
+pub use Rattle.reply.specs.declared.status.State.TheVariants.{Error as error, Ready as ready, Idle as idle}
+pub use Rattle.reply.specs.declared.status.State.TheVariants.{HaveId as have_id, InUse as in_use, Pause as pause}
+pub use Rattle.reply.specs.declared.status.State.TheVariants.{Finish as finish, Manual as manual, Offline as offline}
+pub use Rattle.reply.specs.declared.status.Previous.TheVariants.{Ok as ok, Reject as reject, Bad as bad}
+pub use Rattle.reply.specs.declared.status.Previous.TheVariants.{NotReady as not_ready}
 
 -- ---- document 01's names and their numbers
 
 -- A machine's state.
-pub data State : Type 0 where
-  error : State
-  ready : State
-  idle : State
-  have_id : State
-  in_use : State
-  pause : State
-  finish : State
-  manual : State
-  offline : State
-
 abbrev pub state_number : State → ℕ
 state_number error = 0
 state_number ready = 1
@@ -33,12 +30,6 @@ state_number manual = 8
 state_number offline = 9
 
 -- What a machine made of the previous frame.
-pub data Previous : Type 0 where
-  ok : Previous
-  reject : Previous
-  bad : Previous
-  not_ready : Previous
-
 abbrev pub previous_number : Previous → ℕ
 previous_number ok = 0
 previous_number reject = 1
@@ -61,15 +52,22 @@ pub data StatusParts : Type 0 where
   status : (toggle : Bool) (previous state : ℕ) → StatusParts
 
 abbrev pub parts_of : Status → StatusParts
-parts_of s = status s.toggle s.previous s.state
+parts_of s = status s.toggle (previous_number s.previous) (state_number s.state)
 
-abbrev pub status_means : StatusRead → Answer StatusParts
-status_means (ReadStatus s) = result (parts_of s)
-status_means (Refused why) = refused (number_of why)
+abbrev pub status_means : Result Status Refusal → Answer StatusParts
+status_means (Ok s) = result (parts_of s)
+status_means (Err why) = refused (number_of why)
 
 -- Whether a number is a state's: 0 to 3, or 5 to 9.
 unfoldable pub is_state : ℕ → Bool
 is_state n = pick (eqb n 4) false (leb n 9)
+
+-- What a number is answered that is to name a state, and one that is to name a result of the previous frame.
+abbrev pub NamesState : ℕ → Result State Refusal → Type 0
+NamesState n r = MatchResult r (λ s. state_number s ≡ n) (λ why. (why ≡ BadStatus) × (is_state n ≡ false))
+
+abbrev pub NamesPrevious : ℕ → Result Previous Refusal → Type 0
+NamesPrevious n r = MatchResult r (λ p. previous_number p ≡ n) (λ why. (why ≡ BadStatus) × (3 < n))
 
 -- A status of three parts: 8 where the result of the previous frame or the state has no name.
 unfoldable pub status_of : (toggle : Bool) (previous state : ℕ) → Answer StatusParts

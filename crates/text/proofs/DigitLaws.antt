@@ -1,18 +1,16 @@
 -- The laws of digits: how many there are, and how they are written.
-use mathlib.Core.Path.{◌≡◌, sym, ap, ◌∙◌}
+use mathlib.Core.Path.{◌≡◌, ap, ◌∙◌}
 use mathlib.Core.List.{List, [], ◌∷◌, ◌++◌, append_assoc}
 use Prim.Native.Nat.{ℕ, zero, suc, ◌+◌, ◌/◌, ◌%◌, ◌^◌, ◌≤◌, ◌<◌}
 use native.Mathlib.Nat.{mod-lt, div-lt_self, div-lt_iff_lt-mul, le-div_iff_mul-le, one-le-pow}
 use native.Mathlib.Omega.{arith}
-use lib.ListN.{length, set, length-append}
+use lib.ListN.{length, length-append}
 use lib.Dec.{ltb}
 use borrow.Author.Tests.{lt-ltb, le-ltb, ltb-true, ltb-false}
 use Rattle.lists.proofs.Cases.{by_bool}
-use Rattle.text.specs.Digits.{decimal_within, decimal, hex, hex_digit}
+use Rattle.text.specs.Digits.{decimal_within, decimal, hex}
 use Rattle.text.specs.Private.{pair, four}
 use Rattle.text.specs.Lines.{field, hex_field}
-use Rattle.text.specs.Writing.{Wrote}
-use Rattle.text.proofs.Writing.{wrote_byte, wrote_pair, wrote_as, next}
 
 pub last_digit : (n : ℕ) → n % 10 < 10
 last_digit n = mod-lt n (omega arith)
@@ -119,28 +117,8 @@ least_digits (suc k) n h =
 
 -- ---- writing them
 
-pub wrote_small : (out : List ℕ) (at v : ℕ) → v < 10 → at + length (decimal v) ≤ length out
-    → Wrote out at (decimal v) (set out at (48 + v)) (at + 1)
-wrote_small out at v h room =
-    wrote_as (sym (decimal_small v h)) (wrote_byte out at (48 + v) (omega (arith, length_small v h)))
-
-pub wrote_hundreds : (out : List ℕ) (at v : ℕ) {out₁ out₂ : List ℕ} {a e : ℕ} → 100 ≤ v
-    → at + length (decimal v) ≤ length out → Wrote out at (decimal (v / 100)) out₁ a
-    → Wrote out₁ a (pair (v % 100)) out₂ e → Wrote out at (decimal v) out₂ e
-wrote_hundreds out at v h room p q =
-    wrote_as (sym (decimal_hundreds v h)) (next p q (omega (arith, p.ends, length_hundreds v h)))
-
-pub wrote_fours : (out : List ℕ) (at v : ℕ) {out₁ out₂ : List ℕ} {a e : ℕ} → 10000 ≤ v
-    → at + length (decimal v) ≤ length out → Wrote out at (decimal (v / 10000)) out₁ a
-    → Wrote out₁ a (four (v % 10000)) out₂ e → Wrote out at (decimal v) out₂ e
-wrote_fours out at v h room p q =
-    wrote_as (sym (decimal_fours v h)) (next p q (omega (arith, p.ends, length_fours v h)))
-
-pub wrote_hex : (out : List ℕ) (at v x y : ℕ) → at + 2 ≤ length out → x ≡ hex_digit (v / 16) → y ≡ hex_digit (v % 16)
-    → Wrote out at (hex v) (set (set out at x) (at + 1) y) (at + 2)
-wrote_hex out at v x y room p q =
-    let e : x ∷ y ∷ [] ≡ hex v = cc (p, q) in
-    wrote_as e (wrote_pair out at x y room)
+-- What is put for a number, digits first and the last ones after them.
+pub ruleset written = (decimal_small, decimal-pair, decimal_hundreds, decimal_fours, length_small, length-pair, length_hundreds, length_fours, append_assoc, length-append)
 
 -- a word and its number
 pub length-field : (word : List ℕ) (v : ℕ) → length (field word v) ≡ length word + length (decimal v)
@@ -156,16 +134,9 @@ field_32 word v h = omega (arith, length-field word v, decimal_bound 9 v (omega 
 pub field_short : (word : List ℕ) (v : ℕ) → v < 1000 → length (field word v) ≤ length word + 3
 field_short word v h = omega (arith, length-field word v, decimal_bound 2 v (omega arith))
 
-pub wrote_field : (out : List ℕ) (at : ℕ) (word : List ℕ) (v : ℕ) {out₁ out₂ : List ℕ} {a e : ℕ}
-    → at + length (field word v) ≤ length out
-    → Wrote out at word out₁ a → Wrote out₁ a (decimal v) out₂ e
-    → Wrote out at (field word v) out₂ e
-unfolding field
-wrote_field out at word v room p q = next p q (omega (arith, p.ends, length-field word v, room))
-
-pub wrote_hex_field : (out : List ℕ) (at : ℕ) (word : List ℕ) (v : ℕ) {out₁ out₂ : List ℕ} {a e : ℕ}
-    → at + (length word + 2) ≤ length out
-    → Wrote out at word out₁ a → Wrote out₁ a (hex v) out₂ e
-    → Wrote out at (hex_field word v) out₂ e × (e ≡ at + (length word + 2))
+pub length-hex_field : (word : List ℕ) (b : ℕ) → length (hex_field word b) ≡ length word + 2
 unfolding hex_field
-wrote_hex_field out at word v room p q = (next p q (omega (arith, p.ends)), omega (arith, p.ends, q.ends))
+length-hex_field word b = length-append word (hex b)
+
+-- What is put for a line, one word and its number after the other.
+pub ruleset fields = (field_64, field_32, field_short, length-hex_field, append_assoc, length-append)

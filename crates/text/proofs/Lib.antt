@@ -1,4 +1,3 @@
-pub mod Writing
 pub mod DigitLaws
 pub mod Spelling
 pub mod StrayCounts

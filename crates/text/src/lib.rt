@@ -2,23 +2,26 @@
 // each answer of the line reader, and one of totals.
 #![tactic(auto)]
 
+mod buffer;
 mod digits;
 
-ghost use Rattle.std.specs.Prelude.{◌≡◌, ◌+◌, ◌≤◌, length};
+ghost use Rattle.std.specs.Prelude.{◌≡◌, ◌+◌, ◌≤◌, [], ◌++◌, length};
 ghost use Rattle.answer.specs.Answer.{result as answered};
 ghost use Rattle.answer.specs.Draft.{draft_answer, draft_out, written_means};
 ghost use Rattle.answer.specs.Refusals.{number_of};
 ghost use Rattle.command.specs.Stop.{stops_workout};
 ghost use Rattle.candidate.specs.Outcome.{told_means, capacity};
+ghost use Rattle.frame.specs.Frame.{frame_of};
 ghost use Rattle.line.specs.Answers.{located_outcome};
 ghost use Rattle.text.specs.Digits.{hex};
-ghost use Rattle.text.specs.Lines.{field, hex_field, stop_text, head, call_line, totals, refused_body, standard_body};
-ghost use Rattle.text.specs.Lines.{extended_body};
-ghost use Rattle.text.specs.Writing.{Wrote, line_room, totals_room};
+ghost use Rattle.text.specs.Lines.{field, hex_field, stop_text, head, call_line, totals, body, refused_body};
+ghost use Rattle.text.specs.Writing.{line_room, totals_room};
 ghost use Rattle.text.specs.Private.{head_room, body_room};
 
-use answer::{Refusal, Written};
+use answer::Refusal;
+use buffer::Buffer;
 use candidate::Told;
+use frame::Header;
 
 // The room that the line of any answer fits in. That of an extended frame can need all of it.
 pub const LINE_ROOM: usize = 77;
@@ -34,15 +37,14 @@ pub fn hex_digits(b: u8) -> [u8; 2]
 }
 
 // Writes the line of an answer, the n-th, with its position, or nothing where it is none. The contents are the first
-// bytes of an array, as many as the answer says. Refusal 1. A line that could be too long for the output is made in an
-// array first.
+// bytes of an array, as many as the answer says. Refusal 1.
 pub fn write_answer(
     told: Told,
     position: u32,
     contents: &[u8; 118],
     n: u64,
     out: &mut [u8],
-) -> Written
+) -> Result<usize, Refusal>
     ensures result_value { written_means result
         ≡ draft_answer (answered (call_line n (located_outcome (told_means told) position contents.now)))
         (length out.old) }
@@ -51,170 +53,140 @@ pub fn write_answer(
         out.old }
     ensures length_bound { length (call_line n (located_outcome (told_means told) position contents.now)) ≤ line_room }
 {
-    if out.len() < LINE_ROOM {
-        let mut line = [0u8; LINE_ROOM];
-        let len = put_told(told, position, contents, n, &mut line, 0);
-        return write_bytes(&line[..len], out);
-    }
-    Written::Length(put_told(told, position, contents, n, out, 0))
+    let mut line = Buffer::new();
+    line.put_told(told, position, contents, n);
+    write_bytes(line.as_slice(), out)
 }
 
 // Writes the totals. Refusal 1.
-pub fn write_totals(frames: u64, refusals: u64, strays: u64, out: &mut [u8]) -> Written
+pub fn write_totals(
+    frames: u64,
+    refusals: u64,
+    strays: u64,
+    out: &mut [u8],
+) -> Result<usize, Refusal>
     ensures result_value { written_means result
         ≡ draft_answer (answered (totals frames refusals strays)) (length out.old) }
     ensures out_after { out.new ≡ draft_out (answered (totals frames refusals strays)) out.old }
     ensures length_bound { length (totals frames refusals strays) ≤ totals_room }
 {
-    if out.len() < TOTALS_ROOM {
-        let mut line = [0u8; TOTALS_ROOM];
-        let len = put_counts(frames, refusals, strays, &mut line, 0);
-        return write_bytes(&line[..len], out);
-    }
-    Written::Length(put_counts(frames, refusals, strays, out, 0))
+    let mut line = Buffer::new();
+    line.put_totals(frames, refusals, strays);
+    write_bytes(line.as_slice(), out)
 }
 
 // Writes bytes that stand elsewhere. Refusal 1.
-pub fn write_bytes(s: &[u8], out: &mut [u8]) -> Written
+#[tactic(auto, unfolding(answer::specs::Draft::draft_answer, answer::specs::Draft::draft_out))]
+pub fn write_bytes(s: &[u8], out: &mut [u8]) -> Result<usize, Refusal>
     ensures result_value { written_means result ≡ draft_answer (answered s.now) (length out.old) }
     ensures out_after { out.new ≡ draft_out (answered s.now) out.old }
 {
     if out.len() < s.len() {
-        return Written::Refused(Refusal::NoRoom);
+        return Err(Refusal::NoRoom);
     }
-    Written::Length(put_bytes(s, out, 0))
+    out[..s.len()].copy_from_slice(s);
+    Ok(s.len())
 }
 
-fn put_told(told: Told, position: u32, contents: &[u8], n: u64, out: &mut [u8], at: usize) -> usize
-    requires contents_len_bound { length contents.now ≤ capacity }
-    requires line_room_in_bounds { at + line_room ≤ length out.old }
-    ensures wrote { Wrote out.old at
-        (call_line n (located_outcome (told_means told) position contents.now)) out.new result }
-    ensures upper_bound { result ≤ at + line_room }
-{
-    match told {
-        Told::Nothing => at,
-        Told::Refused(why) => {
-            let a = put_head(n, position, out, at);
-            put_refused(why, out, a)
+#[tactic(auto, using(crate::proofs::DigitLaws::fields), unfolding(crate::specs::Lines::head, crate::specs::Lines::refused_body, crate::specs::Lines::standard_body, crate::specs::Lines::extended_body, crate::specs::Lines::totals))]
+impl Buffer {
+    #[tactic(auto, using(crate::proofs::DigitLaws::fields), unfolding(frame::specs::Answers::frame_read))]
+    fn put_told(&mut self, told: Told, position: u32, contents: &[u8], n: u64)
+        requires contents_len_bound { length contents.now ≤ capacity }
+        requires room { length self.old + line_room ≤ totals_room }
+        ensures put { self.new ≡ self.old ++ call_line n (located_outcome (told_means told) position contents.now) }
+        ensures upper_bound { length self.new ≤ length self.old + line_room }
+    {
+        let Some(read) = told else {
+            return;
+        };
+        self.put_head(n, position);
+        match read {
+            Ok(outline) => {
+                let part = command::entries::part(contents, 0, outline.len);
+                self.put_frame(outline.header, part);
+            }
+            Err(why) => self.put_refused(why),
         }
-        Told::Standard { len } => {
-            let a = put_head(n, position, out, at);
-            put_standard(command::entries::part(contents, 0, len), out, a)
+    }
+
+    // The head of a line: its number and its position.
+    fn put_head(&mut self, n: u64, position: u32)
+        requires { length self.old + head_room ≤ totals_room }
+        ensures put { self.new ≡ self.old ++ head n position }
+        ensures upper_bound { length self.new ≤ length self.old + head_room }
+    {
+        self.put_field(b"n=", n);
+        self.put_field(b" at=", u64::from(position));
+    }
+
+    // The bodies, of a refusal and of a frame.
+    fn put_refused(&mut self, why: Refusal)
+        requires { length self.old + body_room ≤ totals_room }
+        ensures put { self.new ≡ self.old ++ refused_body (number_of why) }
+        ensures upper_bound { length self.new ≤ length self.old + body_room }
+    {
+        self.put_field(b" kind=refused code=", u64::from(why.number()));
+        self.put(b"\n");
+    }
+
+    fn put_frame(&mut self, header: Header, contents: &[u8])
+        requires contents_len_bound { length contents.now ≤ capacity }
+        requires room { length self.old + body_room ≤ totals_room }
+        ensures put { self.new ≡ self.old ++ body (answered (frame_of header contents.now)) }
+        ensures upper_bound { length self.new ≤ length self.old + body_room }
+    {
+        let len = contents.len() as u64;
+        match header {
+            Header::Plain => self.put_field(b" kind=std len=", len),
+            Header::Addressed { to, from } => {
+                self.put_hex_field(b" kind=ext to=", to);
+                self.put_hex_field(b" from=", from);
+                self.put_field(b" len=", len);
+            }
         }
-        Told::Extended { to, from, len } => {
-            let a = put_head(n, position, out, at);
-            put_extended(to, from, command::entries::part(contents, 0, len), out, a)
+        self.put_stop(contents);
+    }
+
+    fn put_totals(&mut self, frames: u64, refusals: u64, strays: u64)
+        requires { self.old ≡ [] }
+        ensures { self.new ≡ totals frames refusals strays }
+    {
+        self.put_field(b"frames=", frames);
+        self.put_field(b" refused=", refusals);
+        self.put_field(b" loose=", strays);
+        self.put(b"\n");
+    }
+
+    // The end of a frame's body.
+    fn put_stop(&mut self, contents: &[u8])
+        requires { length self.old + 10 ≤ totals_room }
+        ensures put { self.new ≡ self.old ++ stop_text (stops_workout contents.now) }
+        ensures upper_bound { length self.new ≤ length self.old + 10 }
+    {
+        if command::stop::stops_workout(contents) {
+            self.put(b" stop=yes\n");
+        } else {
+            self.put(b" stop=no\n");
         }
     }
-}
 
-// The head of a line: its number and its position.
-fn put_head(n: u64, position: u32, out: &mut [u8], at: usize) -> usize
-    requires { at + head_room ≤ length out.old }
-    ensures wrote { Wrote out.old at (head n position) out.new result }
-    ensures upper_bound { result ≤ at + head_room }
-{
-    let a = put_field(b"n=", n, out, at);
-    put_short_field(b" at=", position as u64, out, a)
-}
-
-// The bodies: of a refusal, of a standard frame, of an extended frame.
-fn put_refused(why: Refusal, out: &mut [u8], at: usize) -> usize
-    requires { at + body_room ≤ length out.old }
-    ensures wrote { Wrote out.old at (refused_body (number_of why)) out.new result }
-    ensures upper_bound { result ≤ at + body_room }
-{
-    let a = put_field(b" kind=refused code=", wide(why.number()), out, at);
-    put_bytes(b"\n", out, a)
-}
-
-fn put_standard(contents: &[u8], out: &mut [u8], at: usize) -> usize
-    requires contents_len_bound { length contents.now ≤ capacity }
-    requires body_room_in_bounds { at + body_room ≤ length out.old }
-    ensures wrote { Wrote out.old at (standard_body contents.now) out.new result }
-    ensures upper_bound { result ≤ at + body_room }
-{
-    let a = put_short_field(b" kind=std len=", contents.len() as u64, out, at);
-    put_stop(contents, out, a)
-}
-
-fn put_extended(to: u8, from: u8, contents: &[u8], out: &mut [u8], at: usize) -> usize
-    requires contents_len_bound { length contents.now ≤ capacity }
-    requires body_room_in_bounds { at + body_room ≤ length out.old }
-    ensures wrote { Wrote out.old at (extended_body to from contents.now) out.new result }
-    ensures upper_bound { result ≤ at + body_room }
-{
-    let a = put_hex_field(b" kind=ext to=", to, out, at);
-    let b = put_hex_field(b" from=", from, out, a);
-    let c = put_short_field(b" len=", contents.len() as u64, out, b);
-    put_stop(contents, out, c)
-}
-
-fn put_counts(frames: u64, refusals: u64, strays: u64, out: &mut [u8], at: usize) -> usize
-    requires { at + totals_room ≤ length out.old }
-    ensures wrote { Wrote out.old at (totals frames refusals strays) out.new result }
-    ensures upper_bound { result ≤ at + totals_room }
-{
-    let a = put_field(b"frames=", frames, out, at);
-    let b = put_field(b" refused=", refusals, out, a);
-    let c = put_field(b" loose=", strays, out, b);
-    put_bytes(b"\n", out, c)
-}
-
-// The end of a frame's body.
-fn put_stop(contents: &[u8], out: &mut [u8], at: usize) -> usize
-    requires { at + 10 ≤ length out.old }
-    ensures wrote { Wrote out.old at (stop_text (stops_workout contents.now)) out.new result }
-    ensures upper_bound { result ≤ at + 10 }
-{
-    if command::stop::stops_workout(contents) {
-        return put_bytes(b" stop=yes\n", out, at);
+    // A word and a number. The room that is asked for is what they need.
+    #[tactic(auto, unfolding(crate::specs::Lines::field))]
+    fn put_field(&mut self, word: &[u8], v: u64)
+        requires { length self.old + length (field word.now v) ≤ totals_room }
+        ensures { self.new ≡ self.old ++ field word.now v }
+    {
+        self.put(word);
+        self.put_decimal(v);
     }
-    put_bytes(b" stop=no\n", out, at)
-}
 
-// A word and a number of at most 20 digits.
-fn put_field(word: &[u8], v: u64, out: &mut [u8], at: usize) -> usize
-    requires { at + (length word.now + 20) ≤ length out.old }
-    ensures wrote { Wrote out.old at (field word.now v) out.new result }
-    ensures upper_bound { result ≤ at + (length word.now + 20) }
-{
-    put_short_field(word, v, out, at)
-}
-
-// A word and a number. The room that is asked for is what they need.
-fn put_short_field(word: &[u8], v: u64, out: &mut [u8], at: usize) -> usize
-    requires { at + length (field word.now v) ≤ length out.old }
-    ensures { Wrote out.old at (field word.now v) out.new result }
-{
-    let a = put_bytes(word, out, at);
-    digits::put_decimal(v, out, a)
-}
-
-fn put_hex_field(word: &[u8], v: u8, out: &mut [u8], at: usize) -> usize
-    requires { at + (length word.now + 2) ≤ length out.old }
-    ensures wrote { Wrote out.old at (hex_field word.now v) out.new result }
-    ensures value { result ≡ at + (length word.now + 2) }
-{
-    let a = put_bytes(word, out, at);
-    digits::put_hex(v, out, a)
-}
-
-fn put_bytes(s: &[u8], out: &mut [u8], at: usize) -> usize
-    requires { at + length s.now ≤ length out.old }
-    ensures { Wrote out.old at s.now out.new result }
-{
-    let mut i: usize = 0;
-    while i < s.len() {
-        out[at + i] = s[i];
-        i += 1;
+    #[tactic(auto, unfolding(crate::specs::Lines::hex_field))]
+    fn put_hex_field(&mut self, word: &[u8], v: u8)
+        requires { length self.old + (length word.now + 2) ≤ totals_room }
+        ensures { self.new ≡ self.old ++ hex_field word.now v }
+    {
+        self.put(word);
+        self.put(&hex_digits(v));
     }
-    at + i
-}
-
-fn wide(b: u8) -> u64
-    ensures { result ≡ b }
-{
-    b as u64
 }

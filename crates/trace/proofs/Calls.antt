@@ -1,12 +1,12 @@
 -- The listing of the functions themselves: any run of calls, known by nothing but what the contracts tell a caller,
 -- writes the text of the trace.
-use Rattle.std.proofs.Common.{◌≡◌, ℕ, ◌<◌, ◌≤◌, List, [], ◌++◌, length, take, drop, sym, refl, ◌∙◌, subst, arith, Bor, MutBor}
+use Rattle.std.proofs.Common.{Result, ◌≡◌, ℕ, ◌<◌, ◌≤◌, List, [], ◌++◌, length, take, drop, sym, refl, ◌∙◌, subst, arith, Bor, MutBor}
 use contract.Lifetimes.{Lfts}
 use Rattle.lists.specs.Choice.{Exactly}
 use Rattle.lists.proofs.Cases.{exactly}
 use Rattle.answer.specs.Answer.{result, refused}
 use Rattle.answer.specs.Draft.{written_means}
-use Rattle.answer.specs.declared.Written.{Written}
+use Rattle.answer.specs.declared.Refusal.{Refusal}
 use Rattle.answer.proofs.Drafts.{writes_no_room}
 use Rattle.line.specs.Rowing.{most_bytes}
 use Rattle.text.specs.Text.{text}
@@ -38,7 +38,7 @@ ran (listed κs chunk chunk' out out' rest r l t) = call chunk.now rest out.now 
 -- `new`, calls of `list` over the whole trace, and a `finish` that answered a length.
 pub calls_write_text : (trace : List ℕ) → length trace ≤ most_bytes → (s : Listing) → new-reads.Learnt tt tt s tt
     → (s' : Listing) (before : List ℕ) → ListCalls s trace before s'
-    → (κs : Lfts 1) (out out' : MutBor (List ℕ)) (r : Written)
+    → (κs : Lfts 1) (out out' : MutBor (List ℕ)) (r : Result ℕ Refusal)
     → finish-reads.Learnt κs (s', (out, tt)) r (s', (out', tt))
     → (wrote : ℕ) → written_means r ≡ result wrote → before ++ take wrote out'.now ≡ text trace
 calls_write_text trace h s n s' before t κs out out' r e wrote a =
@@ -54,7 +54,7 @@ calls_write_text trace h s n s' before t κs out out' r e wrote a =
       all = refl;
     })
 
-module _ (s : Listing) (κs : Lfts 1) (out out' : MutBor (List ℕ)) (r : Written)
+module _ (s : Listing) (κs : Lfts 1) (out out' : MutBor (List ℕ)) (r : Result ℕ Refusal)
     (e : finish-reads.Learnt κs (s, (out, tt)) r (s, (out', tt))) where
   -- A `finish` with room for the line of an answer and for the totals answers a length.
   pub finish_answers : last_room ≤ length out.now → (wrote : ℕ) × (written_means r ≡ result wrote)

@@ -6,13 +6,13 @@ use Rattle.framing.specs.Reference.{finish, Role, starts, stops, plain}
 use Rattle.lists.specs.Machine.{run}
 use Rattle.framing.specs.Located.{Located, answer_in, position_in}
 use Rattle.framing.specs.Demand3.{feed}
-use Rattle.framing.specs.Bounded.{BoundedMode, inside, overlong, BoundedReader, grown_in}
+use Rattle.framing.specs.Bounded.{BoundedMode, BoundedReader, grown_in}
 use Rattle.answer.specs.Answer.{result, refused}
 use Rattle.frame.specs.Verdict.{Verdict}
 use Rattle.candidate.specs.Outcome.{Outcome, nothing, judged}
 use Rattle.frame.specs.declared.Origin.{Origin}
 use Rattle.candidate.specs.Rowing.{rowing, rowing_bounds}
-use Rattle.candidate.specs.Holder.{Holder, holder, mode_seen, mode_in, role_step, step_held}
+use Rattle.candidate.specs.Holder.{Holder, holder, role_step, step_held}
 use Rattle.line.specs.Rowing.{most_bytes}
 use Rattle.line.specs.Reader.{ReaderTurn, step_of, finish_of, outcome_at, next_after}
 use Rattle.frame.specs.Flags.{role_of, kind_of}
@@ -20,8 +20,8 @@ use Rattle.frame.specs.declared.Kind.{Kind}
 use Rattle.frame.specs.declared.Kind.TheVariants.{Standard, Extended}
 use Rattle.line.specs.declared.LineReader.{LineReader}
 use Rattle.line.proofs.StepLaws.{step_taken, step_full}
-use Rattle.candidate.specs.declared.Mode.{Mode}
-use Rattle.candidate.specs.declared.Mode.TheVariants.{Outside, InStandard, InExtended, Overlong}
+use Rattle.framing.specs.declared.Mode.{Mode}
+use Rattle.framing.specs.declared.Mode.TheVariants.{Outside, Inside, Overlong}
 use Rattle.text.specs.Lines.{line, call_line, totals}
 use Rattle.text.specs.Strays.{stray_at, open_after, strays}
 use Rattle.text.specs.Text.{located_in, verdicts, frame_one, refused_one, frames, refusals, lines}
@@ -50,21 +50,21 @@ one_stray plain false = omega arith
 
 -- ---- a candidate is open exactly where the reader is not outside
 
-inside_open : (kind : Kind) → is_open (mode_in (inside kind)) ≡ true
+inside_open : (kind : Kind) → is_open (Inside kind) ≡ true
 inside_open Standard = refl
 inside_open Extended = refl
 
-by_capacity : (t : Bool) (kind : Kind) (full more : BoundedReader Kind) → full.mode ≡ overlong
-    → more.mode ≡ inside kind
-    → is_open (mode_in (pick t more full).mode) ≡ true
-by_capacity true kind full more e f = ap (λ (m : BoundedMode Kind). is_open (mode_in m)) f ∙ inside_open kind
-by_capacity false kind full more e f = ap (λ (m : BoundedMode Kind). is_open (mode_in m)) e
+by_capacity : (t : Bool) (kind : Kind) (full more : BoundedReader Kind) → full.mode ≡ Overlong
+    → more.mode ≡ Inside kind
+    → is_open (pick t more full).mode ≡ true
+by_capacity true kind full more e f = ap (λ (m : BoundedMode Kind). is_open m) f ∙ inside_open kind
+by_capacity false kind full more e f = ap (λ (m : BoundedMode Kind). is_open m) e
 
-grown_open : (o : Origin) (m : Mode) (bytes : List ℕ) (len b : ℕ)
-    → is_open (mode_in (grown_in (rowing o) (rowing_bounds o) (mode_seen m) bytes len b).mode) ≡ is_open m
+grown_open : (o : Origin) (m : Mode Kind) (bytes : List ℕ) (len b : ℕ)
+    → is_open (grown_in (rowing o) (rowing_bounds o) m bytes len b).mode ≡ is_open m
 grown_open o Outside bytes len b = refl
-grown_open o InStandard bytes len b = by_capacity (ltb len 118) Standard _ _ refl refl
-grown_open o InExtended bytes len b = by_capacity (ltb len 118) Extended _ _ refl refl
+grown_open o (Inside Standard) bytes len b = by_capacity (ltb len 118) Standard _ _ refl refl
+grown_open o (Inside Extended) bytes len b = by_capacity (ltb len 118) Extended _ _ refl refl
 grown_open o Overlong bytes len b = refl
 
 open_at : (h : Holder) (b : ℕ) (ρ : Role)
@@ -97,23 +97,27 @@ module _ (r : LineReader) (b : ℕ) (room : r.state.count < most_bytes) where
 
 -- It is told by the line of refusal 16 at position 0, and is one refusal more. It is passed over, and is not stray.
 pub full_byte : (s : Listing) (b : ℕ) → most_bytes ≤ s.reader.state.count
-    → (text_of s b ≡ line (number_after s.frames s.refusals) 0 (refused 16))
+    → (text_of s b ≡ line (number_after s.tally.frames s.tally.refusals) 0 (refused 16))
     × (next_of s b
     ≡ record {
       reader = s.reader;
-      frames = add64 s.frames 0;
-      refusals = add64 s.refusals 1;
-      strays = add64 s.strays 0;
+      tally = record {
+        frames = add64 s.tally.frames 0;
+        refusals = add64 s.tally.refusals 1;
+        strays = add64 s.tally.strays 0;
+      };
     })
 unfolding next_of text_of
 full_byte s b h =
     let o = is_open s.reader.state.held.mode in (
-      ap (λ (t : ReaderTurn). call_line (number_after s.frames s.refusals) t.answer) (step_full s.reader b h),
+      ap (λ (t : ReaderTurn). call_line (number_after s.tally.frames s.tally.refusals) t.answer) (step_full s.reader b h),
       ap₂ (λ (t : ReaderTurn) (n : ℕ). record {
         reader = t.next;
-        frames = add64 s.frames (frame_one (answer_in t.answer));
-        refusals = add64 s.refusals (refused_one (answer_in t.answer));
-        strays = add64 s.strays n;
+        tally = record {
+          frames = add64 s.tally.frames (frame_one (answer_in t.answer));
+          refusals = add64 s.tally.refusals (refused_one (answer_in t.answer));
+          strays = add64 s.tally.strays n;
+        };
       }) (step_full s.reader b h)
           (ap (λ (t : Bool). pick t (stray_at (role_of b) o) 0) (le-ltb s.reader.state.count most_bytes h)),
     )
@@ -163,8 +167,8 @@ same_last : (a : Located Outcome) (n n' x x' y y' z z' : ℕ) → n ≡ n' → x
     → call_line n a ++ totals x y z ≡ call_line n' a ++ totals x' y' z'
 same_last a n n' x x' y y' z z' p q u v = rw (p, q, u, v)
 
-last_is : (s : Listing) → s.frames + s.refusals + 1 < 2 ^ 64 → s.strays < 2 ^ 64
-    → last_text s ≡ Rest s.frames s.refusals s.strays (is_open s.reader.state.held.mode)
+last_is : (s : Listing) → s.tally.frames + s.tally.refusals + 1 < 2 ^ 64 → s.tally.strays < 2 ^ 64
+    → last_text s ≡ Rest s.tally.frames s.tally.refusals s.tally.strays (is_open s.reader.state.held.mode)
     (outcomes_from s.reader []) []
 unfolding last_text
 last_is s h g =
@@ -174,40 +178,40 @@ last_is s h g =
     let all : List Verdict = verdicts (located_in (a ∷ [])) in
     let F : frame_one v ≡ frames all = omega (arith, frames_more (position_in a) v []) in
     let R : refused_one v ≡ refusals all = omega (arith, refusals_more (position_in a) v []) in
-    same_last a _ (s.frames + s.refusals + 1) _ (s.frames + frames all) _ (s.refusals + refusals all) _
-    (s.strays + 0)
-    (number_is s.frames s.refusals h)
-    (add64_is s.frames (frame_one v) (omega arith) ∙ ap (λ (n : ℕ). s.frames + n) F)
-    (add64_is s.refusals (refused_one v) (omega arith) ∙ ap (λ (n : ℕ). s.refusals + n) R)
+    same_last a _ (s.tally.frames + s.tally.refusals + 1) _ (s.tally.frames + frames all) _ (s.tally.refusals + refusals all) _
+    (s.tally.strays + 0)
+    (number_is s.tally.frames s.tally.refusals h)
+    (add64_is s.tally.frames (frame_one v) (omega arith) ∙ ap (λ (n : ℕ). s.tally.frames + n) F)
+    (add64_is s.tally.refusals (refused_one v) (omega arith) ∙ ap (λ (n : ℕ). s.tally.refusals + n) R)
     (omega arith)
-    ∙ ap (λ (l : List ℕ). l ++ totals (s.frames + frames all) (s.refusals + refusals all) (s.strays + 0))
-    (sym (append-nil (call_line (s.frames + s.refusals + 1) a))
-    ∙ lines_more (s.frames + s.refusals) (position_in a) v [])
+    ∙ ap (λ (l : List ℕ). l ++ totals (s.tally.frames + frames all) (s.tally.refusals + refusals all) (s.tally.strays + 0))
+    (sym (append-nil (call_line (s.tally.frames + s.tally.refusals + 1) a))
+    ∙ lines_more (s.tally.frames + s.tally.refusals) (position_in a) v [])
 
 -- a byte that can be counted
-module _ (s : Listing) (b : ℕ) (h : s.frames + s.refusals + 1 < 2 ^ 64) (g : s.strays + 1 < 2 ^ 64)
+module _ (s : Listing) (b : ℕ) (h : s.tally.frames + s.tally.refusals + 1 < 2 ^ 64) (g : s.tally.strays + 1 < 2 ^ 64)
     (room : s.reader.state.count < most_bytes) where
   answer : Located Outcome
   answer = (step_of s.reader b).answer
 
-  next_frames : (next_of s b).frames ≡ s.frames + frame_one (answer_in answer)
+  next_frames : (next_of s b).tally.frames ≡ s.tally.frames + frame_one (answer_in answer)
   unfolding next_of answer
   next_frames =
       let a = answer_in (step_of s.reader b).answer in
-      let k = one_answer a in add64_is s.frames (frame_one a) (omega arith)
+      let k = one_answer a in add64_is s.tally.frames (frame_one a) (omega arith)
 
-  next_refused : (next_of s b).refusals ≡ s.refusals + refused_one (answer_in answer)
+  next_refused : (next_of s b).tally.refusals ≡ s.tally.refusals + refused_one (answer_in answer)
   unfolding next_of answer
   next_refused =
       let a = answer_in (step_of s.reader b).answer in
-      let k = one_answer a in add64_is s.refusals (refused_one a) (omega arith)
+      let k = one_answer a in add64_is s.tally.refusals (refused_one a) (omega arith)
 
-  next_stray : (next_of s b).strays ≡ s.strays + stray_at (role_of b) (is_open s.reader.state.held.mode)
+  next_stray : (next_of s b).tally.strays ≡ s.tally.strays + stray_at (role_of b) (is_open s.reader.state.held.mode)
   unfolding next_of
   next_stray =
       let k = one_stray (role_of b) (is_open s.reader.state.held.mode) in
-      ap (add64 s.strays) (stray_is s.reader b room)
-      ∙ add64_is s.strays (stray_at (role_of b) (is_open s.reader.state.held.mode)) (omega arith)
+      ap (add64 s.tally.strays) (stray_is s.reader b room)
+      ∙ add64_is s.tally.strays (stray_at (role_of b) (is_open s.reader.state.held.mode)) (omega arith)
 
   next_open : is_open (next_of s b).reader.state.held.mode
       ≡ open_after (role_of b) (is_open s.reader.state.held.mode)
@@ -218,24 +222,24 @@ module _ (s : Listing) (b : ℕ) (h : s.frames + s.refusals + 1 < 2 ^ 64) (g : s
   unfolding next_of
   next_count = count_is s.reader b room
 
-  text-line : text_of s b ≡ call_line (s.frames + s.refusals + 1) answer
+  text-line : text_of s b ≡ call_line (s.tally.frames + s.tally.refusals + 1) answer
   unfolding text_of answer
-  text-line = ap (λ (k : ℕ). call_line k (step_of s.reader b).answer) (number_is s.frames s.refusals h)
+  text-line = ap (λ (k : ℕ). call_line k (step_of s.reader b).answer) (number_is s.tally.frames s.tally.refusals h)
 
   outcomes_next : (bytes : List ℕ)
       → outcomes_from s.reader (b ∷ bytes) ≡ answer ∷ outcomes_from (next_of s b).reader bytes
   unfolding next_of answer
   outcomes_next bytes = refl
 
-pub all_text : (s : Listing) (bytes : List ℕ) → s.frames + s.refusals + length bytes + 1 < 2 ^ 64
-    → s.strays + length bytes < 2 ^ 64 → s.reader.state.count + length bytes ≤ most_bytes
+pub all_text : (s : Listing) (bytes : List ℕ) → s.tally.frames + s.tally.refusals + length bytes + 1 < 2 ^ 64
+    → s.tally.strays + length bytes < 2 ^ 64 → s.reader.state.count + length bytes ≤ most_bytes
     → texts s bytes ++ last_text (listing_after s bytes)
-    ≡ Rest s.frames s.refusals s.strays (is_open s.reader.state.held.mode)
+    ≡ Rest s.tally.frames s.tally.refusals s.tally.strays (is_open s.reader.state.held.mode)
     (outcomes_from s.reader bytes) bytes
 all_text s [] h g c = last_is s (omega arith) (omega arith)
 all_text s (b ∷ bytes) h g c =
-    let h₁ : s.frames + s.refusals + 1 < 2 ^ 64 = omega arith in
-    let g₁ : s.strays + 1 < 2 ^ 64 = omega arith in
+    let h₁ : s.tally.frames + s.tally.refusals + 1 < 2 ^ 64 = omega arith in
+    let g₁ : s.tally.strays + 1 < 2 ^ 64 = omega arith in
     let c₁ : s.reader.state.count < most_bytes = omega arith in
     let a : Located Outcome = answer s b h₁ g₁ c₁ in
     let v : Outcome = answer_in a in
@@ -248,14 +252,14 @@ all_text s (b ∷ bytes) h g c =
     let k = one_answer v in
     let u = one_stray (role_of b) o in
     let os : List (Located Outcome) = outcomes_from n.reader bytes in
-    let rest : List ℕ = Rest (s.frames + frame_one v) (s.refusals + refused_one v) (s.strays + stray_at (role_of b) o)
+    let rest : List ℕ = Rest (s.tally.frames + frame_one v) (s.tally.refusals + refused_one v) (s.tally.strays + stray_at (role_of b) o)
     (open_after (role_of b) o) os bytes in
     let ih : texts n bytes ++ last_text (listing_after n bytes)
-    ≡ Rest n.frames n.refusals n.strays (is_open n.reader.state.held.mode) os bytes =
+    ≡ Rest n.tally.frames n.tally.refusals n.tally.strays (is_open n.reader.state.held.mode) os bytes =
     all_text n bytes (omega arith) (omega arith) (omega arith) in
     append_assoc (text_of s b) (texts n bytes) (last_text (listing_after n bytes))
     ∙ ap (λ (l : List ℕ). text_of s b ++ l) (ih ∙ same_rest _ _ _ _ _ _ _ _ os bytes F R S (next_open s b h₁ g₁ c₁))
     ∙ ap (λ (l : List ℕ). l ++ rest) (text-line s b h₁ g₁ c₁)
-    ∙ rest_step s.frames s.refusals s.strays o b a os bytes
-    ∙ ap (λ (l : List (Located Outcome)). Rest s.frames s.refusals s.strays o l (b ∷ bytes))
+    ∙ rest_step s.tally.frames s.tally.refusals s.tally.strays o b a os bytes
+    ∙ ap (λ (l : List (Located Outcome)). Rest s.tally.frames s.tally.refusals s.tally.strays o l (b ∷ bytes))
     (sym (outcomes_next s b h₁ g₁ c₁ bytes))

@@ -1,7 +1,8 @@
 -- The stray bytes among those up to an answer stand before the first start flag, and may be passed over before the rest
 -- is fed.
-use Rattle.std.proofs.Common.{◌≡◌, ℕ, suc, ◌+◌, ◌-◌, ◌<◌, ◌≤◌, Bool, true, false, eqb, ltb, List, [], ◌∷◌, length, take, drop, sym, refl, ap, ◌∙◌, ap₂, true≢false, zero-add, arith, length-drop, take_all, take-take, ltb-false, ltb-true, eqb-true}
+use Rattle.std.proofs.Common.{min, leb, ◌≡◌, ℕ, suc, ◌+◌, ◌-◌, ◌<◌, ◌≤◌, Bool, true, false, eqb, ltb, List, [], ◌∷◌, length, take, drop, sym, refl, ap, ◌∙◌, ap₂, true≢false, zero-add, arith, length-drop, take_all, take-take, ltb-false, ltb-true, eqb-true}
 use lib.Seq.{take-nil}
+use borrow.Author.Tests.{leb-true, leb-false}
 use Rattle.lists.specs.Choice.{pick, count_before}
 use Rattle.lists.specs.Machine.{turn}
 use Rattle.lists.proofs.Before.{before_fits}
@@ -18,10 +19,12 @@ use Rattle.frame.specs.Flags.{role_of, is_start}
 use Rattle.frame.specs.declared.Origin.{Origin}
 use Rattle.candidate.specs.Outcome.{nothing, summary_of}
 use Rattle.candidate.specs.Rowing.{rowing, rowing_bounds}
-use Rattle.candidate.specs.Holder.{Holder, holder, holder_of, mode_seen, role_step, step_held}
+use Rattle.candidate.specs.Holder.{Holder, holder, holder_of, role_step, step_held}
 use Rattle.candidate.specs.Feed.{is_answer, FedHeld, feed_held}
-use Rattle.candidate.specs.declared.Mode.{Mode}
-use Rattle.candidate.specs.declared.Mode.TheVariants.{Outside, InStandard, InExtended, Overlong}
+use Rattle.frame.specs.declared.Kind.{Kind}
+use Rattle.frame.specs.declared.Kind.TheVariants.{Standard, Extended}
+use Rattle.framing.specs.declared.Mode.{Mode}
+use Rattle.framing.specs.declared.Mode.TheVariants.{Outside, Inside, Overlong}
 use Rattle.line.specs.Rowing.{most_bytes}
 use Rattle.line.specs.Reader.{reader, lent_reader, held_of, ReaderTurn, turn_from, step_of}
 use Rattle.line.specs.Feed.{ChunkTurn, no_turn, feed_of, chunk_of, ChunkStepIs}
@@ -31,7 +34,7 @@ use Rattle.candidate.proofs.OutcomeLaws.{fed_extent}
 use Rattle.line.specs.declared.ChunkStep.{ChunkStep}
 use Rattle.line.specs.declared.LineReader.{LineReader}
 use Rattle.text.specs.Strays.{stray_at, open_after, strays}
-use Rattle.trace.specs.Private.{stray_count, countable, passed_over, counted_on}
+use Rattle.trace.specs.Private.{stray_count, countable, passed_over}
 use Rattle.trace.specs.Machine.{is_open}
 use Rattle.trace.proofs.Counts.{open_held, count_is}
 
@@ -64,20 +67,20 @@ at_answer stops true bytes e = refl
 at_answer plain true bytes e = refl
 
 -- only a byte of an open candidate is answered, and its stop flag is
-answered_open : (o : Origin) (m : Mode) (bytes : List ℕ) (len b : ℕ) (ρ : Role)
+answered_open : (o : Origin) (m : Mode Kind) (bytes : List ℕ) (len b : ℕ) (ρ : Role)
     → is_answer (role_step ρ (holder_of o bytes len m) b).answer ≡ true → is_open m ≡ true
 answered_open o Outside bytes len b starts e = e
 answered_open o Outside bytes len b stops e = e
 answered_open o Outside bytes len b plain e = e
-answered_open o InStandard bytes len b ρ e = refl
-answered_open o InExtended bytes len b ρ e = refl
+answered_open o (Inside Standard) bytes len b ρ e = refl
+answered_open o (Inside Extended) bytes len b ρ e = refl
 answered_open o Overlong bytes len b ρ e = refl
 
-terminated_answers : (o : Origin) (m : Mode) (bytes : List ℕ) (len : ℕ) → is_open m ≡ true
-    → is_answer (terminated_in (rowing o) (rowing_bounds o) (mode_seen m) bytes len) ≡ true
+terminated_answers : (o : Origin) (m : Mode Kind) (bytes : List ℕ) (len : ℕ) → is_open m ≡ true
+    → is_answer (terminated_in (rowing o) (rowing_bounds o) m bytes len) ≡ true
 terminated_answers o Outside bytes len e = absurd (true≢false (sym e))
-terminated_answers o InStandard bytes len e = refl
-terminated_answers o InExtended bytes len e = refl
+terminated_answers o (Inside Standard) bytes len e = refl
+terminated_answers o (Inside Extended) bytes len e = refl
 terminated_answers o Overlong bytes len e = refl
 
 stop_answers : (h : Holder) (b : ℕ) (ρ : Role) → is_open h.held.mode ≡ true → ρ ≡ stops
@@ -155,6 +158,33 @@ pub countable_fits : (count : ℕ) (rest : List ℕ) → length (countable count
 countable_fits count rest =
     omega (arith, (take_bounds (most_bytes - count) (cut_chunk rest)).1, (take_bounds chunk_limit rest).1)
 
+-- as the code cuts a chunk
+cut_twice : (s : List ℕ) (limit room n : ℕ) → n ≡ min (min (length s) limit) room → take n s ≡ take room (take limit s)
+cut_twice s limit room n e =
+    by_bool (leb room limit)
+    (λ y. let h : room ≤ limit = leb-true room limit y in
+    by_bool (leb room (length s))
+    (λ z. let g : room ≤ length s = leb-true room (length s) z in
+    let m : n ≡ room = omega arith in ap (λ (k : ℕ). take k s) m ∙ sym (take-take room limit s h))
+    (λ z. let g : length s < room = leb-false room (length s) z in
+    let m : n ≡ length s = omega arith in
+    take_all n s (omega arith) ∙ sym (take_all room s (omega arith)) ∙ sym (take-take room limit s h)))
+    (λ y. let h : limit < room = leb-false room limit y in
+    let b = take_bounds limit s in
+    all h (leb (length s) limit) refl ∙ sym (take_all room (take limit s) (omega (arith, b.0))))
+  where
+    all : limit < room → (t : Bool) → leb (length s) limit ≡ t → take n s ≡ take limit s
+    all h true z =
+        let g : length s ≤ limit = leb-true (length s) limit z in
+        take_all n s (omega arith) ∙ sym (take_all limit s g)
+    all h false z =
+        let g : limit < length s = leb-false (length s) limit z in
+        let m : n ≡ limit = omega arith in ap (λ (k : ℕ). take k s) m
+
+pub cut_countable : (count n : ℕ) (rest : List ℕ) → n ≡ min (min (length rest) chunk_limit) (most_bytes - count)
+    → take n rest ≡ countable count rest
+cut_countable count n rest e = cut_twice rest chunk_limit (most_bytes - count) n e
+
 -- ---- what passing over them changes
 
 strays_fit : (o : Bool) (bytes : List ℕ) → stray_count o bytes ≤ length bytes
@@ -163,7 +193,7 @@ strays_fit false bytes = before_fits is_start bytes
 
 -- a reader after bytes that are counted and not fed
 abbrev counted_after : LineReader → ℕ → LineReader
-counted_after r n = lent_reader r.bytes (counted_on r.state n)
+counted_after r n = lent_reader r.bytes (record r.state { count = r.state.count + n })
 
 none_passed : (r : LineReader) (rest : List ℕ) (n : ℕ) → n ≡ 0
     → feed_of r rest ≡ later_by n (feed_of (counted_after r n) (drop n rest))
@@ -237,15 +267,15 @@ clipped r (b ∷ s) = by_bool (ltb r.state.count most_bytes)
     let z : 0 ≡ most_bytes - r.state.count = omega arith in
     fed_full r b s h ∙ sym (fed_none r) ∙ ap (λ (k : ℕ). feed_of r (take k (b ∷ s))) z)
 
-by_mode : (o : Origin) (m : Mode) (bytes rest : List ℕ) (start count n : ℕ) → count + length rest ≤ most_bytes
+by_mode : (o : Origin) (m : Mode Kind) (bytes rest : List ℕ) (start count n : ℕ) → count + length rest ≤ most_bytes
     → n ≡ stray_count (is_open m) rest
     → feed_of (reader bytes (held_of o 0 m) start count) rest
     ≡ later_by n (feed_of (reader bytes (held_of o 0 m) start (count + n)) (drop n rest))
 by_mode o Outside bytes rest start count n h e = rw e (strays_passed o bytes start count rest h)
-by_mode o InStandard bytes rest start count n h e =
-    none_passed (reader bytes (held_of o 0 InStandard) start count) rest n e
-by_mode o InExtended bytes rest start count n h e =
-    none_passed (reader bytes (held_of o 0 InExtended) start count) rest n e
+by_mode o (Inside Standard) bytes rest start count n h e =
+    none_passed (reader bytes (held_of o 0 (Inside Standard)) start count) rest n e
+by_mode o (Inside Extended) bytes rest start count n h e =
+    none_passed (reader bytes (held_of o 0 (Inside Extended)) start count) rest n e
 by_mode o Overlong bytes rest start count n h e =
     none_passed (reader bytes (held_of o 0 Overlong) start count) rest n e
 

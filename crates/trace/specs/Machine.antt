@@ -5,8 +5,10 @@ use Rattle.lists.specs.Machine.{left_after}
 use Rattle.frame.specs.declared.Origin.TheVariants.{Trace}
 use Rattle.frame.specs.Flags.{role_of}
 use Rattle.framing.specs.Located.{answer_in}
-use Rattle.candidate.specs.declared.Mode.{Mode}
-use Rattle.candidate.specs.declared.Mode.TheVariants.{Outside, InStandard, InExtended, Overlong}
+use Rattle.frame.specs.declared.Kind.{Kind}
+use Rattle.frame.specs.declared.Kind.TheVariants.{Standard, Extended}
+use Rattle.framing.specs.declared.Mode.{Mode}
+use Rattle.framing.specs.declared.Mode.TheVariants.{Outside, Inside, Overlong}
 use Rattle.line.specs.Rowing.{most_bytes}
 use Rattle.line.specs.Reader.{new_reader, step_of, finish_of}
 use Rattle.line.specs.declared.LineReader.{LineReader}
@@ -18,10 +20,10 @@ use Rattle.trace.specs.declared.Listing.{Listing}
 use Rattle.trace.specs.declared.Listed.{Listed}
 
 -- Whether a candidate is open.
-abbrev pub is_open : Mode → Bool
+abbrev pub is_open : Mode Kind → Bool
 is_open Outside = false
-is_open InStandard = true
-is_open InExtended = true
+is_open (Inside Standard) = true
+is_open (Inside Extended) = true
 is_open Overlong = true
 
 -- ---- one byte
@@ -31,7 +33,7 @@ abbrev pub add64 : ℕ → ℕ → ℕ
 add64 a b = (a + b) % 2 ^ 64
 
 abbrev pub new_listing : Listing
-new_listing = record { reader = new_reader Trace; frames = 0; refusals = 0; strays = 0 }
+new_listing = record { reader = new_reader Trace; tally = record { frames = 0; refusals = 0; strays = 0 } }
 
 -- The number of the next answer.
 abbrev pub number_after : (frames refusals : ℕ) → ℕ
@@ -45,14 +47,16 @@ stray_one r b = pick (nat_lt r.state.count most_bytes) (stray_at (role_of b) (is
 unfoldable pub next_of : Listing → ℕ → Listing
 next_of s b = record {
   reader = (step_of s.reader b).next;
-  frames = add64 s.frames (frame_one (answer_in (step_of s.reader b).answer));
-  refusals = add64 s.refusals (refused_one (answer_in (step_of s.reader b).answer));
-  strays = add64 s.strays (stray_one s.reader b);
+  tally = record {
+    frames = add64 s.tally.frames (frame_one (answer_in (step_of s.reader b).answer));
+    refusals = add64 s.tally.refusals (refused_one (answer_in (step_of s.reader b).answer));
+    strays = add64 s.tally.strays (stray_one s.reader b);
+  };
 }
 
 -- The line of its answer.
 unfoldable pub text_of : Listing → ℕ → List ℕ
-text_of s b = call_line (number_after s.frames s.refusals) (step_of s.reader b).answer
+text_of s b = call_line (number_after s.tally.frames s.tally.refusals) (step_of s.reader b).answer
 
 -- ---- bytes one after the other
 
@@ -87,8 +91,8 @@ last_room = line_room + totals_room
 -- The text after the last byte, which the finish writes.
 unfoldable pub last_text : Listing → List ℕ
 last_text s =
-    call_line (number_after s.frames s.refusals) (finish_of s.reader).answer
+    call_line (number_after s.tally.frames s.tally.refusals) (finish_of s.reader).answer
     ++ totals
-    (add64 s.frames (frame_one (answer_in (finish_of s.reader).answer)))
-    (add64 s.refusals (refused_one (answer_in (finish_of s.reader).answer)))
-    s.strays
+    (add64 s.tally.frames (frame_one (answer_in (finish_of s.reader).answer)))
+    (add64 s.tally.refusals (refused_one (answer_in (finish_of s.reader).answer)))
+    s.tally.strays

@@ -3,19 +3,17 @@
 // The state is a value. A call takes a chunk of the trace and a lent output, and writes whole lines into it.
 #![tactic(auto)]
 
-ghost use Rattle.std.specs.Prelude.{◌≡◌, ◌+◌, ◌<◌, ◌≤◌, length};
+ghost use Rattle.std.specs.Prelude.{◌≡◌, ◌<◌, ◌≤◌, length, take};
 ghost use Rattle.answer.specs.Answer.{result as answered};
 ghost use Rattle.answer.specs.Draft.{draft_answer, draft_out, written_means};
 ghost use Rattle.candidate.specs.Outcome.{told_means};
-ghost use Rattle.line.specs.Rowing.{most_bytes};
 ghost use Rattle.line.specs.Feed.{chunk_of, ChunkStepIs};
 ghost use Rattle.line.specs.Reader.{lent_reader};
-ghost use Rattle.text.specs.Writing.{Wrote, line_room};
-ghost use Rattle.trace.specs.Private.{stray_count, Advances, listing, listed_of, frame_count, refused_count};
-ghost use Rattle.trace.specs.Private.{length_of, at_least_one, countable, passed_over, counted_on};
+ghost use Rattle.text.specs.Writing.{line_room};
+ghost use Rattle.trace.specs.Private.{Advances, CountsFit, counting, countable, stray_count, passed_over};
 ghost use Rattle.trace.specs.Machine.{is_open, new_listing, number_after, Lists, last_text, last_room};
 
-use answer::Written;
+use answer::Refusal;
 use candidate::{Mode, Told};
 use frame::{Origin, flags};
 use line::{ChunkStep, LineReader, State};
@@ -23,13 +21,19 @@ use line::{ChunkStep, LineReader, State};
 // The room that the line of the finish and the totals fit in.
 const LAST_ROOM: usize = text::LINE_ROOM + text::TOTALS_ROOM;
 
-// The line reader, and how many frames, refusals and stray bytes there were. The counts wrap at 2^64.
-#[derive(Clone, Copy)]
-pub struct Listing {
-    pub reader: LineReader,
+// How many frames, refusals and stray bytes there were. The counts wrap at 2^64.
+#[derive(Clone, Copy, Default)]
+pub struct Tally {
     pub frames: u64,
     pub refusals: u64,
     pub strays: u64,
+}
+
+// The line reader, and what was counted.
+#[derive(Clone, Copy)]
+pub struct Listing {
+    pub reader: LineReader,
+    pub tally: Tally,
 }
 
 // How many bytes of a chunk were taken, how many were written, and the state afterwards.
@@ -40,21 +44,11 @@ pub struct Listed {
     pub next: Listing,
 }
 
-// A state without its array.
-#[derive(Clone, Copy)]
-struct Tally {
-    state: State,
-    frames: u64,
-    refusals: u64,
-    strays: u64,
-}
-
-// How many bytes were taken, the index after the line that they gave, and the state without its array.
+// How many bytes were taken, and how many bytes the line has that they gave.
 #[derive(Clone, Copy)]
 struct Advanced {
     taken: usize,
-    at: usize,
-    tally: Tally,
+    wrote: usize,
 }
 
 // What a chunk gives, and how many of the bytes taken are stray.
@@ -69,47 +63,35 @@ pub fn new() -> Listing
 {
     Listing {
         reader: LineReader::new(Origin::Trace),
-        frames: 0,
-        refusals: 0,
-        strays: 0,
+        tally: Tally::default(),
     }
 }
 
-// Takes bytes of a chunk as long as there is room for the line of any answer. The array is copied once for a chunk, and
+// Takes bytes of a chunk as long as there is room for the line of any answer. The state is copied once for a chunk, and
 // lent for each answer.
 pub fn list(s: Listing, chunk: &[u8], out: &mut [u8]) -> Listed
     ensures { Lists s chunk.now out.old out.new result }
 {
-    let reader = s.reader;
-    let state = reader.state;
-    let mut bytes = reader.bytes;
-    let mut tally = Tally {
-        state,
-        frames: s.frames,
-        refusals: s.refusals,
-        strays: s.strays,
-    };
-    let mut at: usize = 0;
-    let mut i: usize = 0;
-    while i < chunk.len() {
-        if out.len() - at < text::LINE_ROOM {
-            return listed_of(i, at, bytes, tally);
-        }
-        let t = advance(&mut bytes, tally, &chunk[i..], out, at);
-        tally = t.tally;
-        at = t.at;
-        i += t.taken;
+    let mut next = s;
+    let mut taken: usize = 0;
+    let mut wrote: usize = 0;
+    // Stays a `while`: a turn takes as many bytes as there are up to an answer.
+    while taken < chunk.len() && text::LINE_ROOM <= out.len() - wrote {
+        let step = next.advance(&chunk[taken..], &mut out[wrote..]);
+        taken += step.taken;
+        wrote += step.wrote;
     }
-    listed_of(i, at, bytes, tally)
+    Listed { taken, wrote, next }
 }
 
 // Ends the trace: writes the line of a candidate that is open, and the totals. Refusal 1. The text is made in an array
 // first, because its length is known only then.
-pub fn finish(s: Listing, out: &mut [u8]) -> Written
+pub fn finish(s: Listing, out: &mut [u8]) -> Result<usize, Refusal>
     ensures result_value { written_means result ≡ draft_answer (answered (last_text s)) (length out.old) }
     ensures out_after { out.new ≡ draft_out (answered (last_text s)) out.old }
     ensures length_bound { length (last_text s) ≤ last_room }
 {
+    // Stays an array: the library has no heap.
     let mut last = [0u8; LAST_ROOM];
     let len = put_last(s, &mut last);
     text::write_bytes(&last[..len], out)
@@ -117,79 +99,65 @@ pub fn finish(s: Listing, out: &mut [u8]) -> Written
 
 fn put_last(s: Listing, out: &mut [u8]) -> usize
     requires { last_room ≤ length out.old }
-    ensures wrote { Wrote out.old 0 (last_text s) out.new result }
+    ensures put { take result out.new ≡ last_text s }
+    ensures value { result ≡ length (last_text s) }
     ensures upper_bound { result ≤ last_room }
 {
-    let frames = s.frames;
-    let refusals = s.refusals;
-    let reader = s.reader;
-    let bytes = reader.bytes;
-    let state = reader.state;
-    let step = line::finish_in(state);
-    let told = step.told;
-    let n = next_number(frames, refusals);
-    let at = length_of(text::write_answer(told, step.position, &bytes, n, out));
-    let all_frames = std::num::wrapping_add_u64(frames, frame_count(told));
-    let all_refusals = std::num::wrapping_add_u64(refusals, refused_count(told));
-    at + length_of(text::write_totals(all_frames, all_refusals, s.strays, &mut out[at..]))
+    let bytes = s.reader.bytes;
+    let step = line::finish_in(s.reader.state);
+    let n = s.tally.next_number();
+    let at = text::write_answer(step.told, step.position, &bytes, n, out).unwrap();
+    let all = s.tally.with(step.told, 0);
+    at + text::write_totals(all.frames, all.refusals, all.strays, &mut out[at..]).unwrap()
 }
 
-// How many bytes were written.
-fn length_of(written: Written) -> usize
-    ensures { result ≡ length_of (written_means written) }
-{
-    match written {
-        Written::Length(n) => n,
-        Written::Refused(_) => 0,
+impl Listing {
+    // Takes bytes up to the first that is answered, at least one and at most 65,536, and writes the line of an answer
+    // first into an output that has room for any. A byte that a full line reader refuses is passed over.
+    fn advance(&mut self, rest: &[u8], out: &mut [u8]) -> Advanced
+        requires rest_nonzero { 0 < length rest.now }
+        requires line_room_in_bounds { line_room ≤ length out.old }
+        ensures { Advances self.old self.new rest.now out.old out.new result }
+    {
+        let n = self.tally.next_number();
+        let fed = feed(&mut self.reader.bytes, self.reader.state, rest);
+        let step = fed.step;
+        self.reader.state = step.state;
+        self.tally = self.tally.with(step.told, fed.strays);
+        let wrote = text::write_answer(
+            step.told,
+            step.position,
+            &self.reader.bytes,
+            n,
+            out,
+        ).unwrap();
+        Advanced {
+            taken: step.taken.max(1),
+            wrote,
+        }
     }
 }
 
-fn listed_of(taken: usize, wrote: usize, bytes: [u8; 118], t: Tally) -> Listed
-    ensures { result ≡ listed_of taken wrote (listing bytes t) }
-{
-    let state = t.state;
-    Listed {
-        taken,
-        wrote,
-        next: Listing {
-            reader: LineReader { bytes, state },
-            frames: t.frames,
-            refusals: t.refusals,
-            strays: t.strays,
-        },
+impl Tally {
+    // The number of the next answer.
+    fn next_number(self) -> u64
+        ensures value { result ≡ number_after self.frames self.refusals }
+        ensures counts_fit { CountsFit self }
+    {
+        self.frames.wrapping_add(self.refusals).wrapping_add(1)
     }
-}
 
-// Takes bytes up to the first that is answered, at least one and at most 65,536, and writes the line of an answer at an
-// index where there is room for any. A byte that a full line reader refuses is passed over.
-fn advance(bytes: &mut [u8; 118], t: Tally, rest: &[u8], out: &mut [u8], at: usize) -> Advanced
-    requires rest_nonzero { 0 < length rest.now }
-    requires line_room_in_bounds { at + line_room ≤ length out.old }
-    ensures { Advances (listing bytes.old t) rest.now bytes.new out.old at out.new result }
-{
-    let before = t.state;
-    let frames = t.frames;
-    let refusals = t.refusals;
-    let fed = feed(bytes, before, rest);
-    let step = fed.step;
-    let told = step.told;
-    let state = step.state;
-    let len = length_of(text::write_answer(
-        told,
-        step.position,
-        bytes,
-        next_number(frames, refusals),
-        &mut out[at..],
-    ));
-    Advanced {
-        taken: at_least_one(step.taken),
-        at: at + len,
-        tally: Tally {
-            state,
-            frames: std::num::wrapping_add_u64(frames, frame_count(told)),
-            refusals: std::num::wrapping_add_u64(refusals, refused_count(told)),
-            strays: std::num::wrapping_add_u64(t.strays, fed.strays),
-        },
+    // With an answer more, and so many stray bytes.
+    fn with(self, told: Told, strays: u64) -> Tally
+        ensures { result ≡ counting self (told_means told) strays }
+    {
+        let frames = u64::from(matches!(told, Some(Ok(_))));
+        let refusals = u64::from(matches!(told, Some(Err(_))));
+        Tally {
+            frames: self.frames.wrapping_add(frames),
+            refusals: self.refusals.wrapping_add(refusals),
+            strays: self.strays.wrapping_add(strays),
+        }
     }
 }
 
@@ -201,92 +169,25 @@ fn feed(bytes: &mut [u8; 118], before: State, rest: &[u8]) -> Fed
     ensures strays_value { result.strays
         ≡ stray_count (is_open before.held.mode) (countable before.count rest.now) }
 {
-    let held = before.held;
-    let mode = held.mode;
-    let count = before.count;
-    if count == line::LIMIT {
+    if before.count == line::LIMIT {
         let step = line::feed_in(bytes, before, rest);
         return Fed { step, strays: 0 };
     }
-    let most = lists::lesser(line::CHUNK_LIMIT, rest.len());
-    let chunk = &rest[..lists::lesser((line::LIMIT - count) as usize, most)];
-    let strays = stray_count(mode, chunk);
-    let passed = passed_over(held.len, strays);
-    let step = line::feed_in(bytes, counted_on(before, passed), &chunk[passed..]);
-    let told = step.told;
-    let position = step.position;
-    let state = step.state;
-    let taken = passed + step.taken;
+    let most = rest.len().min(line::CHUNK_LIMIT);
+    let chunk = &rest[..most.min((line::LIMIT - before.count) as usize)];
+    let strays = stray_count(before.held.mode, chunk);
+    let passed = passed_over(before.held.len, strays);
+    let after = State {
+        count: before.count + passed as u32,
+        ..before
+    };
+    let step = line::feed_in(bytes, after, &chunk[passed..]);
     Fed {
         step: ChunkStep {
-            told,
-            position,
-            state,
-            taken,
+            taken: passed + step.taken,
+            ..step
         },
         strays: strays as u64,
-    }
-}
-
-// A state after bytes that are counted and not fed.
-fn counted_on(before: State, passed: usize) -> State
-    requires { before.count + passed ≤ most_bytes }
-    ensures { result ≡ counted_on before passed }
-{
-    let held = before.held;
-    State {
-        held,
-        start: before.start,
-        count: before.count + passed as u32,
-    }
-}
-
-// How many bytes are taken where the line reader took so many: at least one, since a full reader refuses the first and
-// takes none.
-fn at_least_one(taken: usize) -> usize
-    ensures { result ≡ at_least_one taken }
-{
-    if taken == 0 {
-        return 1;
-    }
-    taken
-}
-
-// The number of the next answer.
-fn next_number(frames: u64, refusals: u64) -> u64
-    ensures { result ≡ number_after frames refusals }
-{
-    let told = std::num::wrapping_add_u64(frames, refusals);
-    std::num::wrapping_add_u64(told, 1)
-}
-
-fn frame_count(told: Told) -> u64
-    ensures { result ≡ frame_count (told_means told) }
-{
-    match told {
-        Told::Nothing => 0,
-        Told::Refused(_) => 0,
-        Told::Standard { len: _ } => 1,
-        Told::Extended {
-            to: _,
-            from: _,
-            len: _,
-        } => 1,
-    }
-}
-
-fn refused_count(told: Told) -> u64
-    ensures { result ≡ refused_count (told_means told) }
-{
-    match told {
-        Told::Nothing => 0,
-        Told::Refused(_) => 1,
-        Told::Standard { len: _ } => 0,
-        Told::Extended {
-            to: _,
-            from: _,
-            len: _,
-        } => 0,
     }
 }
 
@@ -294,12 +195,7 @@ fn refused_count(told: Told) -> u64
 fn is_open(mode: Mode) -> bool
     ensures { result ≡ is_open mode }
 {
-    match mode {
-        Mode::Outside => false,
-        Mode::InStandard => true,
-        Mode::InExtended => true,
-        Mode::Overlong => true,
-    }
+    !matches!(mode, Mode::Outside)
 }
 
 // The stray bytes that come first: where no candidate is open, those before the first start flag.
@@ -307,17 +203,15 @@ fn stray_count(mode: Mode, rest: &[u8]) -> usize
     ensures { result ≡ stray_count (is_open mode) rest.now }
 {
     if is_open(mode) {
-        return 0;
+        0
+    } else {
+        lists::count_before(rest, flags::EXTENDED_START, flags::STANDARD_START)
     }
-    lists::count_before(rest, flags::EXTENDED_START, flags::STANDARD_START)
 }
 
 // How many of them need not be fed: all, where the reader's length is 0, because none of them changes that length.
 fn passed_over(len: usize, strays: usize) -> usize
     ensures { result ≡ passed_over len strays }
 {
-    if len == 0 {
-        return strays;
-    }
-    0
+    if len == 0 { strays } else { 0 }
 }

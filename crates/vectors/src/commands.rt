@@ -1,218 +1,164 @@
 // Commands in a frame's contents, by their number and by the steps of a command cursor, whether they stop a workout,
 // and the items of a reply, which have the same form.
-use crate::print;
-use command::entries::{Counted, Cursor, Found};
+use crate::print::{Hex, Outcome};
+use answer::Refusal;
+use command::entries::{Cursor, Entry, Unsound};
 use command::{cursor, entries, stop, traversal};
-use std::io;
 use std::io::Write;
+use std::{fmt, io};
 
-// Lists of entries: at the top of contents, inside a wrapper, a reply's items, and those at the top by the steps of a
-// cursor from the first on.
-const TOP: usize = 0;
+// An entry and its data.
+#[derive(Clone, Copy)]
+pub(crate) struct Found<'a> {
+    entry: Entry,
+    body: &'a [u8],
+}
 
-pub(crate) const INSIDE: usize = 1;
-
-pub(crate) const ITEMS: usize = 2;
-
-const BY_STEPS: usize = 3;
-
-// Of a list that is not sound, its first entry is printed, which is the refusal.
-pub(crate) fn print_commands(out: &mut impl Write, contents: &[u8]) -> io::Result<()> {
-    print::say(out, print::COMMANDS, 0, 0, 0)?;
-    let all = entries::count(entries::COMMANDS, contents, Cursor { at: 0 });
-    match all {
-        Counted::Entries(n) => print_all(out, contents, n, print::COUNT, n, n),
-        Counted::Unsound { at } => print_all(out, contents, 1, print::UNSOUND, at, 0),
+impl fmt::Display for Found<'_> {
+    fn fmt<W: fmt::Write>(&self, f: &mut fmt::Formatter<W>) -> fmt::Result {
+        let Entry { byte, start, len } = self.entry;
+        write!(f, "{byte:02X}@{start}+{len}:{}", Hex(self.body))
     }
 }
 
-// The commands, and then the steps of a cursor over them: one more, which is refused.
-fn print_all(
-    out: &mut impl Write,
-    contents: &[u8],
-    shown: usize,
-    form: usize,
-    number: usize,
-    sound: usize,
-) -> io::Result<()> {
-    print_top(out, contents, shown)?;
-    print::say(out, form, number, 0, 0)?;
-    print_steps(out, contents, sound.wrapping_add(1))?;
-    print::say(out, print::BY_STEPS, 0, 0, 0)?;
-    print_list(out, BY_STEPS, contents, 0, sound.wrapping_add(1))?;
-    print_stop(out, contents)
+// ---- entries by number
+
+fn outcome<'a>(entry: Result<Entry, Refusal>, body: &'a [u8]) -> Outcome<Found<'a>> {
+    Outcome(entry.map(|entry| Found { entry, body }))
 }
 
-fn print_stop(out: &mut impl Write, contents: &[u8]) -> io::Result<()> {
-    if stop::stops_workout(contents) {
-        return print::say(out, print::STOPS, 0, 0, 0);
-    }
-    print::say(out, print::STOPS_NOT, 0, 0, 0)
+fn top(contents: &[u8], n: usize) -> Outcome<Found<'_>> {
+    outcome(command::nth(contents, n), command::nth_data(contents, n))
 }
 
-// ---- at the top, with what stands in wrappers
-
-fn print_top(out: &mut impl Write, contents: &[u8], count: usize) -> io::Result<()> {
-    let mut n = 0;
-    while n < count {
-        print::say(out, print::separator(n), 0, 0, 0)?;
-        print_top_nth(out, contents, n)?;
-        n += 1;
-    }
-    Ok(())
-}
-
-fn print_top_nth(out: &mut impl Write, contents: &[u8], n: usize) -> io::Result<()> {
-    let found = command::nth(contents, n);
-    match found {
-        Found::At { byte, start, len } => print_top_at(out, contents, n, byte, start, len),
-        Found::Refused(why) => print::refusal(out, print::REFUSED, why),
-    }
-}
-
-fn print_top_at(
-    out: &mut impl Write,
-    contents: &[u8],
-    n: usize,
-    byte: u8,
-    start: usize,
-    len: usize,
-) -> io::Result<()> {
-    if command::is_wrapper(byte) {
-        print::say(out, print::WRAPPER, byte as usize, start, len)?;
-        print_list(
-            out,
-            INSIDE,
-            contents,
-            n,
-            shown(command::nth_data(contents, n)),
-        )?;
-        return print::say(out, print::WRAPPER_END, 0, 0, 0);
-    }
-    print_at(out, byte, start, len, command::nth_data(contents, n))
-}
-
-// How many entries of a wrapper's data are printed.
-fn shown(list: &[u8]) -> usize {
-    let all = entries::count(entries::COMMANDS, list, Cursor { at: 0 });
-    match all {
-        Counted::Entries(n) => n,
-        Counted::Unsound { at: _ } => 1,
-    }
-}
-
-// ---- by number
-
-pub(crate) fn print_list(
-    out: &mut impl Write,
-    list: usize,
-    contents: &[u8],
-    w: usize,
-    count: usize,
-) -> io::Result<()> {
-    let mut n = 0;
-    while n < count {
-        print::say(out, print::separator(n), 0, 0, 0)?;
-        print_nth(out, list, contents, w, n)?;
-        n += 1;
-    }
-    Ok(())
-}
-
-fn print_nth(
-    out: &mut impl Write,
-    list: usize,
-    contents: &[u8],
-    w: usize,
-    n: usize,
-) -> io::Result<()> {
-    print_found(
-        out,
-        found_in(list, contents, w, n),
-        data_in(list, contents, w, n),
+fn inside(contents: &[u8], w: usize, n: usize) -> Outcome<Found<'_>> {
+    outcome(
+        command::nth_inside(contents, w, n),
+        command::nth_inside_data(contents, w, n),
     )
 }
 
-fn found_in(list: usize, contents: &[u8], w: usize, n: usize) -> Found {
-    match list {
-        TOP => command::nth(contents, n),
-        INSIDE => command::nth_inside(contents, w, n),
-        ITEMS => reply::nth_item(contents, n),
-        _ => cursor::nth_by_steps(contents, n),
-    }
+pub(crate) fn item(contents: &[u8], n: usize) -> Outcome<Found<'_>> {
+    outcome(
+        reply::nth_item(contents, n),
+        reply::nth_item_data(contents, n),
+    )
 }
 
-fn data_in(list: usize, contents: &[u8], w: usize, n: usize) -> &[u8] {
-    match list {
-        TOP => command::nth_data(contents, n),
-        INSIDE => command::nth_inside_data(contents, w, n),
-        ITEMS => reply::nth_item_data(contents, n),
-        _ => entries::found_part(contents, cursor::nth_by_steps(contents, n)),
-    }
+// By the steps of a cursor from the first on.
+fn by_steps(contents: &[u8], n: usize) -> Outcome<Found<'_>> {
+    let entry = cursor::nth_by_steps(contents, n);
+    outcome(entry, entries::found_part(contents, entry))
 }
 
-pub(crate) fn print_numbered(
+// Stay three parameters, here and in the operations below: each is what an operation is given, and no more.
+pub(crate) fn print_command(out: &mut impl Write, contents: &[u8], n: usize) -> io::Result<()> {
+    write!(out, " nth={}", top(contents, n))?;
+    write!(out, " by-steps={}", by_steps(contents, n))
+}
+
+pub(crate) fn print_inside(
     out: &mut impl Write,
-    list: usize,
     contents: &[u8],
     w: usize,
     n: usize,
 ) -> io::Result<()> {
-    print::say(out, print::NTH, 0, 0, 0)?;
-    print_nth(out, list, contents, w, n)
+    write!(out, " nth={}", inside(contents, w, n))
 }
 
-pub(crate) fn print_command(out: &mut impl Write, contents: &[u8], n: usize) -> io::Result<()> {
-    print_numbered(out, TOP, contents, 0, n)?;
-    print::say(out, print::NTH_BY_STEPS, 0, 0, 0)?;
-    print_nth(out, BY_STEPS, contents, 0, n)
+pub(crate) fn print_item(out: &mut impl Write, contents: &[u8], n: usize) -> io::Result<()> {
+    write!(out, " nth={}", item(contents, n))
+}
+
+// ---- lists
+
+// Of a list that is not sound, its first entry is printed, which is the refusal. There is one step more than there are
+// commands, which is refused.
+pub(crate) fn print_commands(out: &mut impl Write, contents: &[u8]) -> io::Result<()> {
+    let count = entries::count(entries::COMMANDS, contents, Cursor { at: 0 });
+    write!(out, " commands=[")?;
+    print_top(out, contents, count.unwrap_or(1))?;
+    match count {
+        Ok(n) => write!(out, "] count={n}")?,
+        Err(Unsound { at }) => write!(out, "] count=unsound@{at}")?,
+    }
+    let steps = count.unwrap_or(0).saturating_add(1);
+    write!(out, " steps=[")?;
+    print_steps(out, contents, steps)?;
+    write!(out, "] by-steps=[")?;
+    print_list(out, steps, |n| by_steps(contents, n))?;
+    let stops = if stop::stops_workout(contents) {
+        "yes"
+    } else {
+        "no"
+    };
+    write!(out, "] stop={stops}")
+}
+
+pub(crate) fn print_list<'a, F: Fn(usize) -> Outcome<Found<'a>>>(
+    out: &mut impl Write,
+    count: usize,
+    nth: F,
+) -> io::Result<()>
+    requires { F.IsAlwaysCallable nth }
+{
+    for n in 0..count {
+        separate(out, n)?;
+        write!(out, "{}", nth(n))?;
+    }
+    Ok(())
+}
+
+// A comma before any entry but the first.
+fn separate(out: &mut impl Write, n: usize) -> io::Result<()> {
+    if n > 0 {
+        write!(out, ",")?;
+    }
+    Ok(())
+}
+
+// The commands at the top, with what stands in wrappers.
+fn print_top(out: &mut impl Write, contents: &[u8], count: usize) -> io::Result<()> {
+    for n in 0..count {
+        separate(out, n)?;
+        match command::nth(contents, n) {
+            Ok(entry) if command::is_wrapper(entry.byte) => print_wrapper(out, contents, n, entry)?,
+            _ => write!(out, "{}", top(contents, n))?,
+        }
+    }
+    Ok(())
+}
+
+fn print_wrapper(out: &mut impl Write, contents: &[u8], w: usize, entry: Entry) -> io::Result<()> {
+    let Entry { byte, start, len } = entry;
+    let list = command::nth_data(contents, w);
+    let count = entries::count(entries::COMMANDS, list, Cursor { at: 0 });
+    write!(out, "{byte:02X}@{start}+{len}{{")?;
+    print_list(out, count.unwrap_or(1), |n| inside(contents, w, n))?;
+    write!(out, "}}")
 }
 
 // ---- by steps
 
 // What a cursor finds, and where it then stands.
+fn step_from(contents: &[u8], at: usize) -> (Outcome<Found<'_>>, usize) {
+    let step = cursor::step_from(contents, at);
+    let entry = outcome(step.found, traversal::data_at(contents, at));
+    (entry, step.next)
+}
+
 fn print_steps(out: &mut impl Write, contents: &[u8], count: usize) -> io::Result<()> {
     let mut at = 0;
-    let mut n = 0;
-    while n < count {
-        at = print_step(out, print::separator(n), contents, at, print::STANDS)?;
-        n += 1;
+    for n in 0..count {
+        separate(out, n)?;
+        let (entry, next) = step_from(contents, at);
+        write!(out, "{entry}>{next}")?;
+        at = next;
     }
     Ok(())
 }
 
-pub(crate) fn print_step(
-    out: &mut impl Write,
-    before: usize,
-    contents: &[u8],
-    at: usize,
-    after: usize,
-) -> io::Result<usize> {
-    let step = cursor::step_from(contents, at);
-    let found = step.found;
-    print::say(out, before, 0, 0, 0)?;
-    print_found(out, found, traversal::data_at(contents, at))?;
-    print::say(out, after, step.next, 0, 0)?;
-    Ok(step.next)
-}
-
-// ---- what is found
-
-fn print_found(out: &mut impl Write, found: Found, body: &[u8]) -> io::Result<()> {
-    match found {
-        Found::At { byte, start, len } => print_at(out, byte, start, len, body),
-        Found::Refused(why) => print::refusal(out, print::REFUSED, why),
-    }
-}
-
-// An entry's byte, the index and the length of its data, and the data.
-fn print_at(
-    out: &mut impl Write,
-    byte: u8,
-    start: usize,
-    len: usize,
-    body: &[u8],
-) -> io::Result<()> {
-    print::say(out, print::FOUND, byte as usize, start, len)?;
-    print::hex(out, body)
+pub(crate) fn print_one_step(out: &mut impl Write, contents: &[u8], at: usize) -> io::Result<()> {
+    let (entry, next) = step_from(contents, at);
+    write!(out, " found={entry} next={next}")
 }

@@ -1,73 +1,59 @@
 // Calls on a new lease table.
-use crate::{operations, print, wire, words};
-use command::entries;
-use lease::LeaseAnswer;
+use crate::print::{Hex, Outcome, written};
+use crate::words;
+use crate::words::ROOM;
+use std::alloc::Global;
 use std::io;
 use std::io::Write;
 
 // How many bytes of the table are an address's own.
 const OWN: usize = 8;
 
-pub(crate) fn run_calls(out: &mut impl Write, calls: &[u8]) -> io::Result<()> {
+// A call's name has its address, a byte, and its token after it. A word that is no call's name is passed over.
+pub(crate) fn run_calls(out: &mut impl Write, alloc: Global, calls: &[u8]) -> io::Result<()> {
     let mut table = [0u8; 2048];
-    let n = words::parts(calls, b' ');
-    let mut k = 0;
-    while k < n {
-        run_from(out, words::after(calls, b' ', k), &mut table)?;
-        k += 1;
+    let words: Vec<&[u8]> = calls.split(|b| *b == b' ').collect(alloc)?;
+    for (k, call) in words.iter().enumerate() {
+        let operands = &words[k + 1..];
+        let address = operands.first().map_or(0, |word| words::byte(word));
+        let token = operands.get(1).map_or(0, |word| words::number(word));
+        run_call(out, &mut table, call, address, token)?;
     }
     Ok(())
 }
 
-// A call's name has its address, a byte, and its token after it.
-fn run_from(out: &mut impl Write, rest: &[u8], table: &mut [u8; 2048]) -> io::Result<()> {
-    let call = operations::named(words::nth(rest, b' ', 0));
-    let address = words::byte(words::nth(rest, b' ', 1)) as u32;
-    let token = words::number(words::nth(rest, b' ', 2));
-    run_call(out, call, table, address, token)
-}
-
-// A word that is no call's name is passed over.
 fn run_call(
     out: &mut impl Write,
-    call: usize,
     table: &mut [u8; 2048],
-    address: u32,
+    call: &[u8],
+    address: u8,
     token: u64,
 ) -> io::Result<()> {
+    let number = u32::from(address);
     match call {
-        operations::HOLD => print_outcome(
-            out,
-            print::HOLD,
-            lease::hold_lent(table, address, token),
-        ),
-        operations::RELEASE => print_outcome(
-            out,
-            print::RELEASE,
-            lease::release_lent(table, address, token),
-        ),
-        operations::STOP => stop(out, table, address, token),
-        operations::OWN_BYTES => print_own(out, table, address),
+        b"hold" => {
+            let answer = lease::hold_lent(table, number, token);
+            write!(out, " hold={}", Outcome(answer.map(|()| "done")))
+        }
+        b"release" => {
+            let answer = lease::release_lent(table, number, token);
+            write!(out, " release={}", Outcome(answer.map(|()| "done")))
+        }
+        b"stop" => {
+            let mut room = [0u8; ROOM];
+            let frame = written(
+                &mut room,
+                |room| lease::stop_lent(table, number, token, room),
+            );
+            write!(out, " stop={frame}")
+        }
+        b"bytes" => write!(out, " bytes={}", Hex(own(table, address))),
         _ => Ok(()),
     }
 }
 
-fn print_own(out: &mut impl Write, table: &[u8], address: u32) -> io::Result<()> {
-    print::say(out, print::OWN_BYTES, 0, 0, 0)?;
-    print::hex(out, entries::part(table, OWN * address as usize, OWN))
-}
-
-fn stop(out: &mut impl Write, table: &[u8], address: u32, token: u64) -> io::Result<()> {
-    print::say(out, print::STOP, 0, 0, 0)?;
-    let mut room = [0u8; words::ROOM];
-    let written = lease::stop_lent(table, address, token, &mut room);
-    wire::print_written(out, written, &room)
-}
-
-fn print_outcome(out: &mut impl Write, form: usize, outcome: LeaseAnswer) -> io::Result<()> {
-    print::say(out, form, 0, 0, 0)?;
-    match outcome {
-        LeaseAnswer::Done => print::say(out, print::DONE, 0, 0, 0),
-        LeaseAnswer::Refused(why) => print::refusal(out, print::REFUSED, why),
-    }
+// The bytes of the table that are an address's own.
+fn own(table: &[u8; 2048], address: u8) -> &[u8] {
+    let start = OWN * usize::from(address);
+    &table[start..start + OWN]
 }

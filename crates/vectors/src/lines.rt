@@ -1,204 +1,187 @@
-// The line reader: by value, fed by the byte, and over a lent array, fed by the chunk.
-ghost use Rattle.std.specs.Prelude.{◌<◌, ◌≤◌};
-
-use crate::{print, wire, words};
+// The line reader: by value, fed by the byte and by the chunk, and over a lent array, fed by the chunk.
+use crate::print::Reading;
+use crate::readers::{Answer, ByteReader, Feeding, Input, Reader};
+use crate::wire::Frame;
+use crate::{readers, words};
+use answer::Refusal;
 use candidate::Told;
-use command::entries;
-use frame::Origin;
+use frame::{Origin, Outline};
 use line::{LineReader, State, Stepped};
-use std::io;
+use std::alloc::Global;
 use std::io::Write;
+use std::{fmt, io};
 
-// Calls on new readers.
-pub(crate) fn run_new(out: &mut impl Write, origin: Origin, calls: &[u8]) -> io::Result<()> {
-    run_calls(out, LineReader::new(origin), calls)
+// A frame that was read, or why it is refused, where it began in the line, and the array whose first bytes are its
+// contents.
+#[derive(Drop)]
+pub(crate) struct Located {
+    position: u32,
+    read: Result<Outline, Refusal>,
+    bytes: [u8; 118],
 }
 
-// Calls on readers that have taken as many bytes as the first argument says.
-pub(crate) fn run_counted(
-    out: &mut impl Write,
-    origin: Origin,
-    arguments: &[u8],
-) -> io::Result<()> {
-    run_calls(
-        out,
-        counted(origin, words::nth(arguments, b' ', 0)),
-        words::after(arguments, b' ', 1),
-    )
-}
-
-// A reader that has taken so many bytes.
-pub(crate) fn counted(origin: Origin, digits: &[u8]) -> LineReader {
-    let count = words::number(digits);
-    let new = LineReader::new(origin);
-    let state = new.state;
-    let held = state.held;
-    LineReader {
-        bytes: [0u8; 118],
-        state: State {
-            held,
-            start: 0,
-            count: (count % 0x1_0000_0000) as u32,
-        },
+impl fmt::Display for Located {
+    fn fmt<W: fmt::Write>(&self, f: &mut fmt::Formatter<W>) -> fmt::Result {
+        let frame = self
+            .read
+            .map(|outline| Frame::in_array(outline, &self.bytes));
+        write!(f, " at={}{}", self.position, Reading(frame))
     }
 }
 
-// Both readers get each group of bytes, and a finish after it.
-fn run_calls(out: &mut impl Write, first: LineReader, calls: &[u8]) -> io::Result<()> {
-    let mut reader = first;
-    let mut held = [0u8; 118];
-    let mut state = first.state;
-    let n = words::parts(calls, b'/');
-    let mut k = 0;
-    while k < n {
-        let mut room = [0u8; words::ROOM];
-        let len = words::bytes(words::nth(calls, b'/', k), &mut room);
-        reader = step_all(out, reader, entries::part(&room, 0, len))?;
-        state = feed_all(out, &mut held, state, entries::part(&room, 0, len))?;
-        k += 1;
+// The same, with how many bytes of the array are not 0.
+#[derive(Drop)]
+struct Whole(Located);
+
+impl fmt::Display for Whole {
+    fn fmt<W: fmt::Write>(&self, f: &mut fmt::Formatter<W>) -> fmt::Result {
+        let nonzero = self.0.bytes.iter().filter(|b| **b != 0).count();
+        write!(f, "{} nonzero={nonzero}", self.0)
     }
-    Ok(())
+}
+
+fn told_at(told: Told, position: u32, bytes: [u8; 118]) -> Option<Located> {
+    told.map(|read| Located {
+        position,
+        read,
+        bytes,
+    })
 }
 
 // ---- by value
 
-fn step_all(out: &mut impl Write, reader: LineReader, bytes: &[u8]) -> io::Result<LineReader> {
-    print::say(out, print::BY_VALUE, 0, 0, 0)?;
-    let mut r = reader;
-    let mut i = 0;
-    while i < bytes.len() {
-        r = print_stepped(out, i, r.step(bytes[i]))?;
-        i += 1;
-    }
-    print_stepped(out, i, r.finish())
-}
+impl Reader for LineReader {
+    type Told = Located;
 
-// What is told, and how many bytes of the array beside it are not 0.
-fn print_stepped(out: &mut impl Write, index: usize, step: Stepped) -> io::Result<LineReader> {
-    let answer = step.answer;
-    let told = answer.told;
-    let position = answer.position;
-    let contents = answer.contents;
-    match told {
-        Told::Nothing => {}
-        _ => {
-            print_told_by(out, index, position, told, &contents)?;
-            // The zeros part the 118 bytes into one part more than there are zeros.
-            print::say(
-                out,
-                print::NONZERO,
-                119usize.wrapping_sub(words::parts(&contents, 0)),
-                0,
-                0,
-            )?;
+    // The contents are read from the reader afterwards.
+    fn fed(self, chunk: &[u8]) -> Answer<LineReader, Located> {
+        let fed = self.feed(chunk);
+        Answer {
+            taken: fed.answer.taken,
+            told: told_at(fed.answer.told, fed.answer.position, fed.next.bytes),
+            next: fed.next,
         }
     }
-    Ok(step.next)
+
+    fn finished(self) -> Answer<LineReader, Located> {
+        beside(0, self.finish())
+    }
+}
+
+impl ByteReader for LineReader {
+    fn stepped(self, byte: u8) -> Answer<LineReader, Located> {
+        beside(1, self.step(byte))
+    }
+}
+
+// The contents stand beside the answer.
+fn beside(taken: usize, step: Stepped) -> Answer<LineReader, Located> {
+    let answer = step.answer;
+    Answer {
+        taken,
+        told: told_at(answer.told, answer.position, answer.contents),
+        next: step.next,
+    }
 }
 
 // ---- over a lent array
 
-fn feed_all(
-    out: &mut impl Write,
-    held: &mut [u8; 118],
+#[derive(Clone, Copy)]
+struct Lent {
+    bytes: [u8; 118],
     state: State,
-    bytes: &[u8],
-) -> io::Result<State> {
-    print::say(out, print::FEED_IN, 0, 0, 0)?;
-    let mut s = state;
-    let mut i = 0;
-    while i < bytes.len() {
-        let step = line::feed_in(held, s, &bytes[i..]);
-        let taken = step.taken;
-        let told = step.told;
-        print_told_by(out, answered(i, taken), step.position, told, held)?;
-        i = past(i, taken, bytes.len());
-        s = step.state;
-    }
-    finish(out, held, s, i)
 }
 
-// The index of the byte that is answered: the last that was taken, or where none was the first, which is refused.
-fn answered(i: usize, taken: usize) -> usize {
-    if taken == 0 {
-        return i;
+impl Reader for Lent {
+    type Told = Located;
+
+    fn fed(self, chunk: &[u8]) -> Answer<Lent, Located> {
+        let mut bytes = self.bytes;
+        let step = line::feed_in(&mut bytes, self.state, chunk);
+        Answer {
+            taken: step.taken,
+            told: told_at(step.told, step.position, bytes),
+            next: Lent {
+                bytes,
+                state: step.state,
+            },
+        }
     }
-    i.wrapping_add(taken - 1)
-}
 
-// The index after so many bytes more, at most those that there are. Where none was taken, no more are given.
-pub(crate) fn past(i: usize, taken: usize, end: usize) -> usize
-    requires { i < end }
-    ensures lower_bound { i < result }
-    ensures upper_bound { result ≤ end }
-{
-    if taken == 0 {
-        return end;
-    }
-    if end - i <= taken {
-        return end;
-    }
-    i + taken
-}
-
-fn finish(out: &mut impl Write, held: &[u8; 118], state: State, index: usize) -> io::Result<State> {
-    let last = line::finish_in(state);
-    let told = last.told;
-    print_told_by(out, index, last.position, told, held)?;
-    Ok(last.state)
-}
-
-// ---- what is told
-
-fn print_told_by(
-    out: &mut impl Write,
-    index: usize,
-    position: u32,
-    told: Told,
-    held: &[u8; 118],
-) -> io::Result<()> {
-    match told {
-        Told::Nothing => Ok(()),
-        _ => {
-            print::say(out, print::BY, index, 0, 0)?;
-            print_told(out, position, told, held)
+    fn finished(self) -> Answer<Lent, Located> {
+        let step = line::finish_in(self.state);
+        Answer {
+            taken: 0,
+            told: told_at(step.told, step.position, self.bytes),
+            next: Lent {
+                state: step.state,
+                ..self
+            },
         }
     }
 }
 
-// A frame's contents are the first bytes of the array.
-pub(crate) fn print_told(
-    out: &mut impl Write,
-    position: u32,
-    told: Told,
-    held: &[u8; 118],
-) -> io::Result<()> {
-    match told {
-        Told::Nothing => Ok(()),
-        _ => {
-            print::say(out, print::AT, position as usize, 0, 0)?;
-            print_answer(out, told, held)
-        }
+// ---- examples
+
+// A new reader.
+pub(crate) fn new(origin: Origin, groups: &[u8]) -> Input<'_, LineReader> {
+    Input {
+        reader: LineReader::new(origin),
+        groups,
     }
 }
 
-fn print_answer(out: &mut impl Write, told: Told, held: &[u8; 118]) -> io::Result<()> {
-    match told {
-        Told::Nothing => Ok(()),
-        Told::Refused(why) => print::refusal(out, print::KIND_REFUSED, why),
-        Told::Standard { len } => wire::print_frame(
-            out,
-            print::STANDARD,
-            0,
-            0,
-            entries::part(held, 0, len),
-        ),
-        Told::Extended { to, from, len } => wire::print_frame(
-            out,
-            print::EXTENDED,
-            to,
-            from,
-            entries::part(held, 0, len),
-        ),
+// A reader that has taken as many bytes as the first argument says.
+pub(crate) fn counted(origin: Origin, arguments: &[u8]) -> Input<'_, LineReader> {
+    let (count, groups) = words::split_word(arguments);
+    let new = LineReader::new(origin);
+    let state = State {
+        count: words::low(words::number(count)),
+        ..new.state
+    };
+    Input {
+        reader: LineReader { state, ..new },
+        groups,
     }
+}
+
+// Both readers get each group of bytes, and a finish after it.
+pub(crate) fn run(
+    out: &mut impl Write,
+    alloc: Global,
+    input: Input<'_, LineReader>,
+) -> io::Result<()> {
+    let mut reader = input.reader;
+    let mut lent = Lent {
+        bytes: [0; 118],
+        state: reader.state,
+    };
+    for group in input.groups.split(|b| *b == b'/') {
+        let bytes = words::bytes(alloc, group)?;
+        reader = step_all(out, reader, bytes.as_slice())?;
+        lent = feed_all(out, lent, bytes.as_slice())?;
+    }
+    Ok(())
+}
+
+fn step_all(out: &mut impl Write, first: LineReader, bytes: &[u8]) -> io::Result<LineReader> {
+    write!(out, " step:")?;
+    let reader = readers::step_bytes(out, first, bytes, Whole)?;
+    let last = reader.finished();
+    readers::print_by(out, bytes.len(), last.told.map(Whole))?;
+    Ok(last.next)
+}
+
+// An answer is by the last byte that a call took or, where it took none, by the first, which is refused.
+fn feed_all(out: &mut impl Write, first: Lent, bytes: &[u8]) -> io::Result<Lent> {
+    write!(out, " feed_in:")?;
+    let mut reader = first;
+    for (begin, answer) in Feeding::new(first, bytes) {
+        let index = begin.saturating_add(answer.taken.saturating_sub(1));
+        readers::print_by(out, index, answer.told)?;
+        reader = answer.next;
+    }
+    let last = reader.finished();
+    readers::print_by(out, bytes.len(), last.told)?;
+    Ok(last.next)
 }

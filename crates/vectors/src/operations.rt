@@ -1,86 +1,81 @@
-// What an example or a call on a lease table asks for, by the index of its name in the text of `named`.
-use crate::words;
+// What an example asks for, by the name of its operation.
+use crate::{
+    commands, leases, lines, packet_lines, packets, readers, replies, wire, words, workouts,
+};
+use frame::Origin;
+use std::alloc::Global;
+use std::io;
+use std::io::Write;
 
-pub(crate) const FRAME: usize = 0;
+// Operations whose arguments are not bytes alone.
+pub(crate) fn run(
+    out: &mut impl Write,
+    alloc: Global,
+    operation: &[u8],
+    arguments: &[u8],
+) -> io::Result<()> {
+    match operation {
+        b"distance" => workouts::write(out, workouts::distance, arguments),
+        b"time" => workouts::write(out, workouts::time, arguments),
+        b"distance-frame" => workouts::write_frame(out, workouts::distance, arguments),
+        b"time-frame" => workouts::write_frame(out, workouts::time, arguments),
+        b"lease" => leases::run_calls(out, alloc, arguments),
+        b"packet-read" => packets::read(out, alloc, arguments),
+        b"packet-write" => packets::write(out, alloc, arguments),
+        b"names" => replies::print_names(out),
+        _ => run_on_line(out, alloc, operation, arguments),
+    }
+}
 
-pub(crate) const CONTENTS: usize = 1;
+// Operations on line readers.
+fn run_on_line(
+    out: &mut impl Write,
+    alloc: Global,
+    operation: &[u8],
+    arguments: &[u8],
+) -> io::Result<()> {
+    match operation {
+        b"line" => lines::run(out, alloc, lines::new(Origin::Trace, arguments)),
+        b"line-at" => lines::run(out, alloc, lines::counted(Origin::Trace, arguments)),
+        b"live-line" => lines::run(out, alloc, lines::new(Origin::Live, arguments)),
+        b"live-line-at" => lines::run(out, alloc, lines::counted(Origin::Live, arguments)),
+        b"chunks" => readers::feed(out, alloc, lines::new(Origin::Trace, arguments)),
+        b"chunks-at" => readers::feed(out, alloc, lines::counted(Origin::Trace, arguments)),
+        b"live-chunks" => readers::feed(out, alloc, lines::new(Origin::Live, arguments)),
+        b"live-chunks-at" => readers::feed(out, alloc, lines::counted(Origin::Live, arguments)),
+        b"packets" => readers::step(out, alloc, packet_lines::new(arguments)),
+        b"packet-chunks" => readers::feed(out, alloc, packet_lines::new(arguments)),
+        _ => run_on_bytes(out, operation, words::bytes(alloc, arguments)?.as_slice()),
+    }
+}
 
-pub(crate) const STANDARD: usize = 2;
+// Operations on bytes, of which the first is a number for some.
+fn run_on_bytes(out: &mut impl Write, operation: &[u8], bytes: &[u8]) -> io::Result<()> {
+    let (first, rest) = words::split_byte(bytes);
+    match operation {
+        b"frame" => wire::read(out, Origin::Trace, bytes),
+        b"live-frame" => wire::read(out, Origin::Live, bytes),
+        b"contents" => wire::print_contents(out, bytes),
+        b"standard" => wire::print_standard(out, Origin::Trace, bytes),
+        b"live-standard" => wire::print_standard(out, Origin::Live, bytes),
+        b"standard-length" => wire::print_standard_length(out, Origin::Trace, bytes),
+        b"live-length" => wire::print_standard_length(out, Origin::Live, bytes),
+        b"number" => wire::print_number(out, bytes),
+        b"command" => commands::print_command(out, rest, first.into()),
+        b"step" => commands::print_one_step(out, rest, first.into()),
+        b"item" => commands::print_item(out, rest, first.into()),
+        _ => run_on_two(out, operation, first, rest),
+    }
+}
 
-pub(crate) const EXTENDED: usize = 3;
-
-pub(crate) const NUMBER: usize = 4;
-
-pub(crate) const COMMAND: usize = 5;
-
-pub(crate) const INSIDE: usize = 6;
-
-pub(crate) const STEP: usize = 7;
-
-pub(crate) const ITEM: usize = 8;
-
-pub(crate) const STATUS: usize = 9;
-
-pub(crate) const DISTANCE: usize = 10;
-
-pub(crate) const TIME: usize = 11;
-
-pub(crate) const LEASE: usize = 12;
-
-pub(crate) const LINE: usize = 13;
-
-pub(crate) const LINE_AT: usize = 14;
-
-pub(crate) const CHUNKS: usize = 15;
-
-pub(crate) const CHUNKS_AT: usize = 16;
-
-pub(crate) const NAMES: usize = 17;
-
-pub(crate) const STANDARD_LENGTH: usize = 18;
-
-pub(crate) const EXTENDED_LENGTH: usize = 19;
-
-pub(crate) const LIVE_FRAME: usize = 20;
-
-pub(crate) const LIVE_STANDARD: usize = 21;
-
-pub(crate) const LIVE_LENGTH: usize = 22;
-
-pub(crate) const LIVE_LINE: usize = 23;
-
-pub(crate) const LIVE_LINE_AT: usize = 24;
-
-pub(crate) const LIVE_CHUNKS: usize = 25;
-
-pub(crate) const LIVE_CHUNKS_AT: usize = 26;
-
-pub(crate) const DISTANCE_FRAME: usize = 27;
-
-pub(crate) const TIME_FRAME: usize = 28;
-
-pub(crate) const PACKET_READ: usize = 29;
-
-pub(crate) const PACKET_WRITE: usize = 30;
-
-pub(crate) const PACKETS: usize = 31;
-
-pub(crate) const PACKET_CHUNKS: usize = 32;
-
-pub(crate) const HOLD: usize = 33;
-
-pub(crate) const RELEASE: usize = 34;
-
-pub(crate) const STOP: usize = 35;
-
-pub(crate) const OWN_BYTES: usize = 36;
-
-pub(crate) const COUNT: usize = 37;
-
-pub(crate) fn named(name: &[u8]) -> usize {
-    let names =
-        b"frame contents standard extended number command inside step item status distance time lease line line-at chunks \
-        chunks-at names standard-length extended-length live-frame live-standard live-length live-line live-line-at live-chunks \
-        live-chunks-at distance-frame time-frame packet-read packet-write packets packet-chunks hold release stop bytes";
-    words::index_among(names, COUNT, name)
+// Operations on bytes, of which the first two are numbers or addresses.
+fn run_on_two(out: &mut impl Write, operation: &[u8], first: u8, bytes: &[u8]) -> io::Result<()> {
+    let (second, rest) = words::split_byte(bytes);
+    match operation {
+        b"extended" => wire::print_extended(out, first, second, rest),
+        b"extended-length" => wire::print_extended_length(out, first, second, rest),
+        b"inside" => commands::print_inside(out, rest, first.into(), second.into()),
+        b"status" => replies::print_status_of(out, first, second, words::split_byte(rest).0),
+        _ => write!(out, "?"),
+    }
 }

@@ -1,123 +1,69 @@
 // The line reader for treadmill packets by value: fed by the byte, and by the chunk.
-use crate::{lines, packets, print, words};
-use command::entries;
-use coscom_line::{ChunkFed, LineReader, Stepped, Told};
-use std::io;
-use std::io::Write;
+use crate::packets::Packet;
+use crate::print::Reading;
+use crate::readers::{Answer, ByteReader, Input, Reader};
+use answer::Refusal;
+use coscom::Outline;
+use coscom_line::{LineReader, Stepped, Told};
+use std::fmt;
 
-// The reader is finished after each group of bytes, or of chunks.
-pub(crate) fn run_calls(out: &mut impl Write, in_chunks: bool, calls: &[u8]) -> io::Result<()> {
-    let mut reader = LineReader::new();
-    let n = words::parts(calls, b'/');
-    let mut k = 0;
-    while k < n {
-        let fed = take_group(out, in_chunks, reader, words::nth(calls, b'/', k))?;
-        reader = finish(out, fed)?;
-        k += 1;
+// A packet that was read, or why it is refused, and the array whose first bytes are its data unit.
+#[derive(Drop)]
+pub(crate) struct Ended {
+    read: Result<Outline, Refusal>,
+    bytes: [u8; 254],
+}
+
+impl fmt::Display for Ended {
+    fn fmt<W: fmt::Write>(&self, f: &mut fmt::Formatter<W>) -> fmt::Result {
+        let packet = self
+            .read
+            .map(|outline| Packet::in_array(outline, &self.bytes));
+        write!(f, "{}", Reading(packet))
     }
-    Ok(())
 }
 
-fn take_group(
-    out: &mut impl Write,
-    in_chunks: bool,
-    reader: LineReader,
-    group: &[u8],
-) -> io::Result<LineReader> {
-    if in_chunks {
-        return feed_group(out, reader, group);
-    }
-    let mut room = [0u8; words::ROOM];
-    let len = words::bytes(group, &mut room);
-    step_all(out, reader, entries::part(&room, 0, len))
+fn told_in(told: Told, bytes: [u8; 254]) -> Option<Ended> {
+    told.map(|read| Ended { read, bytes })
 }
 
-fn finish(out: &mut impl Write, reader: LineReader) -> io::Result<LineReader> {
-    let step = reader.finish();
-    let answer = step.answer;
-    let told = answer.told;
-    print::say(out, print::FINISH, 0, 0, 0)?;
-    print_told(out, told, &answer.unit)?;
-    Ok(step.next)
-}
+impl Reader for LineReader {
+    type Told = Ended;
 
-// ---- by the byte
-
-fn step_all(out: &mut impl Write, reader: LineReader, bytes: &[u8]) -> io::Result<LineReader> {
-    let mut r = reader;
-    let mut i = 0;
-    while i < bytes.len() {
-        r = print_stepped(out, i, r.step(bytes[i]))?;
-        i += 1;
-    }
-    Ok(r)
-}
-
-fn print_stepped(out: &mut impl Write, index: usize, step: Stepped) -> io::Result<LineReader> {
-    let answer = step.answer;
-    let told = answer.told;
-    match told {
-        Told::Nothing => {}
-        _ => {
-            print::say(out, print::BY, index, 0, 0)?;
-            print_told(out, told, &answer.unit)?;
+    // The data unit is read from the reader afterwards.
+    fn fed(self, chunk: &[u8]) -> Answer<LineReader, Ended> {
+        let fed = self.feed(chunk);
+        Answer {
+            taken: fed.answer.taken,
+            told: told_in(fed.answer.told, fed.next.bytes),
+            next: fed.next,
         }
     }
-    Ok(step.next)
-}
 
-// ---- by the chunk
-
-fn feed_group(out: &mut impl Write, reader: LineReader, group: &[u8]) -> io::Result<LineReader> {
-    let mut r = reader;
-    let n = words::parts(group, b',');
-    let mut k = 0;
-    while k < n {
-        let mut room = [0u8; words::ROOM];
-        let len = words::bytes(words::nth(group, b',', k), &mut room);
-        r = feed_all(out, r, entries::part(&room, 0, len))?;
-        k += 1;
+    fn finished(self) -> Answer<LineReader, Ended> {
+        beside(0, self.finish())
     }
-    Ok(r)
 }
 
-// An empty chunk is given once, of any other also what a call did not take.
-fn feed_all(out: &mut impl Write, reader: LineReader, chunk: &[u8]) -> io::Result<LineReader> {
-    if chunk.len() == 0 {
-        return print_fed(out, reader.feed(chunk));
+impl ByteReader for LineReader {
+    fn stepped(self, byte: u8) -> Answer<LineReader, Ended> {
+        beside(1, self.step(byte))
     }
-    let mut r = reader;
-    let mut i = 0;
-    while i < chunk.len() {
-        let fed = r.feed(&chunk[i..]);
-        i = lines::past(i, fed.answer.taken, chunk.len());
-        r = print_fed(out, fed)?;
+}
+
+// The data unit stands beside the answer.
+fn beside(taken: usize, step: Stepped) -> Answer<LineReader, Ended> {
+    Answer {
+        taken,
+        told: told_in(step.answer.told, step.answer.unit),
+        next: step.next,
     }
-    Ok(r)
 }
 
-// The data unit of a packet is read from the reader afterwards.
-fn print_fed(out: &mut impl Write, fed: ChunkFed) -> io::Result<LineReader> {
-    let answer = fed.answer;
-    let told = answer.told;
-    let next = fed.next;
-    print::say(out, print::TAKEN, answer.taken, 0, 0)?;
-    print_told(out, told, &next.bytes)?;
-    Ok(next)
-}
-
-// ---- what is told
-
-// A packet's data unit is the first bytes of the array.
-fn print_told(out: &mut impl Write, told: Told, held: &[u8; 254]) -> io::Result<()> {
-    match told {
-        Told::Nothing => Ok(()),
-        Told::Refused(why) => print::refusal(out, print::KIND_REFUSED, why),
-        Told::Packet {
-            letter,
-            tens,
-            ones,
-            len,
-        } => packets::print_packet(out, letter, tens, ones, entries::part(held, 0, len)),
+// A new reader.
+pub(crate) fn new(groups: &[u8]) -> Input<'_, LineReader> {
+    Input {
+        reader: LineReader::new(),
+        groups,
     }
 }

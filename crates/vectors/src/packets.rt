@@ -1,119 +1,84 @@
 // Treadmill packets read and written, and how one is printed.
-ghost use Rattle.std.specs.Prelude.{◌≤◌, length};
-
-use crate::{print, wire, words};
-use answer::Written;
-use command::entries;
-use coscom::Read;
-use std::io;
+use crate::print::{Hex, Reading, first, written};
+use crate::words;
+use coscom::{Header, Outline};
+use std::alloc::{AllocError, Global};
 use std::io::Write;
+use std::{fmt, io};
 
 // The longest output that is lent.
 const ROOM: usize = 300;
 
-// The first argument says how many bytes the output has.
-pub(crate) fn read(out: &mut impl Write, arguments: &[u8]) -> io::Result<()> {
-    let mut wire = [0u8; words::ROOM];
-    let n = words::bytes(words::after(arguments, b' ', 1), &mut wire);
-    read_slice(out, entries::part(&wire, 0, n), room_of(arguments))
+// A packet that is read.
+#[derive(Clone, Copy)]
+pub(crate) struct Packet<'a> {
+    header: Header,
+    unit: &'a [u8],
 }
 
-fn read_slice(out: &mut impl Write, wire: &[u8], size: usize) -> io::Result<()>
-    requires { size ≤ 300 }
-{
-    let mut room = [0u8; words::ROOM];
-    let found = read_into(wire, size, &mut room);
-    match found {
-        Read::Packet {
-            letter,
-            tens,
-            ones,
-            len,
-        } => tell_packet(out, letter, tens, ones, entries::part(&room, 0, len)),
-        Read::Refused(why) => print::refusal(out, print::KIND_REFUSED, why),
+impl<'a> Packet<'a> {
+    // Its data unit stands first in an array.
+    // Stays beside `wire::Frame::in_array`: one function for both would be given both structs' fields one by one.
+    pub(crate) fn in_array(outline: Outline, bytes: &'a [u8]) -> Packet<'a> {
+        Packet {
+            header: outline.header,
+            unit: first(bytes, outline.len),
+        }
     }
 }
 
-// A packet that is read is written again from what was read.
-fn tell_packet(
-    out: &mut impl Write,
-    letter: u8,
-    tens: u8,
-    ones: u8,
-    unit: &[u8],
-) -> io::Result<()> {
-    print_packet(out, letter, tens, ones, unit)?;
-    print_written(out, ROOM, letter, tens, ones, unit)
+impl fmt::Display for Packet<'_> {
+    fn fmt<W: fmt::Write>(&self, f: &mut fmt::Formatter<W>) -> fmt::Result {
+        let Packet { header, unit } = *self;
+        let Header { letter, tens, ones } = header;
+        write!(f, "packet header={}", Hex(&[letter, tens, ones]))?;
+        write!(f, " len={} unit={}", unit.len(), Hex(unit))
+    }
+}
+
+// The first argument says how many bytes the output has. A packet that is read is written again from what was read.
+pub(crate) fn read(out: &mut impl Write, alloc: Global, arguments: &[u8]) -> io::Result<()> {
+    let (size, bytes) = words::split_word(arguments);
+    let wire = words::bytes(alloc, bytes)?;
+    let mut room = output(alloc, size)?;
+    let read = coscom::read_packet(wire.as_slice(), room.as_mut_slice());
+    let packet = read.map(|outline| Packet::in_array(outline, room.as_slice()));
+    write!(out, "{}", Reading(packet))?;
+    let Ok(Packet { header, unit }) = packet else {
+        return Ok(());
+    };
+    let mut room = [0u8; ROOM];
+    print_written(out, header, unit, &mut room)
 }
 
 // After the first argument, the first three bytes are the header.
-pub(crate) fn write(out: &mut impl Write, arguments: &[u8]) -> io::Result<()> {
-    let mut room = [0u8; words::ROOM];
-    let n = words::bytes(words::after(arguments, b' ', 1), &mut room);
-    let bytes = entries::part(&room, 0, n);
+pub(crate) fn write(out: &mut impl Write, alloc: Global, arguments: &[u8]) -> io::Result<()> {
+    let (size, bytes) = words::split_word(arguments);
+    let packet = words::bytes(alloc, bytes)?;
+    let (letter, rest) = words::split_byte(packet.as_slice());
+    let (tens, rest) = words::split_byte(rest);
+    let (ones, unit) = words::split_byte(rest);
+    let mut room = output(alloc, size)?;
     print_written(
         out,
-        room_of(arguments),
-        words::byte_at(bytes, 0),
-        words::byte_at(bytes, 1),
-        words::byte_at(bytes, 2),
-        entries::part(bytes, 3, n),
+        Header { letter, tens, ones },
+        unit,
+        room.as_mut_slice(),
     )
-}
-
-// The number of bytes that the first argument says, at most those of the longest output.
-fn room_of(arguments: &[u8]) -> usize
-    ensures { result ≤ 300 }
-{
-    let size = words::number(words::nth(arguments, b' ', 0));
-    if size < ROOM as u64 {
-        return size as usize;
-    }
-    ROOM
 }
 
 fn print_written(
     out: &mut impl Write,
-    size: usize,
-    letter: u8,
-    tens: u8,
-    ones: u8,
+    header: Header,
     unit: &[u8],
-) -> io::Result<()>
-    requires { size ≤ 300 }
-{
-    print::say(out, print::WRITTEN, 0, 0, 0)?;
-    let mut room = [0u8; words::ROOM];
-    let written = write_into(letter, tens, ones, unit, size, &mut room);
-    wire::print_written(out, written, &room)
-}
-
-// ---- the first bytes of a room as the output
-
-fn read_into(wire: &[u8], size: usize, room: &mut [u8]) -> Read
-    requires { size ≤ length room.old }
-{
-    coscom::read_packet(wire, &mut room[..size])
-}
-
-fn write_into(letter: u8, tens: u8, ones: u8, unit: &[u8], size: usize, room: &mut [u8]) -> Written
-    requires { size ≤ length room.old }
-{
-    coscom::write_packet(letter, tens, ones, unit, &mut room[..size])
-}
-
-// ---- what is read
-
-// The header, and the length and the bytes of the data unit.
-pub(crate) fn print_packet(
-    out: &mut impl Write,
-    letter: u8,
-    tens: u8,
-    ones: u8,
-    unit: &[u8],
+    room: &mut [u8],
 ) -> io::Result<()> {
-    print::say(out, print::PACKET, 0, 0, 0)?;
-    print::hex(out, &[letter, tens, ones])?;
-    print::say(out, print::UNIT, unit.len(), 0, 0)?;
-    print::hex(out, unit)
+    let wire = written(room, |room| coscom::write_packet(header, unit, room));
+    write!(out, " written={wire}")
+}
+
+// An output of as many bytes as a word says, at most those of the longest.
+fn output(alloc: Global, size: &[u8]) -> Result<Vec<u8>, AllocError> {
+    let size = words::number(size).min(ROOM as u64);
+    vec![in alloc; 0; size as usize]
 }

@@ -1,46 +1,54 @@
 // Frames read and written, and what stands in them.
-use crate::{commands, print, replies, words, workouts};
-use answer::Written;
-use command::entries;
-use frame::{Origin, Read};
-use std::io;
+use crate::print::{Hex, Outcome, Reading, first, written};
+use crate::words::ROOM;
+use crate::{commands, replies, workouts};
+use frame::{Header, Origin, Outline};
 use std::io::Write;
-use writer::WireLength;
+use std::{fmt, io};
 
-// A frame that is read is written again from what was read, to where it came from.
-pub(crate) fn read(out: &mut impl Write, origin: Origin, wire: &[u8]) -> io::Result<()> {
-    let mut room = [0u8; words::ROOM];
-    let found = frame::read_frame(origin, wire, &mut room);
-    match found {
-        Read::Standard { len } => tell_standard(out, origin, entries::part(&room, 0, len)),
-        Read::Extended { to, from, len } => {
-            tell_extended(out, to, from, entries::part(&room, 0, len))
+// A frame that is read.
+#[derive(Clone, Copy)]
+pub(crate) struct Frame<'a> {
+    header: Header,
+    contents: &'a [u8],
+}
+
+impl<'a> Frame<'a> {
+    // Its contents stand first in an array.
+    // Stays beside `packets::Packet::in_array`: one function for both would be given both structs' fields one by one.
+    pub(crate) fn in_array(outline: Outline, bytes: &'a [u8]) -> Frame<'a> {
+        Frame {
+            header: outline.header,
+            contents: first(bytes, outline.len),
         }
-        Read::Refused(why) => print::refusal(out, print::KIND_REFUSED, why),
     }
 }
 
-fn tell_standard(out: &mut impl Write, origin: Origin, contents: &[u8]) -> io::Result<()> {
-    print_frame(out, print::STANDARD, 0, 0, contents)?;
-    print_standard(out, origin, contents)?;
-    print_contents(out, contents)
+impl fmt::Display for Frame<'_> {
+    fn fmt<W: fmt::Write>(&self, f: &mut fmt::Formatter<W>) -> fmt::Result {
+        let Frame { header, contents } = *self;
+        match header {
+            Header::Plain => write!(f, "std")?,
+            Header::Addressed { to, from } => write!(f, "ext to={to:02X} from={from:02X}")?,
+        }
+        write!(f, " len={} contents={}", contents.len(), Hex(contents))
+    }
 }
 
-fn tell_extended(out: &mut impl Write, to: u8, from: u8, contents: &[u8]) -> io::Result<()> {
-    print_frame(out, print::EXTENDED, to, from, contents)?;
-    print_extended(out, to, from, contents)?;
+// A frame that is read is written again from what was read, to where it came from.
+pub(crate) fn read(out: &mut impl Write, origin: Origin, wire: &[u8]) -> io::Result<()> {
+    let mut room = [0u8; ROOM];
+    let read = frame::read_frame(origin, wire, &mut room);
+    let frame = read.map(|outline| Frame::in_array(outline, &room));
+    write!(out, "{}", Reading(frame))?;
+    let Ok(Frame { header, contents }) = frame else {
+        return Ok(());
+    };
+    match header {
+        Header::Plain => print_standard(out, origin, contents)?,
+        Header::Addressed { to, from } => print_extended(out, to, from, contents)?,
+    }
     print_contents(out, contents)
-}
-
-pub(crate) fn print_frame(
-    out: &mut impl Write,
-    kind: usize,
-    to: u8,
-    from: u8,
-    contents: &[u8],
-) -> io::Result<()> {
-    print::say(out, kind, to as usize, from as usize, contents.len())?;
-    print::hex(out, contents)
 }
 
 pub(crate) fn print_contents(out: &mut impl Write, contents: &[u8]) -> io::Result<()> {
@@ -50,27 +58,22 @@ pub(crate) fn print_contents(out: &mut impl Write, contents: &[u8]) -> io::Resul
 }
 
 pub(crate) fn print_number(out: &mut impl Write, bytes: &[u8]) -> io::Result<()> {
-    print::say(
-        out,
-        print::NUMBER,
-        numbers::number_at(bytes, 0, bytes.len()) as usize,
-        0,
-        0,
-    )
+    write!(out, " number={}", numbers::number_at(bytes, 0, bytes.len()))
 }
 
 // ---- writing
 
-// The standard frame that has these contents.
 pub(crate) fn print_standard(
     out: &mut impl Write,
     origin: Origin,
     contents: &[u8],
 ) -> io::Result<()> {
-    print::say(out, print::WRITTEN, 0, 0, 0)?;
-    let mut room = [0u8; words::ROOM];
-    let written = writer::write_standard(origin, contents, &mut room);
-    print_written(out, written, &room)
+    let mut room = [0u8; ROOM];
+    let wire = written(
+        &mut room,
+        |room| writer::write_standard(origin, contents, room),
+    );
+    write!(out, " written={wire}")
 }
 
 pub(crate) fn print_extended(
@@ -79,10 +82,12 @@ pub(crate) fn print_extended(
     from: u8,
     contents: &[u8],
 ) -> io::Result<()> {
-    print::say(out, print::WRITTEN, 0, 0, 0)?;
-    let mut room = [0u8; words::ROOM];
-    let written = writer::write_extended(to, from, contents, &mut room);
-    print_written(out, written, &room)
+    let mut room = [0u8; ROOM];
+    let wire = written(
+        &mut room,
+        |room| writer::write_extended(to, from, contents, room),
+    );
+    write!(out, " written={wire}")
 }
 
 pub(crate) fn print_standard_length(
@@ -90,21 +95,16 @@ pub(crate) fn print_standard_length(
     origin: Origin,
     contents: &[u8],
 ) -> io::Result<()> {
-    print_length(out, writer::standard_length(origin, contents))
+    let length = writer::standard_length(origin, contents);
+    write!(out, " length={}", Outcome(length))
 }
 
-// How many bytes a frame takes on the wire, or its refusal.
-pub(crate) fn print_length(out: &mut impl Write, length: WireLength) -> io::Result<()> {
-    match length {
-        WireLength::Bytes(n) => print::say(out, print::LENGTH, n, 0, 0),
-        WireLength::Refused(why) => print::refusal(out, print::NO_LENGTH, why),
-    }
-}
-
-// The bytes that a writer left first in `room`, or its refusal.
-pub(crate) fn print_written(out: &mut impl Write, written: Written, room: &[u8]) -> io::Result<()> {
-    match written {
-        Written::Length(n) => print::hex(out, entries::part(room, 0, n)),
-        Written::Refused(why) => print::refusal(out, print::REFUSED, why),
-    }
+pub(crate) fn print_extended_length(
+    out: &mut impl Write,
+    to: u8,
+    from: u8,
+    contents: &[u8],
+) -> io::Result<()> {
+    let length = writer::extended_length(to, from, contents);
+    write!(out, " length={}", Outcome(length))
 }

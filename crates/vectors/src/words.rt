@@ -1,122 +1,80 @@
 // The words, bytes and numbers of an example.
 ghost use Rattle.std.specs.Prelude.{◌≤◌};
 
-use command::entries;
+use std::alloc::{AllocError, Global};
 
-// The room for the bytes of an example, and for what is written of them.
+// The most bytes that an example gives, and the room for what is written of them.
+// Stays the size of an array where something is written: a `Vec` would first be filled with as many zeros.
 pub(crate) const ROOM: usize = 4096;
 
-// What stands after so many marks, up to the next mark.
-pub(crate) fn nth(s: &[u8], mark: u8, marks: usize) -> &[u8] {
-    let rest = after(s, mark, marks);
-    let end = rest.iter().position(|b| *b == mark);
-    entries::part(rest, 0, end.unwrap_or(rest.len()))
-}
-
-// What stands after so many marks, or nothing.
-pub(crate) fn after(s: &[u8], mark: u8, marks: usize) -> &[u8] {
-    let mut left = marks;
-    let mut i = 0;
-    while i < s.len() {
-        if left == 0 {
-            return &s[i..];
-        }
-        if s[i] == mark {
-            left = left - 1;
-        }
-        i += 1;
+// What stands before the first space, and what stands after it.
+pub(crate) fn split_word(text: &[u8]) -> (&[u8], &[u8]) {
+    match text.iter().position(|b| *b == b' ') {
+        Some(at) => (&text[..at], &text[at + 1..]),
+        None => (text, &[]),
     }
-    &s[..0]
 }
 
-// How many parts the marks part: one more than there are marks.
-pub(crate) fn parts(s: &[u8], mark: u8) -> usize {
-    let mut n: usize = 1;
-    let mut i = 0;
-    while i < s.len() {
-        if s[i] == mark {
-            n = n.wrapping_add(1);
-        }
-        i += 1;
+// The first byte, or 0, and those after it.
+pub(crate) fn split_byte(bytes: &[u8]) -> (u8, &[u8]) {
+    match bytes {
+        [first, rest @ ..] => (*first, rest),
+        [] => (0, &[]),
     }
-    n
 }
 
-// The index of a word among so many that a space parts, or how many they are.
-pub(crate) fn index_among(all: &[u8], count: usize, word: &[u8]) -> usize {
-    let mut k = 0;
-    while k < count {
-        if nth(all, b' ', k) == word {
-            return k;
-        }
-        k += 1;
+// The bytes of two digits each, at most `ROOM`. Spaces are passed over, and a last digit alone.
+pub(crate) fn bytes(alloc: Global, text: &[u8]) -> Result<Vec<u8>, AllocError> {
+    let digits: Vec<u8> = text.iter().copied().filter(|b| *b != b' ').collect(alloc)?;
+    let (pairs, _) = digits.as_slice().as_chunks::<2>();
+    pairs
+        .iter()
+        .take(ROOM)
+        .map(|pair| byte(pair))
+        .collect(alloc)
+}
+
+// The byte whose two digits come first, 0 where there is none.
+pub(crate) fn byte(word: &[u8]) -> u8 {
+    match word {
+        [] => 0,
+        [high] => 16 * digit(*high),
+        [high, low, ..] => 16 * digit(*high) + digit(*low),
     }
-    k
 }
 
-// Puts bytes, two digits each, first in `out`, and answers how many there are. Spaces are passed over.
-pub(crate) fn bytes(s: &[u8], out: &mut [u8]) -> usize {
-    let mut digits = 0;
-    let mut i = 0;
-    while i < s.len() {
-        digits = put_digit(s[i], out, digits);
-        i += 1;
+// The numbers of the first words, 0 where there are no more.
+pub(crate) fn numbers<const N: usize>(text: &[u8]) -> [u64; N] {
+    let mut numbers = [0; N];
+    for (n, word) in numbers.iter_mut().zip(text.split(|b| *b == b' ')) {
+        *n = number(word);
     }
-    digits / 2
+    numbers
 }
 
-// Puts a digit after so many others, where there is room, and answers how many there are then.
-fn put_digit(c: u8, out: &mut [u8], digits: usize) -> usize {
-    if c == b' ' {
-        return digits;
-    }
-    let at = digits / 2;
-    if at < out.len() {
-        out[at] = out[at] % 16 * 16 + digit(c);
-        return digits.wrapping_add(1);
-    }
-    digits
-}
-
-// The byte at an index, 0 past the end.
-pub(crate) fn byte_at(s: &[u8], i: usize) -> u8 {
-    if i < s.len() {
-        return s[i];
-    }
-    0
-}
-
-// The byte whose two digits a word is.
-pub(crate) fn byte(s: &[u8]) -> u8 {
-    16 * digit(byte_at(s, 0)) + digit(byte_at(s, 1))
-}
-
-// The decimal number that the digits of a word are.
-pub(crate) fn number(s: &[u8]) -> u64 {
+// The number of a word's decimal digits. One more digit is taken where the number then fits whatever the digit.
+pub(crate) fn number(word: &[u8]) -> u64 {
     let mut n: u64 = 0;
-    let mut i = 0;
-    while i < s.len() {
-        n = with_digit(n, s[i]);
-        i += 1;
+    for b in word {
+        if n <= (u64::MAX - 15) / 10 {
+            n = 10 * n + u64::from(digit(*b));
+        }
     }
     n
 }
 
-// One digit more, where the number then fits.
-fn with_digit(n: u64, c: u8) -> u64 {
-    if n <= 1844674407370955160 {
-        return 10 * n + digit(c) as u64;
-    }
-    n
+// The lower half of a number. The numbers of an example fit their fields.
+pub(crate) fn low(n: u64) -> u32 {
+    (n % 0x1_0000_0000) as u32
 }
 
 // The value of a hexadecimal digit in upper case.
-fn digit(c: u8) -> u8
+fn digit(b: u8) -> u8
     ensures { result ≤ 15 }
 {
-    match c {
-        b'0'..=b'9' => c - b'0',
-        b'A'..=b'F' => c - b'A' + 10,
+    match b {
+        b'0'..=b'9' => b - b'0',
+        b'A'..=b'F' => b - b'A' + 10,
         _ => 0,
     }
 }

@@ -1,101 +1,95 @@
 // A workout in a frame's contents, and workouts written.
-use crate::{print, wire, words};
-use answer::Written;
-use command::entries;
+use crate::print::{Hex, Outcome, written};
+use crate::words::ROOM;
+use crate::{wire, words};
 use frame::Origin;
-use std::io;
 use std::io::Write;
-use workout::{Goal, Hundredths, Metres, Seconds, Workout, WorkoutRead};
+use std::{fmt, io};
+use workout::{Goal, Hundredths, Metres, Seconds, Workout};
+
+// A workout's goal, split and power.
+#[derive(Clone, Copy)]
+struct Told(Workout);
+
+impl fmt::Display for Told {
+    fn fmt<W: fmt::Write>(&self, f: &mut fmt::Formatter<W>) -> fmt::Result {
+        let watts = self.0.watts;
+        match self.0.goal {
+            Goal::Distance { goal, split } => {
+                write!(f, "distance:{},split:{},watts:{watts}", goal.0, split.0)
+            }
+            Goal::Time { goal, split } => {
+                write!(f, "time:{},split:{},watts:{watts}", goal.0, split.0)
+            }
+        }
+    }
+}
 
 pub(crate) fn print_workout(out: &mut impl Write, contents: &[u8]) -> io::Result<()> {
-    print::say(out, print::WORKOUT, 0, 0, 0)?;
     let read = workout::read_workout(contents);
-    match read {
-        WorkoutRead::Workout(workout) => {
-            print_numbers(out, workout)?;
-            print_again(out, workout, false)
-        }
-        WorkoutRead::Refused(why) => print::refusal(out, print::REFUSED, why),
-    }
+    write!(out, " workout={}", Outcome(read.map(Told)))?;
+    let Ok(workout) = read else {
+        return Ok(());
+    };
+    let mut room = [0u8; ROOM];
+    let again = written(&mut room, |room| workout::write_workout(workout, room));
+    write!(out, ",written:{again}")
 }
 
-fn print_numbers(out: &mut impl Write, workout: Workout) -> io::Result<()> {
-    let goal = workout.goal;
-    let watts = workout.watts as usize;
-    match goal {
-        Goal::Distance { goal, split } => print::say(
-            out,
-            print::DISTANCE,
-            goal.0 as usize,
-            split.0 as usize,
-            watts,
-        ),
-        Goal::Time { goal, split } => print::say(
-            out,
-            print::TIME,
-            goal.0 as usize,
-            split.0 as usize,
-            watts,
-        ),
+// A workout's contents and, where they are written, the standard frame of a trace that has them.
+pub(crate) fn write<F: Fn(u32, u32) -> Goal>(
+    out: &mut impl Write,
+    goal: F,
+    arguments: &[u8],
+) -> io::Result<()>
+    requires { F.IsAlwaysCallable goal }
+{
+    let [amount, split, watts] = words::numbers::<3>(arguments);
+    let workout = workout_of(goal(words::low(amount), words::low(split)), watts);
+    let mut room = [0u8; ROOM];
+    let contents = written(&mut room, |room| workout::write_workout(workout, room));
+    write!(out, " contents={contents}")?;
+    match contents {
+        Outcome(Ok(Hex(contents))) => wire::print_standard(out, Origin::Trace, contents),
+        Outcome(Err(_)) => Ok(()),
     }
-}
-
-// A workout's contents and, where that is asked for, the standard frame of a trace that has them.
-fn print_again(out: &mut impl Write, workout: Workout, framed: bool) -> io::Result<()> {
-    let mut room = [0u8; words::ROOM];
-    let written = workout::write_workout(workout, &mut room);
-    wire::print_written(out, written, &room)?;
-    if framed {
-        return print_framed(out, written, &room);
-    }
-    Ok(())
-}
-
-fn print_framed(out: &mut impl Write, written: Written, contents: &[u8]) -> io::Result<()> {
-    match written {
-        Written::Length(n) => {
-            wire::print_standard(out, Origin::Trace, entries::part(contents, 0, n))
-        }
-        Written::Refused(_) => Ok(()),
-    }
-}
-
-pub(crate) fn write(out: &mut impl Write, is_time: bool, arguments: &[u8]) -> io::Result<()> {
-    print::say(out, print::CONTENTS, 0, 0, 0)?;
-    print_again(out, workout_of(is_time, arguments), true)
 }
 
 // A workout in an extended frame to an address, which stands before its numbers.
-pub(crate) fn write_frame(out: &mut impl Write, is_time: bool, arguments: &[u8]) -> io::Result<()> {
-    let address = number_at(arguments, 0);
-    let workout = workout_of(is_time, words::after(arguments, b' ', 1));
-    print::say(out, print::WRITTEN, 0, 0, 0)?;
-    let mut room = [0u8; words::ROOM];
-    let written = workout::write_workout_frame(address, workout, &mut room);
-    wire::print_written(out, written, &room)
+pub(crate) fn write_frame<F: Fn(u32, u32) -> Goal>(
+    out: &mut impl Write,
+    goal: F,
+    arguments: &[u8],
+) -> io::Result<()>
+    requires { F.IsAlwaysCallable goal }
+{
+    let [address, amount, split, watts] = words::numbers::<4>(arguments);
+    let workout = workout_of(goal(words::low(amount), words::low(split)), watts);
+    let mut room = [0u8; ROOM];
+    let frame = written(&mut room, |room| {
+        workout::write_workout_frame(words::low(address), workout, room)
+    });
+    write!(out, " written={frame}")
 }
 
-// The workout of three words: its goal's number, the split and the power.
-fn workout_of(is_time: bool, arguments: &[u8]) -> Workout {
-    let goal = goal_of(is_time, number_at(arguments, 0), number_at(arguments, 1));
-    let watts = (number_at(arguments, 2) % 0x10000) as u16;
-    Workout { goal, watts }
-}
-
-// The number that the n-th word is. The numbers of an example fit their fields.
-fn number_at(arguments: &[u8], n: usize) -> u32 {
-    (words::number(words::nth(arguments, b' ', n)) % 0x100000000) as u32
-}
-
-fn goal_of(is_time: bool, goal: u32, split: u32) -> Goal {
-    if is_time {
-        return Goal::Time {
-            goal: Seconds(goal),
-            split: Hundredths(split),
-        };
-    }
+pub(crate) fn distance(goal: u32, split: u32) -> Goal {
     Goal::Distance {
         goal: Metres(goal),
         split: Metres(split),
+    }
+}
+
+pub(crate) fn time(goal: u32, split: u32) -> Goal {
+    Goal::Time {
+        goal: Seconds(goal),
+        split: Hundredths(split),
+    }
+}
+
+// The numbers of an example fit their fields.
+fn workout_of(goal: Goal, watts: u64) -> Workout {
+    Workout {
+        goal,
+        watts: (watts % 0x10000) as u16,
     }
 }

@@ -1,6 +1,7 @@
 -- Demands 1 and 2 of the functions themselves: calls of `read_workout`, `write_workout` and `write_workout_frame`,
 -- known by nothing but what their contracts tell a caller.
 use Prim.Native.Nat.{ℕ, ◌^◌, ◌≤◌}
+use Rattle.std.specs.Prelude.{Result}
 use mathlib.Core.Path.{◌≡◌, refl}
 use mathlib.Core.Logic.{◌⊎◌}
 use mathlib.Core.List.{List}
@@ -11,7 +12,7 @@ use denote.Ref.{Bor}
 use Rattle.lists.specs.Choice.{Exactly}
 use Rattle.answer.specs.Answer.{Answer, result, refused}
 use Rattle.answer.specs.Draft.{written_means}
-use Rattle.answer.specs.declared.Written.{Written}
+use Rattle.answer.specs.declared.Refusal.{Refusal}
 use Rattle.workout.specs.Limits.{pm3_limits}
 use Rattle.workout.specs.Workout.{Programmed, programmed}
 use Rattle.workout.specs.Answers.{workout_means}
@@ -20,7 +21,6 @@ use Rattle.workout.specs.Conditions.{WithinLimits, Readable, WorkoutJudged, Work
 use Rattle.workout.specs.Conditions.{WorkoutFrameWritten}
 use Rattle.workout.specs.Encoding.{Encoded}
 use Rattle.workout.specs.declared.Workout.{Workout}
-use Rattle.workout.specs.declared.WorkoutRead.{WorkoutRead}
 use Rattle.workout.proofs.WriteLaws.{watts_below}
 use Rattle.workout.proofs.Table.{writes_exactly, frame_writes_exactly, frame_refusals}
 use Rattle.workout.proofs.CallLaws.{reads_by_table, reads_exactly, reads_encoded, pm3_writes_read_back}
@@ -33,19 +33,19 @@ use Rattle.workout.proofs.write_workout_frame.Reads as write-workout-frame-reads
 
 -- A call that reads contents: its answer.
 pub data CalledRead : (contents : List ℕ) → Answer Programmed → Type 0 where
-  read_contents : (r : WorkoutRead) (κs : Lfts 1) (contents : Bor (List ℕ))
+  read_contents : (r : Result Workout Refusal) (κs : Lfts 1) (contents : Bor (List ℕ))
       → read-workout-reads.Learnt κs (contents, tt) r (contents, tt)
       → CalledRead contents.now (workout_means r)
 
 -- A call that writes a workout: its answer, and the output before and after.
 pub data CalledWrite : Programmed → (out : List ℕ) → Answer ℕ → (last : List ℕ) → Type 0 where
-  wrote_workout : (r : Written) (κs : Lfts 1) (w : Workout) (out out' : MutBor (List ℕ))
+  wrote_workout : (r : Result ℕ Refusal) (κs : Lfts 1) (w : Workout) (out out' : MutBor (List ℕ))
       → write-workout-reads.Learnt κs (w, (out, tt)) r (w, (out', tt))
       → CalledWrite (programmed w) out.now (written_means r) out'.now
 
 -- A call that writes a workout in a frame to an address: its answer, and the output before and after.
 pub data CalledWriteFrame : (to : ℕ) → Programmed → (out : List ℕ) → Answer ℕ → (last : List ℕ) → Type 0 where
-  wrote_frame : (r : Written) (κs : Lfts 1) (to : ℕ) (w : Workout) (out out' : MutBor (List ℕ))
+  wrote_frame : (r : Result ℕ Refusal) (κs : Lfts 1) (to : ℕ) (w : Workout) (out out' : MutBor (List ℕ))
       → write-workout-frame-reads.Learnt κs (to, (w, (out, tt))) r (to, (w, (out', tt)))
       → CalledWriteFrame to (programmed w) out.now (written_means r) out'.now
 

@@ -14,10 +14,9 @@ use Rattle.workout.specs.Form.{bytes_at, metres_of, workout_as}
 use Rattle.workout.specs.Answers.{workout_answer}
 use Rattle.workout.specs.Conditions.{Formed, WithinLimits, ClockRight}
 use Rattle.workout.specs.Encoding.{in_km, in_metres, on_clock, Encoded, distance_in, time_in}
-use Rattle.workout.specs.Private.{distance_read, time_read}
 use Rattle.workout.specs.declared.layout.GoalKind.{GoalKind}
 use Rattle.workout.specs.declared.layout.GoalKind.TheVariants.{Distance, Time}
-use Rattle.workout.proofs.ReadLaws.{bytes_at_part}
+use Rattle.workout.proofs.ReadLaws.{distance_read, time_read, bytes_at_part}
 use Rattle.workout.proofs.Table.{form_layout, limits_within, read_exactly}
 use Rattle.workout.proofs.RoundTrip.{read_laid_distance, read_laid_time, limited_sound}
 use borrow.Author.Tests.{le-leb}

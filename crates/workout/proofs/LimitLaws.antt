@@ -1,11 +1,11 @@
 -- Laws of the limits: rounding up, and the tests as facts.
 use Prim.Native.Nat.{ℕ, suc, ◌+◌, ◌-◌, ◌*◌, ◌/◌, ◌^◌, ◌≤◌, ◌<◌}
-use mathlib.Core.Path.{◌≡◌}
+use mathlib.Core.Path.{◌≡◌, sym, ◌∙◌}
 use mathlib.Core.Bool.{true, false}
 use native.Mathlib.Nat.{div-lt_iff_lt-mul, suc-mul, le_of_lt, lt_of_le_of_lt, mul-le-mul_left, mul-lt-mul_of_pos_right}
 use native.Mathlib.Omega.{arith}
 use lib.Dec.{leb}
-use borrow.Author.Tests.{leb-true, le-leb}
+use borrow.Author.Tests.{leb-true, leb-false, le-leb}
 use Rattle.lists.specs.Choice.{within, Exactly}
 use Rattle.lists.proofs.Cases.{by_bool, both_true}
 use Rattle.lists.proofs.Tests.{within_yes, within_true}
@@ -22,6 +22,15 @@ ceil_div_product n d k h =
       (λ l. let m : n + (d - 1) < suc k * d = i.0 (omega arith) in omega (arith, suc-mul k d)),
       (λ l. let m : (n + (d - 1)) / d < suc k = i.1 (omega (arith, suc-mul k d)) in omega arith),
     )
+
+-- The two tests of that.
+pub ceil_div_test : (n d k : ℕ) → 0 < d → leb (ceil_div n d) k ≡ leb n (k * d)
+ceil_div_test n d k h =
+    let i = ceil_div_product n d k h in
+    by_bool (leb n (k * d)) (λ y. le-leb (ceil_div n d) k (i.1 (leb-true n (k * d) y)) ∙ sym y)
+    (λ y. by_bool (leb (ceil_div n d) k)
+    (λ z. absurd (omega (arith, i.0 (leb-true (ceil_div n d) k z), leb-false n (k * d) y)))
+    (λ z. z ∙ sym y))
 
 -- It is the least number of parts that reach.
 pub ceil_div_rounds_up : (n d : ℕ) → 0 < d → RoundedUp n d (ceil_div n d)

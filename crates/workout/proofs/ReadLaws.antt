@@ -1,5 +1,5 @@
 -- Laws of reading: the steps of the code, and the answer that they lead to.
-use Prim.Native.Nat.{ℕ, zero, suc, ◌+◌, ◌≤◌}
+use Prim.Native.Nat.{ℕ, zero, suc, ◌+◌, ◌*◌, ◌≤◌}
 use mathlib.Core.Path.{◌≡◌, refl, sym, ap, ap₂, ◌∙◌}
 use mathlib.Core.Bool.{Bool, true, false}
 use mathlib.Core.List.{List, [], ◌∷◌}
@@ -12,13 +12,37 @@ use Rattle.numbers.specs.Number.{number, bytes_of, Bytes}
 use Rattle.numbers.proofs.Numbers.{bytes_of-number}
 use Rattle.lists.proofs.Cases.{by_bool}
 use Rattle.workout.specs.Limits.{Limits}
-use Rattle.workout.specs.Workout.{layout}
-use Rattle.workout.specs.Form.{goal_kind_in, same_bytes, bytes_at, laid_out, workout_as, has_form, in_limits}
-use Rattle.answer.specs.Answer.{refused}
+use Rattle.workout.specs.Workout.{Programmed, distance, time, layout, within_limits}
+use Rattle.workout.specs.Form.{goal_kind_in, clock_right, same_bytes, bytes_at, laid_out, workout_as, has_form, in_limits}
+use Rattle.lists.specs.Choice.{pick}
+use Rattle.answer.specs.Answer.{Answer, result, refused}
+use Rattle.answer.specs.Refusals.{number_of}
+use Rattle.answer.specs.declared.Refusal.{Refusal}
+use Rattle.std.specs.Prelude.{Err}
 use Rattle.workout.specs.Answers.{workout_answer}
-use Rattle.workout.specs.Private.{limited_read, distance_read, time_read}
+use Rattle.workout.specs.Private.{metres_said, seconds_said, goal_said, with_watts, workout_said, Admits}
 use Rattle.workout.specs.declared.layout.GoalKind.{GoalKind}
 use Rattle.workout.specs.declared.layout.GoalKind.TheVariants.{Distance, Time}
+
+-- ---- reading by the kind of goal
+
+-- A workout that was read, or 12.
+unfoldable pub limited_read : Limits → Programmed → Answer Programmed
+limited_read limits w = pick (within_limits limits w) (result w) (refused 12)
+
+-- The answer of a distance in one of the two units.
+unfoldable pub distance_read : Limits → (amount unit split watts : ℕ) → Answer Programmed
+distance_read limits amount unit split watts =
+    pick (eqb unit 0x21)
+    (limited_read limits (distance (1000 * amount) split watts))
+    (pick (eqb unit 0x24) (limited_read limits (distance amount split watts)) (refused 13))
+
+-- The answer of hours, minutes and seconds.
+unfoldable pub time_read : Limits → (hours minutes seconds split watts : ℕ) → Answer Programmed
+time_read limits hours minutes seconds split watts =
+    pick (leb minutes 59)
+    (pick (leb seconds 59) (limited_read limits (time (3600 * hours + 60 * minutes + seconds) split watts)) (refused 12))
+    (refused 12)
 
 pub not_long : (c : List ℕ) → (length c ≡ 23 → ⊥) → laid_out c ≡ false
 unfolding laid_out
@@ -50,6 +74,27 @@ module _ (c : List ℕ) {kind : GoalKind} {split watts : ℕ} (is-kind : kind �
       ∙ ap₂ (layout (goal_kind_in c) (bytes_at 2 3 c)) s p))
       ∙ sym q
 
+  -- the goal and the power in contents that are laid out
+  pub goal_is : laid_out c ≡ true
+      → with_watts watts (goal_said kind (get_or c 2 0 ∷ get_or c 3 0 ∷ get_or c 4 0 ∷ []) split) ≡ workout_said c
+  unfolding metres_said seconds_said workout_said has_form workout_as number
+  goal_is laid = of_kind kind is-kind
+    where
+      of_kind : (k : GoalKind) → k ≡ goal_kind_in c
+          → with_watts watts (goal_said k (get_or c 2 0 ∷ get_or c 3 0 ∷ get_or c 4 0 ∷ []) split) ≡ workout_said c
+      of_kind Distance k =
+          let d : goal_kind_in c ≡ Distance = sym k in
+          by_bool (eqb (get_or c 4 0) 0x21)
+          (λ y. simp (is_split, is_watts, laid, d, y))
+          (λ y. by_bool (eqb (get_or c 4 0) 0x24) (λ z. simp (is_split, is_watts, laid, d, y, z))
+          (λ z. simp (is_split, is_watts, laid, d, y, z)))
+      of_kind Time k =
+          let d : goal_kind_in c ≡ Time = sym k in
+          by_bool (leb (get_or c 3 0) 59)
+          (λ y. by_bool (leb (get_or c 4 0) 59) (λ z. simp (is_split, is_watts, laid, d, y, z))
+          (λ z. simp (is_split, is_watts, laid, d, y, z)))
+          (λ y. simp (is_split, is_watts, laid, d, y))
+
   -- the answer of contents that are laid out, with either goal
   module _ (limits : Limits) (laid : laid_out c ≡ true) where
     pub read_distance_is : {amount : ℕ} → kind ≡ Distance → amount ≡ number 2 2 c
@@ -72,6 +117,34 @@ module _ (c : List ℕ) {kind : GoalKind} {split watts : ℕ} (is-kind : kind �
         (λ z. simp (is_split, is_watts, laid, d, y, z)))
         (λ y. simp (is_split, is_watts, laid, d, y))
 
-pub read_formless : (limits : Limits) (c : List ℕ) → laid_out c ≡ false → workout_answer limits c ≡ refused 13
-unfolding workout_answer has_form
-read_formless limits c h = simp h
+pub said_formless : (c : List ℕ) → laid_out c ≡ false → workout_said c ≡ refused 13
+unfolding workout_said has_form
+said_formless c h = simp h
+
+-- ---- the limits on what contents say
+
+abbrev by_limits : Limits → Answer Programmed → Answer Programmed
+by_limits limits (result w) = limited_read limits w
+by_limits limits (refused n) = refused n
+
+module _ (limits : Limits) (c : List ℕ) where
+  answer_said : by_limits limits (workout_said c) ≡ workout_answer limits c
+  unfolding workout_said workout_answer in_limits limited_read
+  answer_said =
+      by_bool (has_form c)
+      (λ y. by_bool (clock_right (goal_kind_in c) (get_or c 3 0) (get_or c 4 0)) (λ z. simp (y, z)) (λ z. simp (y, z)))
+      (λ y. simp y)
+
+  pub answer_refused : (n : ℕ) → refused n ≡ workout_said c → refused n ≡ workout_answer limits c
+  answer_refused n e = ap (by_limits limits) e ∙ answer_said
+
+  pub answer_outside : (w : Programmed) (why : Refusal) → result w ≡ workout_said c → Admits limits w (Err why)
+      → refused (number_of why) ≡ workout_answer limits c
+  unfolding limited_read
+  answer_outside w why e (k, n) =
+      ap (λ (r : Refusal). refused (number_of r)) k ∙ (sym (simp n)) ∙ ap (by_limits limits) e ∙ answer_said
+
+  pub answer_inside : (w : Programmed) → result w ≡ workout_said c → within_limits limits w ≡ true
+      → result w ≡ workout_answer limits c
+  unfolding limited_read
+  answer_inside w e y = (sym (simp y)) ∙ ap (by_limits limits) e ∙ answer_said

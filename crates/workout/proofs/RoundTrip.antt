@@ -20,11 +20,10 @@ use Rattle.workout.specs.Workout.{Programmed, distance, time, watts_of, within_l
 use Rattle.workout.specs.Workout.{time_bytes, workout_bytes, distance_sendable, Sendable}
 use Rattle.workout.specs.Form.{bytes_at, laid_out}
 use Rattle.workout.specs.Answers.{workout_answer, workout_draft}
-use Rattle.workout.specs.Private.{limited_read, distance_read, time_read}
 use Rattle.workout.specs.declared.layout.GoalKind.{GoalKind}
 use Rattle.workout.specs.declared.layout.GoalKind.TheVariants.{Distance, Time}
 use Rattle.workout.proofs.SameLaws.{same_refl}
-use Rattle.workout.proofs.ReadLaws.{read_distance_is, read_time_is}
+use Rattle.workout.proofs.ReadLaws.{limited_read, distance_read, time_read, read_distance_is, read_time_is}
 use Rattle.workout.proofs.WriteLaws.{draft_is}
 use Rattle.workout.proofs.Table.{within_limits_lem}
 

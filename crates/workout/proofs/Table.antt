@@ -1,6 +1,6 @@
 -- Which answer is given exactly when: the papers' tables of refusals for workouts, alone and in a frame.
 use Prim.Native.Nat.{ℕ}
-use mathlib.Core.Path.{◌≡◌, refl, sym, ap, ap₂, ◌∙◌, subst}
+use mathlib.Core.Path.{◌≡◌, refl, sym, ap, ◌∙◌, subst}
 use mathlib.Core.Logic.{◌⊎◌, inl, inr}
 use mathlib.Core.Bool.{true, false, true≢false}
 use mathlib.Core.List.{List, ◌++◌}
@@ -197,9 +197,7 @@ module _ (limits : Limits) (w : Programmed) (out : List ℕ) where
       writes_no_room (workout_draft limits w) (workout_bytes w) out (draft_inside limits w (limits_within limits w l))
       (omega (arith, h, contents_length w))
   line_write a last (fits l h) =
-      let b = workout_bytes w in
       write_done limits w out (limits_within limits w l) h refl
-      (ap₂ ◌++◌ (sym (take_all (length b) b (omega arith))) (ap (λ (n : ℕ). drop n out) (sym (contents_length w))))
 
   -- every call has a line of the table
   some_write : (a : Answer ℕ) × (last : List ℕ) × WorkoutWritten limits w out a last

@@ -1,18 +1,21 @@
 -- Laws of a workout's value and of writing it.
 use Prim.Native.Nat.{ℕ, ◌%◌, ◌≤◌, ◌<◌}
-use mathlib.Core.Path.{◌≡◌, refl, sym, ap, ◌∙◌, subst}
+use native.Mathlib.Nat.{zero-add}
+use mathlib.Core.Path.{◌≡◌, refl, sym, ap, ap₂, ◌∙◌, subst}
 use mathlib.Core.Bool.{true, false}
 use mathlib.Core.List.{List, ◌++◌}
 use native.Mathlib.Omega.{arith}
 use lib.Dec.{eqb}
-use lib.ListN.{length, take, drop}
+use lib.ListN.{length, drop}
 use Rattle.answer.specs.Answer.{result, refused}
-use Rattle.answer.specs.Draft.{Writes}
+use Rattle.answer.specs.Draft.{Draft, Writes}
 use Rattle.numbers.specs.Number.{bytes_of}
-use Rattle.lists.specs.Splice.{splice}
 use Rattle.lists.proofs.Cases.{by_bool}
-use Rattle.lists.proofs.Splices.{copied_first}
-use Rattle.answer.proofs.Drafts.{writes_done}
+use Rattle.answer.proofs.Drafts.{writes_refusal, writes_done}
+use Rattle.answer.specs.Refusals.{number_of}
+use Rattle.answer.specs.declared.Refusal.{Refusal}
+use Rattle.std.specs.Prelude.{Err}
+use Rattle.workout.specs.Private.{Admits}
 use Rattle.workout.specs.Limits.{Limits}
 use Rattle.workout.specs.Workout.{Programmed, distance, time, goal_means, programmed, watts_of, within_limits}
 use Rattle.workout.specs.Workout.{layout, distance_bytes, time_bytes, workout_bytes}
@@ -44,6 +47,12 @@ module _ (limits : Limits) (w : Programmed) where
   unfolding workout_draft
   draft_outside e = simp e
 
+  -- a draft of which the limits refuse the workout
+  pub outside_written : (d : Draft) (why : Refusal) (out : List ℕ) → Admits limits w (Err why)
+      → (within_limits limits w ≡ false → d ≡ refused 12) → Writes d out (refused (number_of why)) out
+  outside_written d why out (k, n) r =
+      writes_refusal d (number_of why) out (r n ∙ sym (ap (λ (v : Refusal). refused (number_of v)) k))
+
   pub draft_inside : within_limits limits w ≡ true → workout_draft limits w ≡ result (workout_bytes w)
   unfolding workout_draft
   draft_inside e = simp e
@@ -59,12 +68,12 @@ module _ (limits : Limits) (w : Programmed) where
       let x : ◌≡◌ {A = ℕ} 0 1 = cc in absurd (omega arith))
 
 -- the 23 bytes at the front of the output, with the answer
-pub write_done : (limits : Limits) (w : Programmed) {contents last : List ℕ} (out : List ℕ)
+pub write_done : (limits : Limits) (w : Programmed) {contents : List ℕ} (out : List ℕ)
     → within_limits limits w ≡ true → 23 ≤ length out → contents ≡ workout_bytes w
-    → last ≡ take (length contents) contents ++ drop (length contents) out
-    → Writes (workout_draft limits w) out (result 23) last
-write_done limits w {contents} {last} out e h p q =
-    subst (λ (n : ℕ). Writes (workout_draft limits w) out (result n) last) (contents_length w)
-    (writes_done (workout_draft limits w) (workout_bytes w) out last (draft_inside limits w e)
-    (omega (arith, contents_length w))
-    (copied_first contents out last q ∙ ap (splice out 0) p))
+    → Writes (workout_draft limits w) out (result 23) (contents ++ drop 23 out)
+write_done limits w {contents} out e h p =
+    let d = workout_draft limits w in
+    let n = contents_length w in
+    subst (λ (k : ℕ). Writes d out (result k) (contents ++ drop 23 out)) n
+    (writes_done d (workout_bytes w) out (contents ++ drop 23 out) (draft_inside limits w e) (omega arith)
+    (ap₂ (λ (c : List ℕ) (k : ℕ). c ++ drop k out) p (sym (zero-add (length (workout_bytes w)) ∙ n))))

@@ -1,6 +1,6 @@
 -- What each case of an answer to reading means, in document 01's numbers, and what is answered. A writer answers as its
 -- draft says.
-use Rattle.std.specs.Prelude.{ℕ, List}
+use Rattle.std.specs.Prelude.{ℕ, List, Result, Ok, Err}
 use Rattle.lists.specs.Choice.{pick}
 use Rattle.answer.specs.Answer.{Answer, result, refused, through}
 use Rattle.answer.specs.Draft.{Draft}
@@ -10,12 +10,12 @@ use Rattle.frame.specs.Frame.{wire_of, extended}
 use Rattle.workout.specs.Limits.{Limits}
 use Rattle.workout.specs.Workout.{Programmed, programmed, within_limits, workout_bytes}
 use Rattle.workout.specs.Form.{has_form, in_limits, workout_in}
-use Rattle.workout.specs.declared.WorkoutRead.{WorkoutRead}
-use Rattle.workout.specs.declared.WorkoutRead.TheVariants.{Workout as ReadWorkout, Refused}
+use Rattle.answer.specs.declared.Refusal.{Refusal}
+use Rattle.workout.specs.declared.Workout.{Workout}
 
-abbrev pub workout_means : WorkoutRead → Answer Programmed
-workout_means (ReadWorkout w) = result (programmed w)
-workout_means (Refused why) = refused (number_of why)
+abbrev pub workout_means : Result Workout Refusal → Answer Programmed
+workout_means (Ok w) = result (programmed w)
+workout_means (Err why) = refused (number_of why)
 
 -- The answer to reading contents: 13, then 12, then the workout.
 unfoldable pub workout_answer : Limits → List ℕ → Answer Programmed

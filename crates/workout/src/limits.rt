@@ -1,18 +1,18 @@
 // The limits on a workout, as numbers that differ from monitor to monitor: document 01, "Workout card".
 ghost use Rattle.std.specs.Prelude.{◌≡◌, ◌*◌, ◌<◌};
-ghost use Rattle.workout.specs.Limits.{within_goal};
-ghost use Rattle.workout.specs.Workout.{programmed, within_limits};
-ghost use Rattle.workout.specs.Private.{goal_limits_of, limits_of, Divisible};
 
 use crate::{Goal, Workout};
+use answer::Refusal;
 
-// The limits on one kind of goal: on the goal in its own unit, and on the split in the split's unit.
+// The limits on one kind of goal: on the goal in its own unit, and on the split in the split's unit. No split has length
+// 0, so that a goal can be divided by each.
 #[derive(Clone, Copy)]
 pub(crate) struct GoalLimits {
     pub(crate) least: u32,
     pub(crate) most: u32,
     pub(crate) shortest: u32,
     pub(crate) longest: u32,
+    ghost divisible: { 0 < shortest },
 }
 
 // The limits on a distance in metres, on a time in seconds with a split in hundredths, and on the number of splits.
@@ -43,59 +43,50 @@ pub(crate) const PM3: Limits = Limits {
 // Hundredths in a second: how many units of a time goal's split make one of the goal.
 const HUNDREDTHS: u32 = 100;
 
-pub(crate) fn within_limits(limits: Limits, workout: Workout) -> bool
-    requires { Divisible (limits_of limits) }
-    ensures { result ≡ within_limits (limits_of limits) (programmed workout) }
-{
-    let goal = workout.goal;
-    match goal {
-        Goal::Distance { goal, split } => goal_within(
-            limits.distance,
-            limits.splits,
-            1,
-            goal.0,
-            split.0,
-        ),
-        Goal::Time { goal, split } => goal_within(
-            limits.time,
-            limits.splits,
-            HUNDREDTHS,
-            goal.0,
-            split.0,
-        ),
+impl Limits {
+    ghost use Rattle.workout.specs.Private.{limits_of, Admits};
+    ghost use Rattle.workout.specs.Workout.{programmed, within_limits};
+
+    // Lets a workout through. Refusal 12.
+    pub(crate) fn admit(self, workout: Workout) -> Result<(), Refusal>
+        ensures { Admits (limits_of self) (programmed workout) result }
+    {
+        if self.admits(workout) {
+            Ok(())
+        } else {
+            Err(Refusal::OutOfLimits)
+        }
+    }
+
+    fn admits(self, workout: Workout) -> bool
+        ensures { result ≡ within_limits (limits_of self) (programmed workout) }
+    {
+        match workout.goal {
+            Goal::Distance { goal, split } => self.distance.hold(self.splits, 1, goal.0, split.0),
+            Goal::Time { goal, split } => self.time.hold(self.splits, HUNDREDTHS, goal.0, split.0),
+        }
     }
 }
 
-// Of a goal and its split, where `scale` units of the split make one of the goal. The splits, rounded up, are at most
-// so many exactly where that many reach the goal.
-fn goal_within(limits: GoalLimits, splits: u32, scale: u32, goal: u32, split: u32) -> bool
-    requires { 0 < limits.shortest }
-    ensures { result ≡ within_goal (goal_limits_of limits) splits scale goal split }
-{
-    if goal < limits.least {
-        return false;
+impl GoalLimits {
+    ghost use Rattle.workout.specs.Limits.{within_goal};
+    ghost use Rattle.workout.specs.Private.{goal_limits_of};
+
+    // Whether a goal and its split are within the limits, where `scale` units of the split make one of the goal. The
+    // splits, rounded up, are at most so many exactly where that many reach the goal.
+    fn hold(self, splits: u32, scale: u32, goal: u32, split: u32) -> bool
+        ensures { result ≡ within_goal (goal_limits_of self) splits scale goal split }
+    {
+        let length = product(scale, goal);
+        (self.least..=self.most).contains(&goal)
+            && (self.shortest..=self.longest).contains(&split)
+            && u64::from(split) <= length
+            && length <= product(splits, split)
     }
-    if limits.most < goal {
-        return false;
-    }
-    if split < limits.shortest {
-        return false;
-    }
-    if limits.longest < split {
-        return false;
-    }
-    let length = product(scale, goal);
-    if length < split as u64 {
-        return false;
-    }
-    if product(splits, split) < length {
-        return false;
-    }
-    true
 }
 
 fn product(a: u32, b: u32) -> u64
     ensures { result ≡ a * b }
 {
-    (a as u64) * (b as u64)
+    u64::from(a) * u64::from(b)
 }

@@ -2,6 +2,7 @@
 -- `write_extended_number`, `standard_length` and `extended_length`, known by nothing but what their contracts tell a
 -- caller.
 use Prim.Native.Nat.{ℕ, ◌≤◌}
+use Rattle.std.specs.Prelude.{Result}
 use mathlib.Core.Path.{◌≡◌, sym, ap, ◌∙◌, subst}
 use mathlib.Core.List.{List, ◌++◌}
 use lib.ListN.{length, take, drop}
@@ -13,7 +14,7 @@ use Rattle.answer.specs.Answer.{Answer, result, refused, through}
 use Rattle.answer.specs.Draft.{Draft, Writes, Foretells, written_means}
 use Rattle.answer.proofs.Drafts.{foretold}
 use Rattle.numbers.specs.Number.{bytes_of}
-use Rattle.answer.specs.declared.Written.{Written}
+use Rattle.answer.specs.declared.Refusal.{Refusal}
 use Rattle.frame.specs.Frame.{Frame, standard, extended, contents_of, frame_kind}
 use Rattle.frame.specs.Answers.{FrameOutline, outline_of, frame_read}
 use Rattle.writer.specs.Answers.{frame_draft, sent_draft, length_means}
@@ -21,7 +22,6 @@ use Rattle.writer.specs.Conditions.{WriteJudged, LengthJudged}
 use Rattle.frame.specs.declared.Origin.{Origin}
 use Rattle.frame.specs.declared.Origin.TheVariants.{Live}
 use Rattle.frame.specs.declared.Kind.TheVariants.{Standard}
-use Rattle.writer.specs.declared.WireLength.{WireLength}
 use Rattle.frame.proofs.OriginLaws.{extended_named}
 use Rattle.frame.proofs.Calls.{CalledRead, call_reads}
 use Rattle.writer.proofs.WireLaws.{sent_frame}
@@ -39,13 +39,13 @@ use Rattle.writer.proofs.extended_length.Reads as extended-length-reads
 -- A call that writes a frame to an origin, by the function of its kind: its answer, and the output before and after.
 -- The functions that write extended frames are not told the origin.
 pub data CalledWrite : Origin → Frame → (out : List ℕ) → Answer ℕ → (last : List ℕ) → Type 0 where
-  wrote_standard : {o : Origin} (r : Written) (κs : Lfts 2) (contents : Bor (List ℕ)) (out out' : MutBor (List ℕ))
+  wrote_standard : {o : Origin} (r : Result ℕ Refusal) (κs : Lfts 2) (contents : Bor (List ℕ)) (out out' : MutBor (List ℕ))
       → write-standard-reads.Learnt κs (o, (contents, (out, tt))) r (o, (contents, (out', tt)))
       → CalledWrite o (standard contents.now) out.now (written_means r) out'.now
-  wrote_extended : {o : Origin} {to from : ℕ} (r : Written) (κs : Lfts 2) (contents : Bor (List ℕ)) (out out' : MutBor (List ℕ))
+  wrote_extended : {o : Origin} {to from : ℕ} (r : Result ℕ Refusal) (κs : Lfts 2) (contents : Bor (List ℕ)) (out out' : MutBor (List ℕ))
       → write-extended-reads.Learnt κs (to, (from, (contents, (out, tt)))) r (to, (from, (contents, (out', tt))))
       → CalledWrite o (extended to from contents.now) out.now (written_means r) out'.now
-  wrote_number : {o : Origin} {to from : ℕ} (number width : ℕ) (r : Written) (κs : Lfts 1) (out out' : MutBor (List ℕ))
+  wrote_number : {o : Origin} {to from : ℕ} (number width : ℕ) (r : Result ℕ Refusal) (κs : Lfts 1) (out out' : MutBor (List ℕ))
       → write-extended-number-reads.Learnt κs (to, (from, (number, (width, (out, tt))))) r
       (to, (from, (number, (width, (out', tt)))))
       → CalledWrite o (extended to from (bytes_of width number)) out.now (written_means r) out'.now
@@ -53,10 +53,10 @@ pub data CalledWrite : Origin → Frame → (out : List ℕ) → Answer ℕ → 
 -- A call that asks how many bytes a frame takes on the wire that is to go to an origin, by the function of its kind: its
 -- answer.
 pub data CalledLength : Origin → Frame → Answer ℕ → Type 0 where
-  measured_standard : {o : Origin} (r : WireLength) (κs : Lfts 1) (contents : Bor (List ℕ))
+  measured_standard : {o : Origin} (r : Result ℕ Refusal) (κs : Lfts 1) (contents : Bor (List ℕ))
       → standard-length-reads.Learnt κs (o, (contents, tt)) r (o, (contents, tt))
       → CalledLength o (standard contents.now) (length_means r)
-  measured_extended : {o : Origin} {to from : ℕ} (r : WireLength) (κs : Lfts 1) (contents : Bor (List ℕ))
+  measured_extended : {o : Origin} {to from : ℕ} (r : Result ℕ Refusal) (κs : Lfts 1) (contents : Bor (List ℕ))
       → extended-length-reads.Learnt κs (to, (from, (contents, tt))) r (to, (from, (contents, tt)))
       → CalledLength o (extended to from contents.now) (length_means r)
 

@@ -116,8 +116,23 @@ pair_put b =
     ap (λ (l : List ℕ). l ++ ((b % 4) ∷ [])) (stuff_byte_no b n) in
     ((b % 4) ∷ [], simp n (sym one)))
 
-module _ (s out₀ : List ℕ) (from : ℕ) (room : from + length (stuff s) ≤ length out₀) where
-  pub stuffed_none : Stuffed s out₀ from 0 from out₀
+-- of an empty list nothing is written
+pub stuffed_empty : (s out : List ℕ) (from : ℕ) → length s ≡ 0
+    → (from ≡ from + length (stuff s)) × (out ≡ splice out from (stuff s))
+unfolding stuff
+stuffed_empty [] out from h = (sym (add-zero from), sym (splice_nil out from))
+stuffed_empty (b ∷ s) out from h = absurd (omega arith)
+
+module _ (s front : List ℕ) (last : ℕ) (e : s ≡ front ++ (last ∷ [])) (out₀ : List ℕ) (from : ℕ)
+    (room : from + length (stuff s) ≤ length out₀) where
+  stuff_ends : stuff s ≡ stuff front ++ stuff_byte last
+  stuff_ends =
+      ap stuff e ∙ stuff-append front (last ∷ []) ∙ ap (λ (l : List ℕ). stuff front ++ l) (stuff-one last)
+
+  end_fits : from + length (stuff front) + length (stuff_byte last) ≤ length out₀
+  end_fits = omega (arith, room, ap length stuff_ends, length-append (stuff front) (stuff_byte last))
+
+  pub stuffed_none : Stuffed front out₀ from 0 from out₀
   unfolding stuff
   stuffed_none =
       record {
@@ -128,9 +143,9 @@ module _ (s out₀ : List ℕ) (from : ℕ) (room : from + length (stuff s) ≤ 
         size = refl;
       }
 
-  module _ (i at : ℕ) (out : List ℕ) (h : i < length s) (inv : Stuffed s out₀ from i at out) where
+  module _ (i at : ℕ) (out : List ℕ) (inv : Stuffed front out₀ from i at out) where
     abbrev done : List ℕ
-    done = stuff (take i s)
+    done = stuff (take i front)
 
     -- what is written next stands in the place of what was written too much
     after : (w out' : List ℕ) → 1 ≤ length w → from + length done + length w ≤ length out₀
@@ -140,53 +155,55 @@ module _ (s out₀ : List ℕ) (from : ℕ) (room : from + length (stuff s) ≤ 
         ∙ ap (λ (n : ℕ). splice (splice out₀ from (done ++ inv.more)) n w) inv.next
         ∙ splice_over out₀ from done inv.more w fits (omega (arith, inv.short))
 
-    -- there is room for two places where another byte follows
-    pub stuffed_room : i + 1 < length s → at + 2 ≤ length out
-    stuffed_room k =
-        omega (
-          arith,
-          inv.next,
-          inv.size,
-          stuff_room s i h,
-          stuff_room s (i + 1) k,
-          ap length (stuff_next s i h),
-          length-append done (stuff_byte (get_or s i 0)),
-          stuff_byte_some (get_or s i 0),
-          stuff_byte_some (get_or s (i + 1) 0),
-        )
+    module _ (h : i < length front) where
+      -- there is room for two places, since the last byte follows
+      pub stuffed_room : at + 2 ≤ length out
+      stuffed_room =
+          omega (
+            arith,
+            inv.next,
+            inv.size,
+            end_fits,
+            stuff_room front i h,
+            stuff_byte_some (get_or front i 0),
+            stuff_byte_some last,
+          )
 
-    pub stuffed_fits : at + length (stuff_byte (get_or s i 0)) ≤ length out
-    stuffed_fits = omega (arith, inv.next, inv.size, stuff_room s i h)
+      pub stuffed_more : (at' : ℕ) (out' : List ℕ) → at' ≡ at + length (stuff_byte (get_or front i 0))
+          → PutPair out at (stuff_byte (get_or front i 0)) out'
+          → Stuffed front out₀ from (i + 1) at' out'
+      stuffed_more at' out' d p =
+          let b = stuff_byte (get_or front i 0) in
+          let len : length (done ++ b) ≡ length done + length b = length-append done b in
+          let is : out' ≡ splice out₀ from (done ++ (b ++ p.0)) =
+          after (b ++ p.0) out' (omega (arith, p.1)) (omega (arith, p.1, stuffed_room, inv.next, inv.size)) p.2 in
+          let all : out' ≡ splice out₀ from ((done ++ b) ++ p.0) =
+          is ∙ ap (splice out₀ from) (sym (append_assoc done b p.0)) in
+          record {
+            next = rw (stuff_next front i h) (omega (arith, inv.next));
+            more = p.0;
+            short = omega (arith, p.1, length-append b p.0, stuff_byte_some (get_or front i 0));
+            written = rw (stuff_next front i h) all;
+            size =
+                ap length p.2
+                ∙ length-splice out at (b ++ p.0) (omega (arith, p.1, stuffed_room)) ∙ inv.size;
+          }
 
-    pub stuffed_more : (at' : ℕ) (out' : List ℕ) → i + 1 < length s → at' ≡ at + length (stuff_byte (get_or s i 0))
-        → PutPair out at (stuff_byte (get_or s i 0)) out'
-        → Stuffed s out₀ from (i + 1) at' out'
-    stuffed_more at' out' k e p =
-        let b = stuff_byte (get_or s i 0) in
-        let len : length (done ++ b) ≡ length done + length b = length-append done b in
-        let is : out' ≡ splice out₀ from (done ++ (b ++ p.0)) =
-        after (b ++ p.0) out' (omega (arith, p.1)) (omega (arith, p.1, stuffed_room k, inv.next, inv.size)) p.2 in
-        let all : out' ≡ splice out₀ from ((done ++ b) ++ p.0) =
-        is ∙ ap (splice out₀ from) (sym (append_assoc done b p.0)) in
-        record {
-          next = rw (stuff_next s i h) (omega (arith, inv.next));
-          more = p.0;
-          short = omega (arith, p.1, length-append b p.0, stuff_byte_some (get_or s i 0));
-          written = rw (stuff_next s i h) all;
-          size =
-              ap length p.2
-              ∙ length-splice out at (b ++ p.0) (omega (arith, p.1, stuffed_room k)) ∙ inv.size;
-        }
+    module _ (h : length front ≤ i) where
+      done_all : done ≡ stuff front
+      done_all = ap stuff (take_all i front h)
 
-    pub stuffed_last : (at' : ℕ) (out' : List ℕ) → i + 1 ≡ length s → at' ≡ at + length (stuff_byte (get_or s i 0))
-        → out' ≡ splice out at (stuff_byte (get_or s i 0))
-        → (at' ≡ from + length (stuff s)) × (out' ≡ splice out₀ from (stuff s))
-    stuffed_last at' out' k e d =
-        let b = stuff_byte (get_or s i 0) in
-        let all : stuff s ≡ done ++ b =
-        ap stuff (sym (take_all (i + 1) s (omega arith))) ∙ stuff_next s i h in
-        let len : length (done ++ b) ≡ length done + length b = length-append done b in (
-          omega (arith, e, inv.next, ap length all),
-          after b out' (stuff_byte_some (get_or s i 0)) (omega (arith, ap length all)) d
-              ∙ ap (splice out₀ from) (sym all),
-        )
+      pub stuffed_fits : at + length (stuff_byte last) ≤ length out
+      stuffed_fits = omega (arith, inv.next, inv.size, end_fits, ap length done_all)
+
+      pub stuffed_last : (at' : ℕ) (out' : List ℕ) → at' ≡ at + length (stuff_byte last)
+          → out' ≡ splice out at (stuff_byte last)
+          → (at' ≡ from + length (stuff s)) × (out' ≡ splice out₀ from (stuff s))
+      stuffed_last at' out' k d =
+          let b = stuff_byte last in
+          let all : stuff s ≡ done ++ b = stuff_ends ∙ ap (λ (l : List ℕ). l ++ b) (sym done_all) in
+          let len : length (done ++ b) ≡ length done + length b = length-append done b in (
+            omega (arith, k, inv.next, ap length all),
+            after b out' (stuff_byte_some last) (omega (arith, end_fits, ap length done_all)) d
+                ∙ ap (splice out₀ from) (sym all),
+          )

@@ -1,15 +1,13 @@
 -- What writing and measuring a frame are answered, in document 01's numbers.
-use Rattle.std.specs.Prelude.{ℕ, leb, length}
+use Rattle.std.specs.Prelude.{ℕ, leb, length, Result}
 use Rattle.lists.specs.Choice.{pick}
 use Rattle.answer.specs.Answer.{Answer, result, refused, and_then}
-use Rattle.answer.specs.Draft.{Draft}
-use Rattle.answer.specs.Refusals.{number_of}
+use Rattle.answer.specs.Draft.{Draft, written_means}
+use Rattle.answer.specs.declared.Refusal.{Refusal}
 use Rattle.frame.specs.Frame.{Frame, wire_of}
 use Rattle.frame.specs.Origin.{named}
 use Rattle.frame.specs.declared.Origin.{Origin}
 use Rattle.frame.specs.declared.Origin.TheVariants.{Live, Trace}
-use Rattle.writer.specs.declared.WireLength.{WireLength}
-use Rattle.writer.specs.declared.WireLength.TheVariants.{Bytes, Refused as NotSent}
 
 -- ---- writing
 
@@ -24,7 +22,6 @@ sent_draft Trace f = frame_draft f
 
 -- ---- measuring
 
--- How many bytes a frame takes on the wire, or a refusal.
-abbrev pub length_means : WireLength → Answer ℕ
-length_means (Bytes n) = result n
-length_means (NotSent why) = refused (number_of why)
+-- How many bytes a frame takes on the wire, or a refusal: what a call that writes as many would answer.
+abbrev pub length_means : Result ℕ Refusal → Answer ℕ
+length_means = written_means

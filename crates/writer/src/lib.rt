@@ -2,6 +2,7 @@
 #![tactic(auto)]
 
 mod bytes;
+mod contents;
 mod measure;
 mod number;
 mod stuffing;
@@ -13,50 +14,44 @@ ghost use Rattle.numbers.specs.Number.{bytes_of};
 ghost use Rattle.frame.specs.Frame.{standard, extended, frame_of};
 ghost use Rattle.writer.specs.Answers.{frame_draft, sent_draft, length_means};
 
-use answer::{Refusal, Written};
+use answer::Refusal;
+use contents::Contents;
 use frame::{Header, Origin};
-use measure::Measured;
-
-// The answer to measuring: how many bytes a frame takes on the wire, or why it can't be sent.
-#[derive(Clone, Copy)]
-pub enum WireLength {
-    Bytes(usize),
-    Refused(Refusal),
-}
+use number::NumberBytes;
 
 // How many bytes a standard frame takes on the wire, which is the room that writing it needs. Refusals 17, on the
 // live line alone, and 2.
-pub fn standard_length(origin: Origin, contents: &[u8]) -> WireLength
+pub fn standard_length(origin: Origin, contents: &[u8]) -> Result<usize, Refusal>
     ensures { length_means result ≡ through length (sent_draft origin (standard contents.now)) }
 {
     match origin {
-        Origin::Live => WireLength::Refused(Refusal::Unnamed),
         Origin::Trace => wire_length(Header::Plain, contents),
+        Origin::Live => Err(Refusal::Unnamed),
     }
 }
 
 // How many bytes an extended frame takes on the wire, which is the room that writing it needs. Refusal 2.
-pub fn extended_length(to: u8, from: u8, contents: &[u8]) -> WireLength
+pub fn extended_length(to: u8, from: u8, contents: &[u8]) -> Result<usize, Refusal>
     ensures { length_means result ≡ through length (frame_draft (extended to from contents.now)) }
 {
     wire_length(Header::Addressed { to, from }, contents)
 }
 
 // Writes a standard frame. Refusals 17, on the live line alone, 2 and 1.
-pub fn write_standard(origin: Origin, contents: &[u8], out: &mut [u8]) -> Written
+pub fn write_standard(origin: Origin, contents: &[u8], out: &mut [u8]) -> Result<usize, Refusal>
     ensures result_value { written_means result ≡ draft_answer (sent_draft origin (standard contents.now))
         (length out.old) }
     ensures out_after { out.new ≡ draft_out (sent_draft origin (standard contents.now))
         out.old }
 {
     match origin {
-        Origin::Live => Written::Refused(Refusal::Unnamed),
         Origin::Trace => write_frame(Header::Plain, contents, out),
+        Origin::Live => Err(Refusal::Unnamed),
     }
 }
 
 // Writes an extended frame, to any origin. Refusals 2 and 1.
-pub fn write_extended(to: u8, from: u8, contents: &[u8], out: &mut [u8]) -> Written
+pub fn write_extended(to: u8, from: u8, contents: &[u8], out: &mut [u8]) -> Result<usize, Refusal>
     ensures result_value { written_means result ≡ draft_answer (frame_draft (extended to from contents.now))
         (length out.old) }
     ensures out_after { out.new ≡ draft_out (frame_draft (extended to from contents.now))
@@ -67,56 +62,41 @@ pub fn write_extended(to: u8, from: u8, contents: &[u8], out: &mut [u8]) -> Writ
 
 // Writes an extended frame whose contents are `width` bytes of a number, lowest first; those past its eighth are 00. A
 // caller whose few contents bytes are known needs no array for them. Refusals 2 and 1.
-pub fn write_extended_number(to: u8, from: u8, number: u64, width: usize, out: &mut [u8]) -> Written
+pub fn write_extended_number(
+    to: u8,
+    from: u8,
+    number: u64,
+    width: usize,
+    out: &mut [u8],
+) -> Result<usize, Refusal>
     ensures result_value { written_means result ≡ draft_answer (frame_draft (extended to from (bytes_of width number)))
         (length out.old) }
     ensures out_after { out.new ≡ draft_out (frame_draft (extended to from (bytes_of width number)))
         out.old }
 {
     let header = Header::Addressed { to, from };
-    let measured = measure::measure_number(header, number, width);
-    match measured {
-        Measured::TooLong => Written::Refused(Refusal::TooLong),
-        Measured::Fits { sum, len, .. } => {
-            if out.len() < len {
-                return Written::Refused(Refusal::NoRoom);
-            }
-            let a = stuffing::put_header(header, out);
-            let b = number::put_number(number, width, out, a);
-            stuffing::put_end(sum, out, b);
-            Written::Length(len)
-        }
-    }
+    write_frame(header, NumberBytes { number, width }, out)
 }
 
-fn wire_length(header: Header, contents: &[u8]) -> WireLength
+fn wire_length(header: Header, contents: &[u8]) -> Result<usize, Refusal>
     ensures { length_means result ≡ through length (frame_draft (frame_of header contents.now)) }
 {
-    let measured = measure::measure(header, contents);
-    match measured {
-        Measured::TooLong => WireLength::Refused(Refusal::TooLong),
-        Measured::Fits { len, .. } => WireLength::Bytes(len),
-    }
+    Ok(measure::measure(header, contents)?.len)
 }
 
 // The length is found first, so that nothing is written where the frame does not fit.
-fn write_frame(header: Header, contents: &[u8], out: &mut [u8]) -> Written
-    ensures result_value { written_means result ≡ draft_answer (frame_draft (frame_of header contents.now))
+fn write_frame<C: Contents>(header: Header, contents: C, out: &mut [u8]) -> Result<usize, Refusal>
+    ensures result_value { written_means result ≡ draft_answer (frame_draft (frame_of header (C.bytes contents)))
         (length out.old) }
-    ensures out_after { out.new ≡ draft_out (frame_draft (frame_of header contents.now))
+    ensures out_after { out.new ≡ draft_out (frame_draft (frame_of header (C.bytes contents)))
         out.old }
 {
-    let measured = measure::measure(header, contents);
-    match measured {
-        Measured::TooLong => Written::Refused(Refusal::TooLong),
-        Measured::Fits { sum, escapes, len } => {
-            if len > out.len() {
-                return Written::Refused(Refusal::NoRoom);
-            }
-            let a = stuffing::put_header(header, out);
-            let b = stuffing::put_stuffed(contents, escapes, out, a);
-            stuffing::put_end(sum, out, b);
-            Written::Length(len)
-        }
+    let measured = measure::measure(header, contents)?;
+    if out.len() < measured.len {
+        return Err(Refusal::NoRoom);
     }
+    let a = stuffing::put_header(header, out);
+    let b = contents.put(measured.counted, out, a);
+    stuffing::put_end(measured.counted.sum, out, b);
+    Ok(measured.len)
 }

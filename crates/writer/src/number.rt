@@ -1,48 +1,46 @@
-// The bytes of a number as contents, lowest first.
-ghost use Rattle.std.specs.Prelude.{◌≡◌, ◌+◌, ◌≤◌, length};
-ghost use Rattle.lists.specs.Choice.{count_of};
-ghost use Rattle.lists.specs.Splice.{splice};
+// The bytes of a number as contents: a caller whose few contents bytes are known needs no array for them, and none is
+// made, which is what makes a stop quick.
 ghost use Rattle.numbers.specs.Number.{bytes_of};
-ghost use Rattle.frame.specs.Stuffing.{is_stuffed, stuff};
-ghost use Rattle.frame.specs.Checksum.{checksum};
 
-use crate::bytes::Counted;
-use crate::stuffing;
+use crate::contents::{Contents, Counted};
+use crate::stuffing::put_byte;
 use frame::flags;
 
-// How many of `width` bytes of a number are sent as two, and the exclusive or of all.
-pub(crate) fn count_number(number: u64, width: usize) -> Counted
-    requires { width ≤ 255 }
-    ensures count_value { result.count ≡ count_of is_stuffed (bytes_of width number) }
-    ensures sum_value { result.sum ≡ checksum (bytes_of width number) }
-{
-    let mut rest = number;
-    let mut left = width;
-    let mut count: u8 = 0;
-    let mut sum: u8 = 0;
-    while 0 < left {
-        let b = (rest % 256) as u8;
-        count = count + lists::mark(b, flags::EXTENDED_START, flags::ESCAPE);
-        sum = sum ^ b;
-        rest = rest / 256;
-        left = left - 1;
-    }
-    Counted { count, sum }
+// `width` bytes of a number, lowest first; those past its eighth are 00.
+#[derive(Clone, Copy)]
+pub(crate) struct NumberBytes {
+    pub number: u64,
+    pub width: usize,
 }
 
-// Writes `width` bytes of a number, stuffed, from an index on, and answers the next index.
-pub(crate) fn put_number(number: u64, width: usize, out: &mut [u8], from: usize) -> usize
-    requires { from + length (stuff (bytes_of width number)) ≤ length out.old }
-    ensures value { result ≡ from + length (stuff (bytes_of width number)) }
-    ensures out_after { out.new ≡ splice out.old from (stuff (bytes_of width number)) }
-{
-    let mut rest = number;
-    let mut left = width;
-    let mut at = from;
-    while 0 < left {
-        at = stuffing::put_byte((rest % 256) as u8, out, at);
-        rest = rest / 256;
-        left = left - 1;
+impl Contents for NumberBytes {
+    ghost bytes = { λ n. bytes_of n.width n.number };
+
+    fn len(self) -> usize {
+        self.width
     }
-    at
+
+    // Stays a division at each turn, as in `put`: `width` may be more than the eight bytes that `to_le_bytes` has.
+    fn count(self) -> Counted {
+        let mut rest = self.number;
+        let mut escapes: u8 = 0;
+        let mut sum: u8 = 0;
+        for _ in 0..self.width {
+            let b = (rest % 256) as u8;
+            escapes += lists::mark(b, flags::EXTENDED_START, flags::ESCAPE);
+            sum ^= b;
+            rest /= 256;
+        }
+        Counted { escapes, sum }
+    }
+
+    fn put(self, _counted: Counted, out: &mut [u8], from: usize) -> usize {
+        let mut rest = self.number;
+        let mut at = from;
+        for _ in 0..self.width {
+            at = put_byte((rest % 256) as u8, out, at);
+            rest /= 256;
+        }
+        at
+    }
 }

@@ -1,19 +1,8 @@
-use borrow.Author.Tests.{eq-eqb, ne_eqb}
+use mathlib.Core.Path.{ap}
+use Rattle.candidate.specs.Holder.{holder_seen}
 use Rattle.candidate.proofs.step_in.Goals as goal
 
-pub returns-then-b-eq-EXTENDED_START : goal.returns-then-b-eq-EXTENDED_START
-returns-then-b-eq-EXTENDED_START c = simp (eq-eqb _ _ c.if-b-eq-EXTENDED_START.true) (c.restart.ensures _)
-
-pub returns-then-b-eq-STANDARD_START : goal.returns-then-b-eq-STANDARD_START
-returns-then-b-eq-STANDARD_START c =
-    simp (ne_eqb _ _ c.if-b-eq-EXTENDED_START.false, eq-eqb _ _ c.if-b-eq-STANDARD_START.true) (c.restart-then-b-eq-STANDARD_START.ensures _)
-
-pub returns-then-b-eq-STOP : goal.returns-then-b-eq-STOP
-returns-then-b-eq-STOP c =
-    simp (
-      ne_eqb _ _ c.if-b-eq-EXTENDED_START.false,
-      ne_eqb _ _
-          c.if-b-eq-STANDARD_START.false,
-      eq-eqb _ _ c.if-b-eq-STOP.true,
-    )
-    (c.stop.ensures c.args.b)
+pub returns : goal.returns
+returns c =
+    let k = c.step-step.ensures in
+    record { told_is = k.told_is; next_is = ap (holder_seen c.args.held.origin) k.next_is }

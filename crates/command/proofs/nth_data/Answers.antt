@@ -3,4 +3,4 @@ use Rattle.command.proofs.PartLaws.{is_data}
 use Rattle.command.proofs.nth_data.Goals as goal
 
 pub returns : goal.returns
-returns c = is_data c.found_part.ensures c.nth-found.ensures (within_command _ _)
+returns c = is_data c.found_part.ensures c.nth.ensures (within_command _ _)

@@ -1,24 +1,29 @@
-use mathlib.Core.Path.{sym, subst}
-use Rattle.command.specs.Answers.{InContents}
-use Rattle.command.proofs.InnerLaws.{part_fits, outer_is, outer_none}
-use Rattle.command.proofs.Extents.{within_command}
+use Rattle.std.proofs.Common.{arith}
+use Rattle.command.proofs.Errors.{passed_on}
+use Rattle.command.proofs.InnerLaws.{outer_none, outer_plain, outer_wrapper, inner_fits}
 use Rattle.command.proofs.nth_inside.Goals as goal
 
-pub inner-requires : goal.inner-requires
-inner-requires c =
-    let a = c.args in
-    part_fits a.contents.now _ _ _ _ c.in-At.is
-    (subst (InContents a.contents.now) (sym c.nth-outer.ensures)
-    (within_command a.contents.now a.w))
+pub returns-in_err-outer : goal.returns-in_err-outer
+returns-in_err-outer c =
+    rw (passed_on c.from_residual.result c.from_residual.ensures.1)
+    (outer_none _ _ c.args.n c.in_err-outer.ensures)
 
-pub returns-in-At : goal.returns-in-At
-returns-in-At c =
-    let a = c.args in
-    outer_is a.contents.now a.w a.n _ c.nth-outer.ensures c.in-At.is
-    c.inner.ensures
+pub returns-then-not-is_wrapper : goal.returns-then-not-is_wrapper
+returns-then-not-is_wrapper c =
+    outer_plain _ _ c.args.n c.in_ok-outer.ensures c.is_wrapper.ensures c.if-not-is_wrapper.true
 
-pub returns-in-Refused : goal.returns-in-Refused
-returns-in-Refused c =
-    let a = c.args in
-    outer_none a.contents.now a.w a.n _ c.nth-outer.ensures _
-    c.in-Refused.is
+pub returns-in_err-inner : goal.returns-in_err-inner
+returns-in_err-inner c =
+    rw (passed_on c.from_residual-in_err-inner.result c.from_residual-in_err-inner.ensures.1)
+    (outer_wrapper _ _ c.args.n c.in_ok-outer.ensures c.is_wrapper.ensures c.if-not-is_wrapper.false
+    c.data.ensures.holds c.in_err-inner.ensures)
+
+pub overflow_add-start : goal.overflow_add-start
+overflow_add-start c =
+    let d = c.data.ensures.holds in
+    omega (arith, inner_fits _ _ c.args.n c.in_ok-outer.ensures (omega arith) d c.in_ok-inner.ensures)
+
+pub returns : goal.returns
+returns c =
+    outer_wrapper _ _ c.args.n c.in_ok-outer.ensures c.is_wrapper.ensures c.if-not-is_wrapper.false
+    c.data.ensures.holds c.in_ok-inner.ensures

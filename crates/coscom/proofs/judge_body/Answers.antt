@@ -1,46 +1,51 @@
-use mathlib.Core.Path.{◌≡◌, sym, ap, ◌∙◌}
-use mathlib.Core.Bool.{true}
-use mathlib.Core.List.{List}
-use native.Mathlib.Omega.{arith}
-use Prim.Native.Nat.{ℕ}
+use mathlib.Core.Path.{◌≡◌, refl, sym, ap}
+use mathlib.Core.Bool.{true, false}
 use Rattle.coscom.specs.Verdict.{is_spelt}
-use borrow.Author.Tests.{not-true, not-false}
 use Rattle.coscom.specs.Answers.{judge_answer}
 use Rattle.coscom.proofs.VerdictLaws.{judge_long, judge_short, judge_character, judge-sum, judge_sound}
-use Rattle.coscom.proofs.CodeLaws.{answer_packet}
+use Rattle.coscom.proofs.CodeLaws.{part_spelt, part_summed, part_told}
 use Rattle.coscom.proofs.judge_body.Goals as goal
-use Rattle.coscom.proofs.judge_body.Goals.{Else-not-is_spelt}
+use Rattle.coscom.proofs.judge_body.Goals.{then-not-is_proper-via-then-not-is_proper, then-not-is_proper-via-else-not-is_proper+then-not-is_digit, then-not-is_proper-via-else-not-is_proper+else-not-is_digit+then-not-is_digit-2}
 
-abbrev Body : Else-not-is_spelt → List ℕ
-Body t = t.args.body.now
-
-spelt : (t : Else-not-is_spelt) → is_spelt (Body t) ≡ true
-spelt t = sym t.is_spelt.ensures ∙ not-false _ t.if-not-is_spelt.false-raw
-
-pub returns-then-n-gt-BODY_LIMIT : goal.returns-then-n-gt-BODY_LIMIT
+pub returns-then-body-gt-BODY_LIMIT : goal.returns-then-body-gt-BODY_LIMIT
 unfolding judge_answer
-returns-then-n-gt-BODY_LIMIT c = ap judge_answer (sym (judge_long _ (omega (arith, c.if-n-gt-BODY_LIMIT.true))))
+returns-then-body-gt-BODY_LIMIT c = ap judge_answer (sym (judge_long _ c.if-body-gt-BODY_LIMIT.true))
 
-pub returns-then-n-lt-FEWEST : goal.returns-then-n-lt-FEWEST
+pub returns-in_default : goal.returns-in_default
 unfolding judge_answer
-returns-then-n-lt-FEWEST c = ap judge_answer (sym (judge_short _ (omega (arith, c.if-n-lt-FEWEST.true)) c.if-n-lt-FEWEST.true))
+returns-in_default c = ap judge_answer (sym (judge_short _ c.if-body-gt-BODY_LIMIT.false c.in_default.len_below))
 
-pub returns-then-not-is_spelt : goal.returns-then-not-is_spelt
+pub returns-then-not-is_proper : goal.returns-then-not-is_proper
 unfolding judge_answer
-returns-then-not-is_spelt c =
+returns-then-not-is_proper c =
+    let body = c.args.body.now in
+    let h = c.in-len5-up.len_at_least in
+    let n : is_spelt body ≡ false =
+    elim c.then-not-is_proper.branch [
+      | then-not-is_proper-via-then-not-is_proper w ↦
+          sym (part_spelt body h false _ _ w.if-not-is_proper.ensures refl refl)
+      | then-not-is_proper-via-else-not-is_proper+then-not-is_digit w ↦
+          sym (part_spelt body h true false _ w.if-not-is_proper.ensures w.if-not-is_digit.ensures refl)
+      | then-not-is_proper-via-else-not-is_proper+else-not-is_digit+then-not-is_digit-2 w ↦
+          sym (part_spelt body h true true false w.if-not-is_proper.ensures w.if-not-is_digit.ensures w.if-not-is_digit-2.ensures)
+    ] in
+    ap judge_answer (sym (judge_character _ c.if-body-gt-BODY_LIMIT.false h n))
+
+pub returns-then-not-are_digits : goal.returns-then-not-are_digits
+unfolding judge_answer
+returns-then-not-are_digits c =
+    let body = c.args.body.now in
+    let h = c.in-len5-up.len_at_least in
     ap judge_answer
-    (sym (judge_character _ c.if-n-gt-BODY_LIMIT.false c.if-n-lt-FEWEST.false
-    (sym c.is_spelt.ensures ∙ not-true _ c.if-not-is_spelt.true-raw)))
-
-pub returns-then-not-is_summed : goal.returns-then-not-is_summed
-unfolding judge_answer
-returns-then-not-is_summed c =
-    ap judge_answer
-    (sym (judge-sum _ c.if-n-gt-BODY_LIMIT.false c.if-n-lt-FEWEST.false (spelt (goal.at.returns-then-not-is_summed c).Else-not-is_spelt)
-    (sym c.is_summed.ensures ∙ not-true _ c.if-not-is_summed.true-raw)))
+    (sym (judge-sum _ c.if-body-gt-BODY_LIMIT.false h
+    (sym (part_spelt body h true true true c.if-not-is_proper.ensures c.if-not-is_digit.ensures c.if-not-is_digit-2.ensures))
+    (sym (part_summed body h _ false c.checksum-sum.ensures.value c.if-not-are_digits.ensures))))
 
 pub returns : goal.returns
 returns c =
-    answer_packet (Body (goal.at.returns c).Else-not-is_spelt) c.if-n-lt-FEWEST.false
-    (judge_sound (Body (goal.at.returns c).Else-not-is_spelt) c.if-n-gt-BODY_LIMIT.false c.if-n-lt-FEWEST.false (spelt (goal.at.returns c).Else-not-is_spelt)
-    (sym c.is_summed.ensures ∙ not-false _ c.if-not-is_summed.false-raw))
+    let body = c.args.body.now in
+    let h = c.in-len5-up.len_at_least in
+    part_told body h
+    (judge_sound body c.if-body-gt-BODY_LIMIT.false h
+    (sym (part_spelt body h true true true c.if-not-is_proper.ensures c.if-not-is_digit.ensures c.if-not-is_digit-2.ensures))
+    (sym (part_summed body h _ true c.checksum-sum.ensures.value c.if-not-are_digits.ensures)))

@@ -5,8 +5,8 @@ use Rattle.coscom_exports.proofs.csafe_packet_feed.Goals as goal
 pub pack_state-requires : goal.pack_state-requires
 pack_state-requires c =
     let a = c.args in
-    fed_len_fits _ a.input.now _ _ _ c.feed_in-fed.ensures a.state.now (omega (arith, c.row_known-1))
-    c.state_in-before.ensures
+    fed_len_fits _ a.input.now _ _ _ c.feed_in-fed.ensures a.state.now (omega arith)
+    c.state_in.ensures
 
 pub of_told-requires : goal.of_told-requires
 of_told-requires c =

@@ -9,8 +9,8 @@ pub returns : goal.returns
 returns c =
     λ t m w.
     let told = summary_of t.answer in
-    let e : c.beside-unit.result ≡ beside_told told t.next.bytes =
-    c.beside-unit.ensures ∙ ap (λ (h : Summary). beside_told h c.args.bytes) m.told_is
+    let e : c.beside.result ≡ beside_told told t.next.bytes =
+    c.beside.ensures ∙ ap (λ (h : Summary). beside_told h c.args.bytes) m.told_is
     ∙ ap (λ (r : LineReader). beside_told told r.bytes) m.next_is in
     record {
       answer_is = (λ i. record { told = m.told_is i; unit = e i }) ∙ value_means t.answer t.next.bytes w;

@@ -1,10 +1,8 @@
-use borrow.Author.Tests.{eq-eqb, ne_eqb}
+use mathlib.Core.Path.{ap}
+use Rattle.coscom_line.specs.Reader.{reader_seen}
 use Rattle.coscom_line.proofs.step_in.Goals as goal
 
-pub returns-then-b-eq-START : goal.returns-then-b-eq-START
-returns-then-b-eq-START c = simp (eq-eqb _ _ c.if-b-eq-START.true) (c.restart.ensures _)
-
-pub returns-then-b-eq-STOP : goal.returns-then-b-eq-STOP
-returns-then-b-eq-STOP c =
-    simp (ne_eqb _ _ c.if-b-eq-START.false, eq-eqb _ _ c.if-b-eq-STOP.true)
-    (c.stop.ensures c.args.b)
+pub returns : goal.returns
+returns c =
+    let k = c.step-step.ensures in
+    record { told_is = k.told_is; next_is = ap reader_seen k.next_is }

@@ -1,18 +1,16 @@
 use native.Mathlib.Omega.{arith}
-use lib.ListN.{take}
-use lib.Seq.{length-take-le}
-use Rattle.lists.proofs.Splices.{copied_fits}
-use Rattle.frame.proofs.ContentsLaws.{copied_plain, front_sound, front_length, front_put}
+use lib.ListN.{drop}
+use mathlib.Core.Path.{ap, ◌∙◌}
+use mathlib.Core.List.{List, ◌++◌}
+use Prim.Native.Nat.{ℕ}
+use Rattle.frame.proofs.ContentsLaws.{plain_first, front_sound, front_length, front_put}
 use Rattle.frame.proofs.copy_contents.Goals as goal
 
 pub returns-then-rest-len : goal.returns-then-rest-len
 returns-then-rest-len c =
     let a = c.args in
-    let t = c.if-rest-len.true in
-    copied_plain a.rest.now a.out.now _ a.len c.requires.rest_len t
-    (copied_fits (take a.len a.rest.now) a.out.now _ 0
-    (omega (arith, length-take-le a.len a.rest.now (omega arith), c.requires.len_in_bounds))
-    c.copy_short.ensures)
+    ap (λ (l : List ℕ). l ++ drop a.len a.out.now)
+    (c.copy_from_slice.ensures.after ∙ plain_first a.rest.now a.len c.requires.rest_len c.if-rest-len.true)
 
 pub unstuff_into-requires-clause-s_value : goal.unstuff_into-requires-clause-s_value
 unstuff_into-requires-clause-s_value c =

@@ -1,47 +1,27 @@
--- What the tests before a return found, and what the frame writer answered and wrote, is what a stop does.
-use mathlib.Core.Bool.{true, false}
-use mathlib.Core.Path.{◌≡◌, sym, ap, ◌∙◌}
-use borrow.Author.Rules.{rules}
-use Rattle.answer.specs.Draft.{written_means}
-use Rattle.frame.specs.Address.{in_range}
-use Rattle.lease.specs.Lease.{owns}
-use Rattle.lease.proofs.LeaseLaws.{stop_outside, stop_not_holder, stop_writes, stop_no_room}
+-- What the judge found, and what the frame writer answered and wrote, is what a stop does.
+use native.Mathlib.Omega.{arith}
+use mathlib.Core.List.{[]}
+use Rattle.std.proofs.lemmas.Result.{err_from_is_err_and}
+use Rattle.lease.proofs.LeaseLaws.{range_means, holder_found, stop_refused, stop_writes}
 use Rattle.lease.proofs.write_stop.Goals as goal
 
-pub returns-then-not-in_range : goal.returns-then-not-in_range
-returns-then-not-in_range c =
+pub returns-in_err-judge_holder : goal.returns-in_err-judge_holder
+returns-in_err-judge_holder c =
     let a = c.args in
-    let outside : in_range a.address ≡ false = search rules in
-    let t = stop_outside a.held a.address a.token a.out.now outside in
-    record { result_value = t.0; out_after = t.1 }
+    let p = err_from_is_err_and c.from_residual.result c.from_residual.ensures.1 in
+    let t = stop_refused a.holder a.address a.token a.out.now _ c.in_err-judge_holder.ensures in
+    record { result_value = rw (p.1, p.2) t.0; out_after = t.1 }
 
-pub returns-then-not-is_holder : goal.returns-then-not-is_holder
-returns-then-not-is_holder c =
+pub overflow_cast-address : goal.overflow_cast-address
+overflow_cast-address c =
     let a = c.args in
-    let range : in_range a.address ≡ true = search rules in
-    let stranger : owns a.token a.held ≡ false = search rules in
-    let t = stop_not_holder a.held a.address a.token a.out.now range stranger in
-    record { result_value = t.0; out_after = t.1 }
+    let f = holder_found a.holder a.address a.token a.out.now [] c.in_ok-judge_holder.ensures in
+    record { fits = omega (arith, range_means a.address f.0) }
 
-pub returns-in-Length : goal.returns-in-Length
-returns-in-Length c =
+pub returns : goal.returns
+returns c =
     let a = c.args in
-    let range : in_range a.address ≡ true = search rules in
-    let owner : owns a.token a.held ≡ true = search rules in
-    let d = c.write_extended_number-written.ensures in
-    let t =
-    stop_writes a.held a.address a.token a.out.now range owner _ _
-    (sym (ap written_means c.in-Length.is) ∙ d.result_value, d.out_after) in
-    record { result_value = t.0; out_after = t.1 }
-
-pub returns-in-Refused : goal.returns-in-Refused
-returns-in-Refused c =
-    let a = c.args in
-    let range : in_range a.address ≡ true = search rules in
-    let owner : owns a.token a.held ≡ true = search rules in
-    let d = c.write_extended_number-written.ensures in
-    let t =
-    stop_no_room a.held a.address a.token a.out.now range owner _ _
-    (stop_writes a.held a.address a.token a.out.now range owner _ _
-    (sym (ap written_means c.in-Refused.is) ∙ d.result_value, d.out_after)) in
+    let f = holder_found a.holder a.address a.token a.out.now [] c.in_ok-judge_holder.ensures in
+    let d = c.write_extended_number.ensures in
+    let t = stop_writes a.holder a.address a.token a.out.now f.0 f.1 _ _ (d.result_value, d.out_after) in
     record { result_value = t.0; out_after = t.1 }

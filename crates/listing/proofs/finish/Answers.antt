@@ -1,31 +1,33 @@
-use Rattle.std.proofs.Common.{length, ap, ◌∙◌, refl, subst, arith}
+use Rattle.std.proofs.Common.{length, subst, arith}
+use Rattle.trace.specs.Machine.{last_text}
+use Rattle.trace.proofs.AnswerLaws.{writes_length}
 use Rattle.listing.specs.Streams.{Gives}
-use Rattle.listing.proofs.Laws.{finished_with, not_refused, part_size}
+use Rattle.listing.proofs.Laws.{finished, part_size}
 use Rattle.listing.proofs.finish.Goals as goal
 
-pub slice_bounds-send-end : goal.slice_bounds-send-end
-slice_bounds-send-end g c =
-    let k = c.in-Length.ensures in
-    (finished_with _ _ _ _ _ k.length_bound c.requires k.result_value k.out_after c.finish-written.auto.out).fits
+pub unwrap-len-requires : goal.unwrap-len-requires
+unwrap-len-requires g c =
+    rw (writes_length (last_text c.args.s) (length c.args.out.now) c.finish.result
+    (omega (arith, c.finish.ensures.length_bound, c.requires)) c.finish.ensures.result_value)
 
-pub slice_bounds-send-end-in-Length : goal.slice_bounds-send-end-in-Length
-slice_bounds-send-end-in-Length g c =
-    let k = c.in-Length.ensures in
-    part_size _ (finished_with _ _ _ _ _ k.length_bound c.requires k.result_value k.out_after c.finish-written.auto.out).fits
+pub slice_bounds-write_all-end : goal.slice_bounds-write_all-end
+slice_bounds-write_all-end g c =
+    let k = c.finish.ensures in
+    (finished _ c.args.out.now c.finish.new.out c.finish.result c.unwrap-len.result _ k.length_bound c.requires k.result_value k.out_after c.finish.auto.out c.unwrap-len.ensures).fits
 
-pub unreachable-requires : goal.unreachable-requires
-unreachable-requires g c =
-    let k = c.in-Refused.ensures in
-    not_refused _ c.args.out.now c.finish-written.new.out _ (search (arith, k.length_bound, c.requires)) k.result_value _ refl
+pub slice_bounds-write_all-end-2 : goal.slice_bounds-write_all-end-2
+slice_bounds-write_all-end-2 g c =
+    let k = c.finish.ensures in
+    part_size _ (finished _ c.args.out.now c.finish.new.out c.finish.result c.unwrap-len.result _ k.length_bound c.requires k.result_value k.out_after c.finish.auto.out c.unwrap-len.ensures).fits
 
 pub returns-clause-finishes : goal.returns-clause-finishes
 returns-clause-finishes g c =
-    let k = c.in-Length.ensures in
-    let f = finished_with _ _ _ _ _ k.length_bound c.requires k.result_value k.out_after c.finish-written.auto.out in
-    record { out_is = f.out_is; len_is = c.send.ensures.len ∙ ap length f.first }
+    let k = c.finish.ensures in
+    let f = finished _ c.args.out.now c.finish.new.out c.finish.result c.unwrap-len.result _ k.length_bound c.requires k.result_value k.out_after c.finish.auto.out c.unwrap-len.ensures in
+    record { out_is = f.out_is; len_is = f.size }
 
 pub returns-clause-gives : goal.returns-clause-gives
 returns-clause-gives g c =
-    let k = c.in-Length.ensures in
-    let f = finished_with _ _ _ _ _ k.length_bound c.requires k.result_value k.out_after c.finish-written.auto.out in
-    subst (Gives _ _ _) f.first c.send.ensures.gives
+    let k = c.finish.ensures in
+    let f = finished _ c.args.out.now c.finish.new.out c.finish.result c.unwrap-len.result _ k.length_bound c.requires k.result_value k.out_after c.finish.auto.out c.unwrap-len.ensures in
+    subst (Gives _ _ _) f.first c.write_all-whole.ensures

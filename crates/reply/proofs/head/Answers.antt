@@ -1,11 +1,9 @@
+use Rattle.std.proofs.Common.{arith}
 use Rattle.reply.proofs.ReplyLaws.{head_short, head_is}
-use native.Mathlib.Omega.{arith}
 use Rattle.reply.proofs.head.Goals as goal
 
-pub returns-then-contents-eq0 : goal.returns-then-contents-eq0
-returns-then-contents-eq0 c = head_short _ (omega arith)
+pub returns-in-empty : goal.returns-in-empty
+returns-in-empty c = head_short _ (omega arith)
 
-pub returns : goal.returns
-returns c =
-    head_is c.args.contents.now c.if-contents-eq0.false
-    c.from_byte.ensures
+pub returns-in-len1-up : goal.returns-in-len1-up
+returns-in-len1-up c = head_is c.args.contents.now (λ e. omega arith) c.from_byte.ensures

@@ -3,4 +3,4 @@ use Rattle.reply.proofs.ReplyLaws.{item_within}
 use Rattle.reply.proofs.nth_item_data.Goals as goal
 
 pub returns : goal.returns
-returns c = is_data c.found_part.ensures c.nth_item-found.ensures (item_within _ _)
+returns c = is_data c.found_part.ensures c.nth_item.ensures (item_within _ _)

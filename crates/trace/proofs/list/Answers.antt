@@ -1,46 +1,43 @@
-use Rattle.std.proofs.Common.{ℕ, ◌+◌, ◌≤◌, List, length, drop, ◌∙◌, subst, arith, length-drop}
+use Rattle.std.proofs.Common.{ℕ, ◌+◌, ◌-◌, List, length, take, drop, sym, subst, arith, length-drop}
 use Rattle.lists.proofs.Lists.{rest_part}
-use Rattle.trace.specs.Private.{Advances, listing}
+use Rattle.trace.specs.Private.{Advances, Going}
+use Rattle.trace.proofs.AnswerLaws.{put_first}
 use Rattle.trace.proofs.ChunkLaws.{going_more, going_stop}
 use Rattle.trace.proofs.list.Goals as goal
-use Rattle.trace.proofs.list.Goals.{After-advance-t}
+use Rattle.trace.proofs.list.Goals.{After-advance-step}
 
--- the bytes that are taken are the next of the chunk
-advanced : (c : After-advance-t) → Advances (listing c.loop-i.bytes
-    c.loop-i.tally)
-    (drop c.loop-i.i
-    c.args.chunk.now) c.advance-t.new.bytes c.loop-i.out
-    c.loop-i.at c.advance-t.new.out c.advance-t.result
+-- the bytes that are taken are the next of the chunk, and their line is the next in the output
+advanced : (c : After-advance-step) → Advances c.loop-taken.next c.advance-step.new.self
+    (drop c.loop-taken.taken c.args.chunk.now) (drop c.loop-taken.wrote c.loop-taken.out) c.advance-step.new.out
+    c.advance-step.result
 advanced c =
-    subst (λ (rest : List ℕ). Advances (listing c.loop-i.bytes c.loop-i.tally) rest c.advance-t.new.bytes c.loop-i.out c.loop-i.at
-    c.advance-t.new.out c.advance-t.result) (rest_part _ c.loop-i.i) c.advance-t.ensures
+    let l = c.loop-taken in
+    let next = c.advance-step.new.self in
+    let out = c.advance-step.new.out in
+    let r = c.advance-step.result in
+    subst (λ (rest : List ℕ). Advances l.next next rest (drop l.wrote l.out) out r) (rest_part _ l.taken)
+    (subst (λ (part : List ℕ). Advances l.next next
+    (take (length c.args.chunk.now - l.taken) (drop l.taken c.args.chunk.now)) part out r) (rest_part _ l.wrote)
+    c.advance-step.ensures)
 
-fits : (c : After-advance-t) → c.loop-i.i + c.advance-t.result.taken ≤ length
-    c.args.chunk.now
-fits c =
-    omega (
-      arith,
-      c.loop-i.invariant.0,
-      (advanced c).leads.fits,
-      length-drop c.loop-i.i
-          c.args.chunk.now,
-    )
+pub loop-taken-preserved : goal.loop-taken-preserved
+loop-taken-preserved c =
+    let l = c.loop-taken in
+    let a = advanced (goal.at.loop-taken-preserved c).After-advance-step in
+    let room = c.if-out-wrote-ge-LINE_ROOM.true in
+    record {
+      within = omega (arith, a.leads.fits, l.invariant.within, length-drop l.taken c.args.chunk.now);
+      fits = omega (arith, a.within, room, l.auto.out);
+      going =
+          subst (λ (o : List ℕ). Going c.args.s c.args.chunk.now c.args.out.now c.advance-step.new.self o
+          (l.wrote + c.advance-step.result.wrote) (l.taken + c.advance-step.result.taken))
+          (sym (put_first l.wrote l.out c.advance-step.new.out))
+          (going_more c.args.s c.args.chunk.now c.args.out.now l.next l.out l.wrote l.taken l.invariant.going l.invariant.fits
+          (omega (arith, room, l.auto.out)) c.advance-step.new.self c.advance-step.new.out c.advance-step.result a);
+    }
 
-pub returns-then-out-at-lt-LINE_ROOM : goal.returns-then-out-at-lt-LINE_ROOM
-returns-then-out-at-lt-LINE_ROOM c =
-    let a = c.args in
-    going_stop a.s a.chunk.now a.out.now (listing c.loop-i.bytes c.loop-i.tally) c.loop-i.out c.loop-i.at c.loop-i.i c.loop-i.invariant.3
-    c.loop-i-test.true c.loop-i.invariant.2 (omega (arith, c.if-out-at-lt-LINE_ROOM.true, c.loop-i.invariant.1))
-    c.listed_of.result c.listed_of.ensures
-
-pub loop-i-preserved : goal.loop-i-preserved
-loop-i-preserved c =
-    let a = c.args in
-    let room = c.if-out-at-lt-LINE_ROOM.false in (
-      fits (goal.at.loop-i-preserved c).After-advance-t,
-      c.advance-t.auto.out ∙ c.loop-i.invariant.1,
-      omega (arith, (advanced (goal.at.loop-i-preserved c).After-advance-t).within, room, c.loop-i.invariant.1, c.loop-i.invariant.2),
-      going_more a.s a.chunk.now a.out.now (listing c.loop-i.bytes c.loop-i.tally) c.loop-i.out c.loop-i.at c.loop-i.i
-          c.loop-i.invariant.3 c.loop-i.invariant.2 (omega (arith, room, c.loop-i.invariant.1)) c.advance-t.new.bytes c.advance-t.new.out
-          c.advance-t.result (advanced (goal.at.loop-i-preserved c).After-advance-t),
-    )
+pub returns-else-out-wrote-ge-LINE_ROOM : goal.returns-else-out-wrote-ge-LINE_ROOM
+returns-else-out-wrote-ge-LINE_ROOM c =
+    let l = c.loop-taken in
+    going_stop c.args.s c.args.chunk.now c.args.out.now l.next l.out l.wrote l.taken l.invariant.going
+    c.loop-taken-test.true l.invariant.fits (omega (arith, c.if-out-wrote-ge-LINE_ROOM.false, l.auto.out))

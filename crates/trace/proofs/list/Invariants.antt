@@ -1,11 +1,13 @@
-use Rattle.std.proofs.Common.{◌≡◌, ◌-◌, ◌≤◌, length}
-use Rattle.trace.specs.Private.{Going, listing}
+use Rattle.std.proofs.Common.{◌-◌, ◌≤◌, length}
+use Rattle.trace.specs.Private.{Going}
 use Rattle.trace.proofs.list.Given as goal
 
-abbrev pub invariant-loop-i : goal.invariant-loop-i
-invariant-loop-i l =
-    (l.i ≤ length l.chunk) × (length l.out ≡ length l.initial.out) × (l.at ≤ length l.initial.out)
-    × Going (listing l.initial.bytes l.initial.tally) l.chunk l.initial.out (listing l.bytes l.tally) l.out l.at l.i
+abbrev pub invariant-loop-taken : goal.invariant-loop-taken
+invariant-loop-taken l = record {
+  within : l.taken ≤ length l.chunk;
+  fits : l.wrote ≤ length l.initial.out;
+  going : Going l.initial.next l.chunk l.initial.out l.next l.out l.wrote l.taken;
+}
 
-abbrev pub decreases-loop-i : goal.decreases-loop-i
-decreases-loop-i l = length l.chunk - l.i
+abbrev pub decreases-loop-taken : goal.decreases-loop-taken
+decreases-loop-taken l = length l.chunk - l.taken

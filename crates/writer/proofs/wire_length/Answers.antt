@@ -1,16 +1,11 @@
-use mathlib.Core.Path.{subst}
-use Rattle.writer.specs.Private.{Measures}
+use Rattle.std.proofs.lemmas.Result.{err_from_is_err_and}
 use Rattle.writer.proofs.MeasureLaws.{long_length, fits_length}
 use Rattle.writer.proofs.wire_length.Goals as goal
 
-pub returns-in-TooLong : goal.returns-in-TooLong
-returns-in-TooLong c =
-    let a = c.args in
-    long_length a.header a.contents.now
-    (subst (Measures a.header a.contents.now) c.in-TooLong.is c.measure-measured.ensures)
+pub returns-in_err-measure : goal.returns-in_err-measure
+returns-in_err-measure c =
+    let p = err_from_is_err_and c.from_residual.result c.from_residual.ensures.1 in
+    rw (p.1, p.2) (long_length c.args.header c.args.contents.now _ c.in_err-measure.ensures)
 
-pub returns-in-Fits : goal.returns-in-Fits
-returns-in-Fits c =
-    let a = c.args in
-    fits_length a.header a.contents.now _ _ _
-    (subst (Measures a.header a.contents.now) c.in-Fits.is c.measure-measured.ensures)
+pub returns : goal.returns
+returns c = fits_length c.args.header c.args.contents.now _ c.in_ok-measure.ensures

@@ -1,6 +1,4 @@
-use mathlib.Core.Path.{◌≡◌}
-use Prim.Native.Nat.{◌-◌, ◌≤◌}
-use lib.ListN.{length, drop}
+use Rattle.std.proofs.Common.{◌≡◌, ◌-◌, ◌≤◌, length, drop}
 use Rattle.command.specs.Answers.{counted}
 use Rattle.command.specs.Entries.{parse}
 use Rattle.command.proofs.EntryLaws.{counted_plus}

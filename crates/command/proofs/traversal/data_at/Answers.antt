@@ -6,4 +6,4 @@ use Rattle.command.proofs.traversal.data_at.Goals as goal
 
 pub returns : goal.returns
 unfolding command_at
-returns c = is_data c.found_part.ensures c.command_at-found.ensures (within_nth commands _ _ 0)
+returns c = is_data c.found_part.ensures c.command_at.ensures (within_nth commands _ _ 0)

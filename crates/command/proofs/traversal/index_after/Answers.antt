@@ -1,23 +1,12 @@
-use native.Mathlib.Omega.{arith}
+use Rattle.std.proofs.Common.{arith}
 use Rattle.command.proofs.CursorMoves.{after_found, after_refused}
 use Rattle.command.proofs.traversal.index_after.Goals as goal
 
 pub overflow_add-result : goal.overflow_add-result
-overflow_add-result c =
-    let a = c.args in
-    omega (
-      arith,
-      (after_found a.contents.now a.at _ c.command_at-found.ensures _ _ _
-          c.in-At.is).0,
-    )
+overflow_add-result c = omega (arith, after_found _ _ c.in-Ok.ensures)
 
-pub returns-in-At : goal.returns-in-At
-returns-in-At c =
-    let a = c.args in
-    (after_found a.contents.now a.at _ c.command_at-found.ensures _ _ _
-    c.in-At.is).1
+pub returns-in-Ok : goal.returns-in-Ok
+returns-in-Ok c = (after_found _ _ c.in-Ok.ensures).1
 
-pub returns-in-Refused : goal.returns-in-Refused
-returns-in-Refused c =
-    let a = c.args in
-    after_refused a.contents.now a.at _ c.command_at-found.ensures _ c.in-Refused.is
+pub returns-in-Err : goal.returns-in-Err
+returns-in-Err c = after_refused _ _ c.in-Err.ensures

@@ -1,10 +1,11 @@
-use lib.ListN.{length}
-use Prim.Native.Nat.{◌-◌}
+use mathlib.Core.Path.{◌≡◌}
+use lib.ListN.{drop}
 use Rattle.frame.specs.Private.{PlainTo}
 use Rattle.frame.proofs.front.small_blocks.Given as goal
 
-abbrev pub invariant-loop-i : goal.invariant-loop-i
-invariant-loop-i l = PlainTo l.s l.i l.sum
-
-abbrev pub decreases-loop-i : goal.decreases-loop-i
-decreases-loop-i l = length l.s - l.i
+abbrev pub invariant-loop-block : goal.invariant-loop-block
+invariant-loop-block l = record {
+  run : PlainTo l.s l.run.len l.run.sum;
+  eight : l.block-iterator.size ≡ 8;
+  left : drop l.run.len l.s ≡ l.block-iterator.rest.now;
+}

@@ -5,4 +5,4 @@ use Rattle.lease.proofs.LeaseTable.release.Goals as goal
 pub settle-requires : goal.settle-requires
 settle-requires c =
     let a = c.args in
-    settles _ (release a.address a.token) _ c.judge_release-answer.ensures
+    settles _ (release a.address a.token) _ c.judge_holder-answer.ensures

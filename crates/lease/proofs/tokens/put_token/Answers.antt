@@ -1,18 +1,16 @@
-use mathlib.Core.Path.{sym, ◌∙◌}
-use lib.ListN.{length-set}
-use Rattle.numbers.proofs.Numbers.{put_up, put_all}
-use borrow.Author.Rules.{rules}
+use mathlib.Core.Path.{◌≡◌, sym, ◌∙◌}
+use Prim.Native.Nat.{◌+◌, ◌-◌, ◌*◌}
+use native.Mathlib.Omega.{arith}
+use Rattle.std.proofs.lemmas.Grind.{common_steps}
+use Rattle.numbers.specs.Number.{bytes_of}
+use Rattle.writer.proofs.NumberLaws.{le_bytes_of}
+use Rattle.lease.proofs.LeaseLaws.{put_spliced}
 use Rattle.lease.proofs.tokens.put_token.Goals as goal
-
-pub loop-i-preserved : goal.loop-i-preserved
-loop-i-preserved c =
-    let l = c.loop-i in (
-      search rules,
-      sym (put_up 8 _ l.i _ _ c.loop-i-test.true) ∙ l.invariant.1,
-      length-set l.bytes _ _ ∙ l.invariant.2,
-    )
 
 pub returns : goal.returns
 returns c =
-    let l = c.loop-i in
-    sym (put_all 8 c.args.at l.i l.n _ c.loop-i-test.false) ∙ l.invariant.1
+    let a = c.args in
+    let same : c.copy_from_slice.new.self ≡ bytes_of 8 a.token =
+    c.copy_from_slice.ensures.after ∙ c.to_le_bytes.ensures ∙ le_bytes_of 8 a.token in
+    let wide : (8 * a.address + 8) - 8 * a.address ≡ 8 = omega arith in
+    rw (same, wide) ((grind (arith, common_steps)) ∙ sym (put_spliced 8 (8 * a.address) a.token a.bytes.now c.requires))

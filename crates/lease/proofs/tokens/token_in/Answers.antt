@@ -10,5 +10,7 @@ pub returns : goal.returns
 returns c =
     let a = c.args in
     let range : in_range a.address ≡ true = search rules in
-    let r = range_means a.address range in
-    c.eight_at.ensures ∙ sym (token_lent a.bytes.now a.address (omega (arith, r.1))) ∙ simp range
+    let r = range_means a.address range in (
+      c.if-bytes-ne-TABLE_BYTES.false,
+      c.eight_at.ensures ∙ sym (token_lent a.bytes.now a.address (omega (arith, r.1))) ∙ simp range,
+    )

@@ -1,11 +1,16 @@
-use Rattle.reply.specs.Status.{status_byte}
-use native.Mathlib.Nat.{zero-add}
+use Rattle.std.proofs.Common.{◌∙◌, sym, arith}
+use Rattle.reply.specs.Status.{NamedStatus}
+use Rattle.reply.proofs.StatusLaws.{made_of_names}
 use Rattle.reply.proofs.status.Status.to_byte.Goals as goal
 
 pub returns-then-self : goal.returns-then-self
-unfolding status_byte
-returns-then-self c = simp c.if-self.true
+returns-then-self c =
+    let s = c.args.self in
+    let n : NamedStatus = record { toggle = s.toggle; previous = s.previous; state = s.state } in
+    simp c.if-self.true (omega (arith, c.previous.ensures, c.state.ensures)) ∙ sym (made_of_names n)
 
 pub returns-else-self : goal.returns-else-self
-unfolding status_byte
-returns-else-self c = simp (c.if-self.false, zero-add)
+returns-else-self c =
+    let s = c.args.self in
+    let n : NamedStatus = record { toggle = s.toggle; previous = s.previous; state = s.state } in
+    simp c.if-self.false (omega (arith, c.previous.ensures, c.state.ensures)) ∙ sym (made_of_names n)

@@ -1,0 +1,9 @@
+use mathlib.Core.Path.{ap}
+use Rattle.candidate.specs.Holder.{holder_seen}
+use Rattle.candidate.proofs.finish_in.Goals as goal
+
+pub returns : goal.returns
+returns c =
+    λ bytes.
+    let k = c.end-ended.ensures bytes in
+    record { told_is = k.told_is; next_is = ap (holder_seen c.args.held.origin) k.next_is }
