@@ -9,7 +9,7 @@ use frame::flags;
 use framing::feeds;
 
 // Takes any number of bytes. Runs of bytes that are no flags are taken whole. A candidate that begins and ends in the
-// input and may be a frame is judged as it stands, and the other flags go through `step_in`.
+// input and may be a frame is judged as it stands, and the other flags go through `framing::calls::step`.
 pub fn feed_all(bytes: &mut [u8; 118], held: Held, input: &[u8]) -> HeldChunk
     ensures held_chunk_is { HeldChunkIs bytes.new result
         (feed_held (holder bytes.old held) input.now) }

@@ -182,6 +182,17 @@ module _ (h a t : ℕ) (out : List ℕ) where
       stop_wrote range owner x last
       (subst (λ (c : List ℕ). Writes (frame_draft (extended a 0x00 c)) out x last) terminate_bytes w)
 
+  -- A stop by the holder that is refused has no room.
+  pub stop_no_room : in_range a ≡ true → owns t h ≡ true → (n : ℕ) (last : List ℕ)
+      → Stops (answer_of h (stop a t (length out))) out (refused n) last
+      → Stops (answer_of h (stop a t (length out))) out (refused 1) last
+  unfolding answer_of
+  stop_no_room range owner n last s =
+      by_bool (leb (length (stop_frame a)) (length out))
+      (λ y. let q : refused n ≡ result (length (stop_frame a)) = simp (range, owner, y) at s.0 in
+      let z : ◌≡◌ {A = ℕ} 0 1 = cc in absurd (omega arith))
+      (λ y. (simp (range, owner, y), s.1))
+
 -- A stop's answer may be replaced by an equal one.
 pub stop_by : (x y : Answer (List ℕ)) (out : List ℕ) (a : Answer ℕ) (last : List ℕ) → x ≡ y → Stops x out a last
     → Stops y out a last

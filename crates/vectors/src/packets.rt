@@ -1,4 +1,6 @@
 // Treadmill packets read and written, and how one is printed.
+ghost use Rattle.std.specs.Prelude.{◌≤◌, IfOk, vec_len};
+
 use crate::print::{Hex, Reading, first, written};
 use crate::words;
 use coscom::{Header, Outline};
@@ -78,7 +80,9 @@ fn print_written(
 }
 
 // An output of as many bytes as a word says, at most those of the longest.
-fn output(alloc: Global, size: &[u8]) -> Result<Vec<u8>, AllocError> {
+fn output(alloc: Global, size: &[u8]) -> Result<Vec<u8>, AllocError>
+    ensures { IfOk result (λ v. vec_len v ≤ 300) }
+{
     let size = words::number(size).min(ROOM as u64);
     vec![in alloc; 0; size as usize]
 }
