@@ -2,7 +2,6 @@
 use crate::print::{Hex, Outcome, written};
 use crate::words;
 use crate::words::ROOM;
-use std::alloc::Global;
 use std::io;
 use std::io::Write;
 
@@ -10,14 +9,20 @@ use std::io::Write;
 const OWN: usize = 8;
 
 // A call's name has its address, a byte, and its token after it. A word that is no call's name is passed over.
-pub(crate) fn run_calls(out: &mut impl Write, alloc: Global, calls: &[u8]) -> io::Result<()> {
+pub(crate) fn run_calls(out: &mut impl Write, calls: &[u8]) -> io::Result<()> {
     let mut table = [0u8; 2048];
-    let words: Vec<&[u8]> = calls.split(|b| *b == b' ').collect(alloc)?;
-    for (k, call) in words.iter().enumerate() {
-        let operands = &words[k + 1..];
-        let address = operands.first().map_or(0, |word| words::byte(word));
-        let token = operands.get(1).map_or(0, |word| words::number(word));
-        run_call(out, &mut table, call, address, token)?;
+    let mut operands = calls;
+    for call in calls.split(|b| *b == b' ') {
+        operands = words::split_word(operands).1;
+        let (address, rest) = words::split_word(operands);
+        let (token, _) = words::split_word(rest);
+        run_call(
+            out,
+            &mut table,
+            call,
+            words::byte(address),
+            words::number(token),
+        )?;
     }
     Ok(())
 }

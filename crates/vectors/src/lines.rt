@@ -2,12 +2,12 @@
 use crate::print::Reading;
 use crate::readers::{Answer, ByteReader, Feeding, Input, Reader};
 use crate::wire::Frame;
+use crate::words::ROOM;
 use crate::{readers, words};
 use answer::Refusal;
 use candidate::Told;
 use frame::{Origin, Outline};
 use line::{LineReader, State, Stepped};
-use std::alloc::Global;
 use std::io::Write;
 use std::{fmt, io};
 
@@ -146,20 +146,17 @@ pub(crate) fn counted(origin: Origin, arguments: &[u8]) -> Input<'_, LineReader>
 }
 
 // Both readers get each group of bytes, and a finish after it.
-pub(crate) fn run(
-    out: &mut impl Write,
-    alloc: Global,
-    input: Input<'_, LineReader>,
-) -> io::Result<()> {
+pub(crate) fn run(out: &mut impl Write, input: Input<'_, LineReader>) -> io::Result<()> {
     let mut reader = input.reader;
     let mut lent = Lent {
         bytes: [0; 118],
         state: reader.state,
     };
     for group in input.groups.split(|b| *b == b'/') {
-        let bytes = words::bytes(alloc, group)?;
-        reader = step_all(out, reader, bytes.as_slice())?;
-        lent = feed_all(out, lent, bytes.as_slice())?;
+        let mut room = [0u8; ROOM];
+        let bytes = words::bytes(group, &mut room);
+        reader = step_all(out, reader, bytes)?;
+        lent = feed_all(out, lent, bytes)?;
     }
     Ok(())
 }

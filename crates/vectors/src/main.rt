@@ -19,7 +19,6 @@ mod wire;
 mod words;
 mod workouts;
 
-use std::alloc::Global;
 use std::io;
 use std::io::{BufWriter, Read, Write};
 
@@ -30,25 +29,25 @@ fn main(rt: HostRuntime) -> io::Result<()> {
     let mut text = Vec::new(rt.alloc());
     rt.stdin().take(LIMIT).read_to_end(&mut text)?;
     let mut out = BufWriter::new(rt.alloc(), rt.stdout())?;
-    run_all(&mut out, rt.alloc(), text.as_slice())?;
+    run_all(&mut out, text.as_slice())?;
     out.flush()
 }
 
 // Empty lines, comments and lines that begin with the byte 0 are passed over.
-fn run_all(out: &mut impl Write, alloc: Global, text: &[u8]) -> io::Result<()> {
+fn run_all(out: &mut impl Write, text: &[u8]) -> io::Result<()> {
     for line in text.split(|b| *b == b'\n') {
         match line {
             [] | [0 | b'#', ..] => {}
-            _ => run_line(out, alloc, line)?,
+            _ => run_line(out, line)?,
         }
     }
     Ok(())
 }
 
-fn run_line(out: &mut impl Write, alloc: Global, line: &[u8]) -> io::Result<()> {
+fn run_line(out: &mut impl Write, line: &[u8]) -> io::Result<()> {
     let (name, rest) = words::split_word(line);
     let (operation, arguments) = words::split_word(rest);
     out.write_all(name)?;
-    operations::run(out, alloc, operation, arguments)?;
+    operations::run(out, operation, arguments)?;
     writeln!(out)
 }

@@ -1,51 +1,44 @@
 // What an example asks for, by the name of its operation.
+use crate::words::ROOM;
 use crate::{
     commands, leases, lines, packet_lines, packets, readers, replies, wire, words, workouts,
 };
 use frame::Origin;
-use std::alloc::Global;
 use std::io;
 use std::io::Write;
 
 // Operations whose arguments are not bytes alone.
-pub(crate) fn run(
-    out: &mut impl Write,
-    alloc: Global,
-    operation: &[u8],
-    arguments: &[u8],
-) -> io::Result<()> {
+pub(crate) fn run(out: &mut impl Write, operation: &[u8], arguments: &[u8]) -> io::Result<()> {
     match operation {
         b"distance" => workouts::write(out, workouts::distance, arguments),
         b"time" => workouts::write(out, workouts::time, arguments),
         b"distance-frame" => workouts::write_frame(out, workouts::distance, arguments),
         b"time-frame" => workouts::write_frame(out, workouts::time, arguments),
-        b"lease" => leases::run_calls(out, alloc, arguments),
-        b"packet-read" => packets::read(out, alloc, arguments),
-        b"packet-write" => packets::write(out, alloc, arguments),
+        b"lease" => leases::run_calls(out, arguments),
+        b"packet-read" => packets::read(out, arguments),
+        b"packet-write" => packets::write(out, arguments),
         b"names" => replies::print_names(out),
-        _ => run_on_line(out, alloc, operation, arguments),
+        _ => run_on_line(out, operation, arguments),
     }
 }
 
 // Operations on line readers.
-fn run_on_line(
-    out: &mut impl Write,
-    alloc: Global,
-    operation: &[u8],
-    arguments: &[u8],
-) -> io::Result<()> {
+fn run_on_line(out: &mut impl Write, operation: &[u8], arguments: &[u8]) -> io::Result<()> {
     match operation {
-        b"line" => lines::run(out, alloc, lines::new(Origin::Trace, arguments)),
-        b"line-at" => lines::run(out, alloc, lines::counted(Origin::Trace, arguments)),
-        b"live-line" => lines::run(out, alloc, lines::new(Origin::Live, arguments)),
-        b"live-line-at" => lines::run(out, alloc, lines::counted(Origin::Live, arguments)),
-        b"chunks" => readers::feed(out, alloc, lines::new(Origin::Trace, arguments)),
-        b"chunks-at" => readers::feed(out, alloc, lines::counted(Origin::Trace, arguments)),
-        b"live-chunks" => readers::feed(out, alloc, lines::new(Origin::Live, arguments)),
-        b"live-chunks-at" => readers::feed(out, alloc, lines::counted(Origin::Live, arguments)),
-        b"packets" => readers::step(out, alloc, packet_lines::new(arguments)),
-        b"packet-chunks" => readers::feed(out, alloc, packet_lines::new(arguments)),
-        _ => run_on_bytes(out, operation, words::bytes(alloc, arguments)?.as_slice()),
+        b"line" => lines::run(out, lines::new(Origin::Trace, arguments)),
+        b"line-at" => lines::run(out, lines::counted(Origin::Trace, arguments)),
+        b"live-line" => lines::run(out, lines::new(Origin::Live, arguments)),
+        b"live-line-at" => lines::run(out, lines::counted(Origin::Live, arguments)),
+        b"chunks" => readers::feed(out, lines::new(Origin::Trace, arguments)),
+        b"chunks-at" => readers::feed(out, lines::counted(Origin::Trace, arguments)),
+        b"live-chunks" => readers::feed(out, lines::new(Origin::Live, arguments)),
+        b"live-chunks-at" => readers::feed(out, lines::counted(Origin::Live, arguments)),
+        b"packets" => readers::step(out, packet_lines::new(arguments)),
+        b"packet-chunks" => readers::feed(out, packet_lines::new(arguments)),
+        _ => {
+            let mut room = [0u8; ROOM];
+            run_on_bytes(out, operation, words::bytes(arguments, &mut room))
+        }
     }
 }
 

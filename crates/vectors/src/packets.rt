@@ -1,10 +1,9 @@
 // Treadmill packets read and written, and how one is printed.
-ghost use Rattle.std.specs.Prelude.{◌≤◌, IfOk, vec_len};
+ghost use Rattle.std.specs.Prelude.{◌≤◌};
 
 use crate::print::{Hex, Reading, first, written};
 use crate::words;
 use coscom::{Header, Outline};
-use std::alloc::{AllocError, Global};
 use std::io::Write;
 use std::{fmt, io};
 
@@ -39,12 +38,14 @@ impl fmt::Display for Packet<'_> {
 }
 
 // The first argument says how many bytes the output has. A packet that is read is written again from what was read.
-pub(crate) fn read(out: &mut impl Write, alloc: Global, arguments: &[u8]) -> io::Result<()> {
+pub(crate) fn read(out: &mut impl Write, arguments: &[u8]) -> io::Result<()> {
     let (size, bytes) = words::split_word(arguments);
-    let wire = words::bytes(alloc, bytes)?;
-    let mut room = output(alloc, size)?;
-    let read = coscom::read_packet(wire.as_slice(), room.as_mut_slice());
-    let packet = read.map(|outline| Packet::in_array(outline, room.as_slice()));
+    let mut wire = [0u8; words::ROOM];
+    let wire = words::bytes(bytes, &mut wire);
+    let mut room = [0u8; ROOM];
+    let room = &mut room[..room_of(size)];
+    let read = coscom::read_packet(wire, room);
+    let packet = read.map(|outline| Packet::in_array(outline, room));
     write!(out, "{}", Reading(packet))?;
     let Ok(Packet { header, unit }) = packet else {
         return Ok(());
@@ -54,19 +55,16 @@ pub(crate) fn read(out: &mut impl Write, alloc: Global, arguments: &[u8]) -> io:
 }
 
 // After the first argument, the first three bytes are the header.
-pub(crate) fn write(out: &mut impl Write, alloc: Global, arguments: &[u8]) -> io::Result<()> {
+pub(crate) fn write(out: &mut impl Write, arguments: &[u8]) -> io::Result<()> {
     let (size, bytes) = words::split_word(arguments);
-    let packet = words::bytes(alloc, bytes)?;
-    let (letter, rest) = words::split_byte(packet.as_slice());
+    let mut packet = [0u8; words::ROOM];
+    let packet = words::bytes(bytes, &mut packet);
+    let (letter, rest) = words::split_byte(packet);
     let (tens, rest) = words::split_byte(rest);
     let (ones, unit) = words::split_byte(rest);
-    let mut room = output(alloc, size)?;
-    print_written(
-        out,
-        Header { letter, tens, ones },
-        unit,
-        room.as_mut_slice(),
-    )
+    let mut room = [0u8; ROOM];
+    let room = &mut room[..room_of(size)];
+    print_written(out, Header { letter, tens, ones }, unit, room)
 }
 
 fn print_written(
@@ -79,10 +77,9 @@ fn print_written(
     write!(out, " written={wire}")
 }
 
-// An output of as many bytes as a word says, at most those of the longest.
-fn output(alloc: Global, size: &[u8]) -> Result<Vec<u8>, AllocError>
-    ensures { IfOk result (λ v. vec_len v ≤ 300) }
+// The number of bytes that a word says, at most those of the longest output.
+fn room_of(size: &[u8]) -> usize
+    ensures { result ≤ 300 }
 {
-    let size = words::number(size).min(ROOM as u64);
-    vec![in alloc; 0; size as usize]
+    words::number(size).min(ROOM as u64) as usize
 }

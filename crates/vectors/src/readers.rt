@@ -3,7 +3,7 @@ ghost use Rattle.std.specs.Iterator.{at_most};
 ghost use Rattle.vectors.specs.Feeding.{calls_left};
 
 use crate::words;
-use std::alloc::Global;
+use crate::words::ROOM;
 use std::io::Write;
 use std::{fmt, io};
 
@@ -78,28 +78,20 @@ impl<'a, R: Reader> Iterator for Feeding<'a, R> {
 }
 
 // The reader is finished after each group of chunks.
-pub(crate) fn feed<R: Reader>(
-    out: &mut impl Write,
-    alloc: Global,
-    input: Input<'_, R>,
-) -> io::Result<()> {
+pub(crate) fn feed<R: Reader>(out: &mut impl Write, input: Input<'_, R>) -> io::Result<()> {
     let mut reader = input.reader;
     for group in input.groups.split(|b| *b == b'/') {
-        reader = feed_group(out, alloc, reader, group)?;
+        reader = feed_group(out, reader, group)?;
         reader = finish(out, reader)?;
     }
     Ok(())
 }
 
-fn feed_group<R: Reader>(
-    out: &mut impl Write,
-    alloc: Global,
-    first: R,
-    group: &[u8],
-) -> io::Result<R> {
+fn feed_group<R: Reader>(out: &mut impl Write, first: R, group: &[u8]) -> io::Result<R> {
     let mut reader = first;
     for chunk in group.split(|b| *b == b',') {
-        reader = feed_chunk(out, reader, words::bytes(alloc, chunk)?.as_slice())?;
+        let mut room = [0u8; ROOM];
+        reader = feed_chunk(out, reader, words::bytes(chunk, &mut room))?;
     }
     Ok(reader)
 }
@@ -117,15 +109,12 @@ fn feed_chunk<R: Reader>(out: &mut impl Write, first: R, chunk: &[u8]) -> io::Re
 // ---- by the byte
 
 // The reader is finished after each group of bytes.
-pub(crate) fn step<R: ByteReader>(
-    out: &mut impl Write,
-    alloc: Global,
-    input: Input<'_, R>,
-) -> io::Result<()> {
+pub(crate) fn step<R: ByteReader>(out: &mut impl Write, input: Input<'_, R>) -> io::Result<()> {
     let mut reader = input.reader;
     for group in input.groups.split(|b| *b == b'/') {
-        let bytes = words::bytes(alloc, group)?;
-        reader = step_bytes(out, reader, bytes.as_slice(), |told| told)?;
+        let mut room = [0u8; ROOM];
+        let bytes = words::bytes(group, &mut room);
+        reader = step_bytes(out, reader, bytes, |told| told)?;
         reader = finish(out, reader)?;
     }
     Ok(())

@@ -1,10 +1,11 @@
 // The words, bytes and numbers of an example.
 ghost use Rattle.std.specs.Prelude.{◌≤◌};
 
-use std::alloc::{AllocError, Global};
+use crate::print::first;
 
 // The most bytes that an example gives, and the room for what is written of them.
-// Stays the size of an array where something is written: a `Vec` would first be filled with as many zeros.
+// Stays the size of an array, here and where something is written: an example asks for no memory, so that it is run
+// whatever memory there is.
 pub(crate) const ROOM: usize = 4096;
 
 // What stands before the first space, and what stands after it.
@@ -23,15 +24,19 @@ pub(crate) fn split_byte(bytes: &[u8]) -> (u8, &[u8]) {
     }
 }
 
-// The bytes of two digits each, at most `ROOM`. Spaces are passed over, and a last digit alone.
-pub(crate) fn bytes(alloc: Global, text: &[u8]) -> Result<Vec<u8>, AllocError> {
-    let digits: Vec<u8> = text.iter().copied().filter(|b| *b != b' ').collect(alloc)?;
-    let (pairs, _) = digits.as_slice().as_chunks::<2>();
-    pairs
-        .iter()
-        .take(ROOM)
-        .map(|pair| byte(pair))
-        .collect(alloc)
+// The bytes of two digits each, put first into an output, as many as it has room for. Spaces are passed over, and a last
+// digit alone.
+pub(crate) fn bytes<'a>(text: &[u8], room: &'a mut [u8]) -> &'a [u8] {
+    let mut len: usize = 0;
+    let mut digits = text.iter().filter(|b| **b != b' ');
+    for place in room.iter_mut() {
+        let (Some(high), Some(low)) = (digits.next(), digits.next()) else {
+            break;
+        };
+        *place = byte(&[*high, *low]);
+        len = len.wrapping_add(1);
+    }
+    first(room, len)
 }
 
 // The byte whose two digits come first, 0 where there is none.
