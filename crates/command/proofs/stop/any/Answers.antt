@@ -1,6 +1,7 @@
-use Rattle.std.proofs.Common.{◌≡◌, ◌∙◌, arith}
+use Rattle.std.proofs.Common.{◌≡◌, ◌∙◌, sym, ap, ℕ, ◌-◌, Bool, ◌||◌, take, drop, arith}
+use Rattle.std.proofs.Math.Bool.{or-true, or-false}
 use Rattle.answer.specs.Answer.{result}
-use Rattle.command.specs.Entries.{commands}
+use Rattle.command.specs.Entries.{Entry, entry, commands}
 use Rattle.command.specs.Steps.{entry_step, step_at}
 use Rattle.command.proofs.EntryLaws.{told, told_stands}
 use Rattle.command.proofs.StopLaws.{found_start, found_end, found_broken, found_next}
@@ -13,18 +14,41 @@ step : (g : _) (c : In-Ok-Some g)
     ≡ step_at commands c.args.list.now c.loop-entry.cursor.at)
 step g c = rw c.in-Ok-Some.field-0-is at c.in-Ok-Some.ensures.entry
 
+-- what the test answered of the data that was cut
+tested : (g : _) (c : In-Ok-Some g) (p : Entry → Bool) (r : Bool) → (let e = c.in-Ok-Some.entry in
+    let answer = λ (n : ℕ). p (entry e.byte (take n (drop e.start c.args.list.now))) in
+    r ≡ answer (c.in-Ok-Some.next.at - e.start) → answer e.len ≡ r)
+tested g c p r y =
+    let e = c.in-Ok-Some.entry in
+    ap (λ (n : ℕ). p (entry e.byte (take n (drop e.start c.args.list.now))))
+    (omega (arith, told_stands _ _ _ (step g c))) ∙ sym y
+
 pub loop-entry-init : goal.loop-entry-init
 loop-entry-init g c = λ p h. found_start p _
 
-pub loop-entry-smaller-then-is_found : goal.loop-entry-smaller-then-is_found
-loop-entry-smaller-then-is_found g c =
-    omega (arith, told_stands _ _ _ (step g (goal.at.loop-entry-smaller-then-is_found g c).In-Ok-Some))
+pub slice_bounds-test-count : goal.slice_bounds-test-count
+slice_bounds-test-count g c =
+    omega (arith, told_stands _ _ _ (step g (goal.at.slice_bounds-test-count g c).In-Ok-Some))
 
-pub loop-entry-preserved-then-is_found : goal.loop-entry-preserved-then-is_found
-loop-entry-preserved-then-is_found g c =
-    let e = (goal.at.loop-entry-preserved-then-is_found g c).In-Ok-Some in
+pub slice_bounds-test-start : goal.slice_bounds-test-start
+slice_bounds-test-start g c =
+    omega (arith, told_stands _ _ _ (step g (goal.at.slice_bounds-test-start g c).In-Ok-Some))
+
+pub slice_bounds-test-end : goal.slice_bounds-test-end
+slice_bounds-test-end g c =
+    omega (arith, told_stands _ _ _ (step g (goal.at.slice_bounds-test-end g c).In-Ok-Some))
+
+pub loop-entry-smaller-then-test : goal.loop-entry-smaller-then-test
+loop-entry-smaller-then-test g c =
+    omega (arith, told_stands _ _ _ (step g (goal.at.loop-entry-smaller-then-test g c).In-Ok-Some))
+
+pub loop-entry-preserved-then-test : goal.loop-entry-preserved-then-test
+loop-entry-preserved-then-test g c =
+    let e = (goal.at.loop-entry-preserved-then-test g c).In-Ok-Some in
     λ p h. found_next p c.loop-entry.is_found _ _ _ _ _ (told _ _ _ (step g e))
-    (let y = c.if-is_found.true in simp y) ∙ c.loop-entry.invariant p h
+    (let y = tested g e p c.test.result (h _ _ c.test.result c.test.ensures) in
+    sym (ap (λ (x : Bool). c.loop-entry.is_found || x) (y ∙ c.if-test.true) ∙ or-true c.loop-entry.is_found))
+    ∙ c.loop-entry.invariant p h
 
 pub loop-entry-smaller : goal.loop-entry-smaller
 loop-entry-smaller g c =
@@ -34,8 +58,9 @@ pub loop-entry-preserved : goal.loop-entry-preserved
 loop-entry-preserved g c =
     let e = (goal.at.loop-entry-preserved g c).In-Ok-Some in
     λ p h. found_next p c.loop-entry.is_found _ _ _ _ _ (told _ _ _ (step g e))
-    (let n = c.if-is_found.false in simp n
-    (rw c.data.ensures.holds at (h _ c.data.result _ c.test-is_found.ensures))) ∙ c.loop-entry.invariant p h
+    (let y = tested g e p c.test.result (h _ _ c.test.result c.test.ensures) in
+    sym (ap (λ (x : Bool). c.loop-entry.is_found || x) (y ∙ c.if-test.false) ∙ or-false c.loop-entry.is_found))
+    ∙ c.loop-entry.invariant p h
 
 pub returns-in-Ok-None : goal.returns-in-Ok-None
 returns-in-Ok-None g c = λ p h. found_end p _ _ (told _ _ c.loop-entry.cursor.at
