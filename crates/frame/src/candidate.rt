@@ -1,6 +1,6 @@
 // A candidate for a frame, looked at before anything is written: its shape, its escapes, its length, its checksum and
 // whether it names its sender.
-ghost use Rattle.std.specs.Prelude.{◌≡◌, true, false, not, ◌||◌, ◌+◌, ◌≤◌, ◌<◌, length};
+ghost use Rattle.std.specs.Prelude.{◌≡◌, true, false, not, ◌||◌, ◌+◌, ◌≤◌, ◌<◌, length, take, drop};
 ghost use Rattle.std.specs.Int.Bits.{bit_xor};
 ghost use Rattle.lists.specs.Choice.{pick, within};
 ghost use Rattle.lists.specs.Splice.{splice};
@@ -313,5 +313,23 @@ pub(crate) fn unstuff_into(s: &[u8], out: &mut [u8])
         out[k] = *b + above;
         above = lift(*b);
         k += fills(*b);
+    }
+}
+
+// The same within a slice: brings the bytes between two indices, unstuffed, to the front.
+pub(crate) fn unstuff_front(s: &mut [u8], from: usize, end: usize)
+    requires from_le_end { from ≤ end }
+    requires end_in_bounds { end ≤ length s.old }
+    requires s_value { is_sound (unstuff false (drop from (take end s.old))) ≡ true }
+    ensures { s.new ≡ splice s.old 0
+        (unstuffed_bytes (unstuff false (drop from (take end s.old)))) }
+{
+    let mut above = 0;
+    let mut k = 0;
+    for i in from..end {
+        let b = s[i];
+        s[k] = b + above;
+        above = lift(b);
+        k += fills(b);
     }
 }
