@@ -1,11 +1,12 @@
 // A candidate for a frame, looked at before anything is written: its shape, its escapes, its length, its checksum and
 // whether it names its sender.
-ghost use Rattle.std.specs.Prelude.{◌≡◌, true, false, not, ◌||◌, ◌+◌, ◌≤◌, ◌<◌, length, take, drop};
+ghost use Rattle.std.specs.Prelude.{◌≡◌, true, false, not, ◌||◌, ◌+◌, ◌≤◌, ◌<◌, length, take, drop, Some, None};
 ghost use Rattle.std.specs.Int.Bits.{bit_xor};
-ghost use Rattle.lists.specs.Choice.{pick, within};
+ghost use Rattle.lists.specs.Choice.{pick, within, none_of};
 ghost use Rattle.lists.specs.Splice.{splice};
 ghost use Rattle.frame.specs.Flags.{is_flag};
-ghost use Rattle.frame.specs.Stuffing.{unstuff};
+ghost use Rattle.frame.specs.Stuffing.{unstuff, is_stuffed};
+ghost use Rattle.frame.specs.Checksum.{checksum};
 ghost use Rattle.frame.specs.Verdict.{address_count};
 ghost use Rattle.frame.specs.Private.{is_bounded, next_at, scan_of, is_sound, good_pair, lower_byte, is_escape, lifts};
 ghost use Rattle.frame.specs.Private.{unstuffed_bytes, last_at, header_kind, AddressesIn, PlainSum};
@@ -183,7 +184,8 @@ fn lower(b: u8) -> u8
     if b == flags::ESCAPE { 0xF0 } else { b }
 }
 
-fn addresses_in(kind: Kind, body: &[u8]) -> Result<Addresses, Refusal>
+fn addresses_in(kind: Kind, body: &[u8], plain: Option<u8>) -> Result<Addresses, Refusal>
+    requires { PlainSum body.now plain }
     ensures { AddressesIn kind body.now result }
 {
     match kind {
@@ -191,13 +193,24 @@ fn addresses_in(kind: Kind, body: &[u8]) -> Result<Addresses, Refusal>
             header: Header::Plain,
             next: 0,
         }),
-        Kind::Extended => two_addresses(body),
+        Kind::Extended => two_addresses(body, plain),
     }
 }
 
-fn two_addresses(body: &[u8]) -> Result<Addresses, Refusal>
+// Where no byte is F0 to F3 they are taken as they are: a test for escapes costs as much as the rest of a short body.
+fn two_addresses(body: &[u8], plain: Option<u8>) -> Result<Addresses, Refusal>
+    requires { PlainSum body.now plain }
     ensures { AddressesIn Kind.Extended body.now result }
 {
+    if let (Some(_), [to, from, ..]) = (plain, body) {
+        return Ok(Addresses {
+            header: Header::Addressed {
+                to: *to,
+                from: *from,
+            },
+            next: 2,
+        });
+    }
     let to = next_at(body, 0)?;
     let from = next_at(body, to.next)?;
     Ok(Addresses {
@@ -213,7 +226,9 @@ fn two_addresses(body: &[u8]) -> Result<Addresses, Refusal>
 // because a call costs as much as the loop over a short body.
 #[inline(always)]
 pub(crate) fn plain_sum(body: &[u8]) -> Option<u8>
-    ensures { PlainSum body.now result }
+    ensures plain { PlainSum body.now result }
+    ensures finds { length body.now ≤ 118
+        → result ≡ pick (none_of is_stuffed body.now) (Some (checksum body.now)) None }
 {
     if BODY_LIMIT < body.len() {
         return None;
@@ -231,7 +246,7 @@ pub(crate) fn examine(kind: Kind, body: &[u8], plain: Option<u8>) -> Result<Soun
     ensures { ExaminesWhole kind body.now result }
 {
     let whole = count(body, plain)?;
-    let found = addresses_in(kind, body)?;
+    let found = addresses_in(kind, body, plain)?;
     let rest = whole.without(found.header);
     if rest.len < 1 {
         return Err(Refusal::TooShort);

@@ -107,7 +107,9 @@ pub fn read_leading(origin: Origin, s: &[u8], out: &mut [u8]) -> Leading
 
 // Judges the candidate that a start flag of this kind, the first `len` bytes of an array (all where it has fewer) and
 // the stop flag make. The contents of an accepted frame are brought to the front; a refusal changes nothing. Refusals 6,
-// 2, 3, 4, 5 and, on the live line alone, 17.
+// 2, 3, 4, 5 and, on the live line alone, 17. No caller has a copy of its own, because a line reader calls it for few of
+// its bytes, and would save and restore more for each.
+#[inline(never)]
 pub fn judge_array(
     origin: Origin,
     kind: Kind,
@@ -171,9 +173,39 @@ fn read_open(origin: Origin, kind: Kind, rest: &[u8], out: &mut [u8]) -> Leading
 
 // Reads what stands between a start flag of this kind and a stop flag; given is its exclusive or, where it is known that no
 // byte of it is F0 to F3. The contents are put first in the output, where there is room for them. Each caller has a copy
-// of its own, because most bodies have no escape and take few steps.
+// of its own for a body without F0 to F3, because most are and take few steps; the others are read by one function.
 #[inline(always)]
 fn read_body(
+    origin: Origin,
+    kind: Kind,
+    body: &[u8],
+    plain: Option<u8>,
+    out: &mut [u8],
+) -> Result<Outline, Refusal>
+    requires { PlainSum body.now plain }
+    ensures result_value { read_means result
+        ≡ read_answer (admit origin (judge_whole kind body.now)) (length out.old) }
+    ensures out_after { out.new ≡ read_out (admit origin (judge_whole kind body.now)) out.old }
+{
+    match plain {
+        Some(_) => read_judged(origin, kind, body, plain, out),
+        None => read_stuffed(origin, kind, body, out),
+    }
+}
+
+// Reads any body, flags and escapes among its bytes.
+#[inline(never)]
+fn read_stuffed(origin: Origin, kind: Kind, body: &[u8], out: &mut [u8]) -> Result<Outline, Refusal>
+    ensures result_value { read_means result
+        ≡ read_answer (admit origin (judge_whole kind body.now)) (length out.old) }
+    ensures out_after { out.new ≡ read_out (admit origin (judge_whole kind body.now)) out.old }
+{
+    read_judged(origin, kind, body, None, out)
+}
+
+// Judges a body, as `read_body` is given it, and reads it.
+#[inline(always)]
+fn read_judged(
     origin: Origin,
     kind: Kind,
     body: &[u8],

@@ -9,7 +9,7 @@ use Rattle.frame.specs.Stuffing.{unstuff}
 use Rattle.frame.specs.Private.{unstuffed_bytes}
 use Rattle.frame.proofs.VerdictLaws.{answer_refused}
 use Rattle.frame.proofs.ContentsLaws.{rest_length, read_no_room, read_first}
-use Rattle.frame.proofs.read_body.Goals as goal
+use Rattle.frame.proofs.read_judged.Goals as goal
 
 pub returns-in_err-found : goal.returns-in_err-found
 returns-in_err-found c =
