@@ -1,6 +1,7 @@
 // A candidate for a frame, looked at before anything is written: its shape, its escapes, its length, its checksum and
 // whether it names its sender.
-ghost use Rattle.std.specs.Prelude.{◌≡◌, true, false, not, ◌||◌, ◌+◌, ◌≤◌, ◌<◌, length, take, drop, Some, None};
+ghost use Rattle.std.specs.Prelude.{◌≡◌, true, false, not, ◌||◌, ◌+◌, ◌≤◌, ◌<◌, length, take, drop};
+ghost use Rattle.std.specs.Prelude.{Some, None, Ok};
 ghost use Rattle.std.specs.Int.Bits.{bit_xor};
 ghost use Rattle.lists.specs.Choice.{pick, within, none_of};
 ghost use Rattle.lists.specs.Splice.{splice};
@@ -184,19 +185,7 @@ fn lower(b: u8) -> u8
     if b == flags::ESCAPE { 0xF0 } else { b }
 }
 
-fn addresses_in(kind: Kind, body: &[u8], plain: Option<u8>) -> Result<Addresses, Refusal>
-    requires { PlainSum body.now plain }
-    ensures { AddressesIn kind body.now result }
-{
-    match kind {
-        Kind::Standard => Ok(Addresses {
-            header: Header::Plain,
-            next: 0,
-        }),
-        Kind::Extended => two_addresses(body, plain),
-    }
-}
-
+// The two addresses at the start of the body of an extended frame.
 // Where no byte is F0 to F3 they are taken as they are: a test for escapes costs as much as the rest of a short body.
 fn two_addresses(body: &[u8], plain: Option<u8>) -> Result<Addresses, Refusal>
     requires { PlainSum body.now plain }
@@ -246,7 +235,30 @@ pub(crate) fn examine(kind: Kind, body: &[u8], plain: Option<u8>) -> Result<Soun
     ensures { ExaminesWhole kind body.now result }
 {
     let whole = count(body, plain)?;
-    let found = addresses_in(kind, body, plain)?;
+    match kind {
+        Kind::Standard => {
+            let found = Addresses {
+                header: Header::Plain,
+                next: 0,
+            };
+            examine_after(body, whole, found)
+        }
+        Kind::Extended => {
+            let found = two_addresses(body, plain)?;
+            examine_after(body, whole, found)
+        }
+    }
+}
+
+// The verdict on a body that was counted and whose addresses are known: the contents and the checksum follow, whose
+// exclusive or is 0. Each kind has a copy of its own, in which the header is known.
+#[inline(always)]
+fn examine_after(body: &[u8], whole: Counted, found: Addresses) -> Result<Sound, Refusal>
+    requires limit { length body.now ≤ 118 }
+    requires scanned { Ok whole ≡ scan_of body.now }
+    requires addressed { AddressesIn (header_kind found.header) body.now (Ok found) }
+    ensures { ExaminesWhole (header_kind found.header) body.now result }
+{
     let rest = whole.without(found.header);
     if rest.len < 1 {
         return Err(Refusal::TooShort);

@@ -248,6 +248,10 @@ fn copy_contents(rest: &[u8], len: usize, out: &mut [u8])
     ensures { out.new ≡ take len (unstuffed_bytes (unstuff false rest.now))
         ++ drop len out.old }
 {
+    // A call of the C library costs as much as the rest of reading an empty frame.
+    if len == 0 {
+        return;
+    }
     if rest.len() == len + 1 {
         out[..len].copy_from_slice(&rest[..len]);
         return;
