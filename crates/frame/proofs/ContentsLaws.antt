@@ -1,7 +1,6 @@
 -- Laws of a sound body's contents, copied out or brought to the front of the body itself.
 use Rattle.std.proofs.lemmas.List.{take_min}
-use borrow.Author.Tests.{leb-true, le-leb}
-use Rattle.answer.specs.Draft.{draft_out}
+use borrow.Author.Tests.{leb-true}
 use lib.ListN.{length-drop, length, get_or, take, drop, length-append, take-append-drop}
 use Rattle.frame.specs.Verdict.{judge, judge_bytes, frame_in, address_count, last_of, contents_in, Verdict, body_of}
 use Rattle.frame.specs.Verdict.{is_terminated, verdict}
@@ -23,7 +22,7 @@ use Rattle.lists.proofs.Lists.{back_in}
 use Rattle.frame.specs.Checksum.{checksum}
 use Rattle.frame.specs.Frame.{Frame, contents_of, standard, extended, frame_of}
 use Rattle.frame.specs.Answers.{left_in, judge_answer, frame_read, read_answer, read_out, outline_with}
-use Rattle.frame.specs.Private.{unstuffed_bytes, is_sound, last_at, SoundAt, judge_whole}
+use Rattle.frame.specs.Private.{unstuffed_bytes, is_sound, is_escape, last_at, SoundAt, judge_whole}
 use Rattle.frame.specs.Origin.{admit}
 use Rattle.frame.specs.declared.Origin.{Origin}
 use Rattle.frame.specs.declared.Kind.{Kind}
@@ -70,12 +69,29 @@ module _ {v : Verdict} {body : List ℕ} {header : Header} {start len : ℕ} (s 
       let done = answer_done v _ out q (omega (arith, as_many)) in
       (header_as header s.contents len s.counted ∙ done.0, rest_first out last e ∙ done.1)
 
+  -- and what a judge in place answers and leaves
+  pub judge_first : (d last : List ℕ) → last ≡ take len (unstuffed_bytes (unstuff false (drop start body))) ++ drop len d
+      → (result (outline_with header len) ≡ judge_answer v) × (last ≡ left_in v d)
+  unfolding judge_answer left_in
+  judge_first d last e = (
+    header_as header s.contents len s.counted ∙ ap judge_answer (sym s.judged),
+    rest_first d last e ∙ ap (λ (w : Verdict). left_in w d) (sym s.judged),
+  )
+
 -- ---- bytes without an escape
 
 -- the first of a part that is as long as its unstuffed bytes
 pub plain_first : (rest : List ℕ) (len : ℕ) → length (unstuffed_bytes (unstuff false rest)) ≡ len + 1
     → length rest ≡ len + 1 → take len rest ≡ take len (unstuffed_bytes (unstuff false rest))
 plain_first rest len n l = ap (take len) (sym (unstuff_same rest (n ∙ sym l)))
+
+-- the same, brought to the front
+pub shifted_plain : (s last : List ℕ) (start len : ℕ) → length (unstuffed_bytes (unstuff false (drop start s))) ≡ len + 1
+    → length (drop start s) ≡ len + 1
+    → last ≡ take len (drop start s) ++ drop len s
+    → last ≡ take len (unstuffed_bytes (unstuff false (drop start s))) ++ drop len s
+shifted_plain s last start len n l e =
+    e ∙ ap (λ (x : List ℕ). x ++ drop len s) (plain_first (drop start s) len n l)
 
 -- ---- bytes with escapes, of which the last unstuffed one is left out
 
@@ -109,6 +125,14 @@ module _ (rest : List ℕ) (len : ℕ) (n : length (unstuffed_bytes (unstuff fal
   pub front_length : length (unstuffed_bytes (unstuff false (take end rest))) ≡ len
   front_length = ap length front_bytes ∙ length-take-le len all (omega arith)
 
+  pub front_inside : end ≤ length rest
+  front_inside =
+      by_bool (leb 2 (length rest))
+      (λ y. by_bool (is_escape (get_or rest (length rest - 2) 0))
+      (λ x. let q : end ≡ length rest - 2 = is ∙ simp (y, x) refl in omega arith)
+      (λ x. let q : end ≡ length rest - 1 = is ∙ simp (y, x) refl in omega arith))
+      (λ y. let q : end ≡ 0 = is ∙ simp y refl in omega arith)
+
   pub front_put : (out last : List ℕ) → last ≡ splice out 0 (unstuffed_bytes (unstuff false (take end rest)))
       → last ≡ take len all ++ drop len out
   front_put out last e =
@@ -117,6 +141,10 @@ module _ (rest : List ℕ) (len : ℕ) (n : length (unstuffed_bytes (unstuff fal
       ∙ ap (λ (l : List ℕ). l ++ drop len out) front_bytes
 
 -- ---- what a verdict leaves
+
+pub judge_refused : (v : Verdict) (s : List ℕ) (n : ℕ) → v ≡ refused n → (refused n ≡ judge_answer v) × (s ≡ left_in v s)
+unfolding judge_answer left_in
+judge_refused v s n q = (ap judge_answer (sym q), ap (λ (w : Verdict). left_in w s) (sym q))
 
 -- the answer of a judge in place, with the bytes that it leaves, tells the whole verdict
 pub left_whole : (v : Verdict) (s : List ℕ) → frame_read (judge_answer v) (left_in v s) ≡ v
@@ -210,23 +238,21 @@ module _ (o : Origin) (kind : Kind) (n : ℕ) (s : List ℕ) where
             accepted_fits o kind n s f e,
           )
 
-  -- a reader that puts them first in their own slice has room for them
-  pub read_in_place : (read_answer judged (length s) ≡ judge_answer judged) × (read_out judged s ≡ left_in judged s)
-  unfolding read_answer read_out draft_out judge_answer left_in
-  read_in_place = of_verdict judged refl
-    where
-      of_verdict : (v : Verdict) → judged ≡ v
-          → (read_answer v (length s) ≡ judge_answer v) × (read_out v s ≡ left_in v s)
-      of_verdict (refused m) e = (refl, refl)
-      of_verdict (result f) e =
-          let fits = le-leb (length (contents_of f)) (length s) (accepted_fits o kind n s f e) in
-          (simp fits, simp fits)
-
 -- the part that a count of bytes has, which may be more than there are
 pub judged_part : (kind : Kind) (s : List ℕ) (len n : ℕ) → n ≡ min len (length s)
     → judge_whole kind (take n s) ≡ verdict (candidate_of kind (take len s))
 judged_part kind s len n e =
     ap (judge_whole kind) (ap (λ (k : ℕ). take k s) e ∙ take_min len s) ∙ sym (candidate_verdict kind (take len s))
+
+-- what is left of them stands in the whole
+pub left_first : (o : Origin) (kind : Kind) (len n : ℕ) (s last : List ℕ) → n ≡ min len (length s)
+    → length last ≡ length (take n s)
+    → last ≡ left_in (admit o (judge_whole kind (take n s))) (take n s)
+    → last ++ drop n s ≡ left_in (admit o (verdict (candidate_of kind (take len s)))) s
+left_first o kind len n s last e l k =
+    let h : n ≤ length s = omega (arith, e) in
+    left_part _ s last n h (l ∙ length-take-le n s h) k
+    ∙ ap (λ (v : Verdict). left_in (admit o v) s) (judged_part kind s len n e)
 
 -- The contents of a frame that is accepted are fewer than the bytes between its flags, which are at most 118.
 pub accepted_shrinks : (w : List ℕ) (f : Frame) → verdict w ≡ result f

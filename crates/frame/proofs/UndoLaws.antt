@@ -13,7 +13,7 @@ use borrow.Author.Tests.{leb-true, leb-false, eqb-true, eqb-false}
 use Rattle.lists.specs.Choice.{pick}
 use Rattle.lists.specs.Splice.{splice}
 use Rattle.lists.proofs.Cases.{by_bool}
-use Rattle.lists.proofs.Lists.{set_over, drop_two}
+use Rattle.lists.proofs.Lists.{set_over, drop_behind, drop_two}
 use Rattle.frame.specs.Stuffing.{Unstuffed, bad_escape, bytes, prepend, unstuff}
 use Rattle.frame.specs.Private.{is_escape, lifts, good_pair, is_sound, last_at, unstuffed_bytes}
 use Rattle.frame.proofs.StuffingLaws.{prepend_inv}
@@ -75,6 +75,10 @@ pub lift_fits : (pending : Bool) (b above : ℕ) → above ≡ lifts pending →
 lift_fits true b above e low h = let l = low refl in omega arith
 lift_fits false b above e low h = omega arith
 
+pub fill_most : (t : Bool) → (pick t 0 1 ≤ 1) × (pick t 0 1 + pick t 1 0 ≡ 1)
+fill_most true = (omega arith, refl)
+fill_most false = (omega arith, refl)
+
 -- ---- the loop
 
 -- i of the stuffed bytes were taken, and k bytes of u stand first in out, where out₀ was. Where an escape was taken last,
@@ -93,6 +97,14 @@ undone_none s u out₀ i e =
 
 module _ (s u out₀ : List ℕ) (pending : Bool) (i k : ℕ) (out : List ℕ) (inv : Undone s u out₀ pending i k out)
     (room : length u ≤ length out₀) where
+  -- places that were not written are as they were
+  pub undone_behind : (at : ℕ) → k + pick pending 1 0 ≤ at → drop at out ≡ drop at out₀
+  undone_behind at h =
+      drop_behind out out₀ (take k u ++ inv.more) (k + length inv.more)
+      (inv.now ∙ sym (append_assoc (take k u) inv.more (drop (k + length inv.more) out₀)))
+      (length-append (take k u) inv.more ∙ ap (λ (n : ℕ). n + length inv.more) (length-take-le k u inv.few)) at
+      (omega (arith, inv.over))
+
   module _ (h : i < length s) where
     abbrev b : ℕ
     b = get_or s i 0

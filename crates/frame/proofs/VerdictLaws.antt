@@ -11,7 +11,8 @@ use lib.Seq.{take_at, get_or_at, take-suc, take_all, get_or-drop, drop-cons}
 use borrow.Author.Tests.{leb-true, eqb-true, lt-leb, le-leb, eq-eqb, ne_eqb}
 use Rattle.lists.specs.Choice.{pick, within, none_of}
 use Rattle.lists.proofs.Cases.{by_bool, both_true}
-use Rattle.lists.proofs.Tests.{within_yes, within_true}
+use Rattle.lists.proofs.Lists.{drop_two}
+use Rattle.lists.proofs.Tests.{within_yes, within_true, none_drop}
 use Rattle.frame.specs.Flags.{flagless, kind_of, start_flag, candidate_of}
 use Rattle.frame.specs.Stuffing.{Unstuffed, bad_escape, bytes, prepend, unstuff, is_stuffed}
 use Rattle.frame.specs.Checksum.{checksum}
@@ -29,10 +30,12 @@ use Rattle.frame.specs.Private.{is_bounded, header_kind, headed, scan_from, long
 use Rattle.frame.specs.Private.{Unescaped, CountsWhole, judge_whole, scan_of}
 use Rattle.frame.specs.Private.{AddressesIn, WithoutHeader, PlainSum}
 use Rattle.frame.specs.declared.Kind.{Kind}
+use Rattle.frame.specs.declared.Kind.TheVariants.{Extended}
 use Rattle.frame.specs.declared.Header.{Header}
 use Rattle.frame.specs.declared.Header.TheVariants.{Plain, Addressed}
 use Rattle.frame.specs.declared.candidate.Addresses.{Addresses}
 use Rattle.frame.specs.declared.candidate.Counted.{Counted}
+use Rattle.frame.proofs.StuffingLaws.{unstuff_plain}
 use Rattle.frame.proofs.FlagLaws.{kind_start, start_kind, start_between, none_narrower}
 use Rattle.frame.proofs.ChecksumLaws.{contents_last, sum_right, sum_wrong, sum_after}
 use Rattle.frame.proofs.EscapeLaws.{counted, scan_as_is}
@@ -406,6 +409,22 @@ module _ (body : List ℕ) (sum : ℕ) (p : Unescaped body sum) where
     p.limit,
     scan_as_is body escapeless (length body) sum refl p.summed ∙ sym (simp plain_flagless),
   )
+
+  -- and its first two bytes are its addresses
+  pub plain_addressed : 2 ≤ length body → (to from : ℕ) → to ≡ get_or body 0 0 → from ≡ get_or body 1 0
+      → AddressesIn Extended body (Ok (record { header = Addressed to from; next = 2 }))
+  unfolding prepend
+  plain_addressed h to from t f =
+      let rest = drop 2 body in
+      let parts : body ≡ to ∷ from ∷ rest =
+      drop_two body 0 (omega arith) ∙ ap (λ (b : ℕ). b ∷ get_or body 1 0 ∷ rest) (sym t)
+      ∙ ap (λ (b : ℕ). to ∷ b ∷ rest) (sym f) in
+      let after = unstuff_plain rest (none_drop (within 0xF3 0xF3) 2 body escapeless) in (
+        h,
+        refl,
+        unstuff_plain body escapeless ∙ ap bytes parts
+            ∙ sym (ap (λ (r : Unstuffed). prepend to (prepend from r)) after),
+      )
 
 -- ---- the answers of a reader and of a judge
 

@@ -1,11 +1,13 @@
 // A candidate for a frame, looked at before anything is written: its shape, its escapes, its length, its checksum and
 // whether it names its sender.
-ghost use Rattle.std.specs.Prelude.{◌≡◌, true, false, not, ◌||◌, ◌+◌, ◌≤◌, ◌<◌, length};
+ghost use Rattle.std.specs.Prelude.{◌≡◌, true, false, not, ◌||◌, ◌+◌, ◌≤◌, ◌<◌, length, take, drop};
+ghost use Rattle.std.specs.Prelude.{Some, None, Ok};
 ghost use Rattle.std.specs.Int.Bits.{bit_xor};
-ghost use Rattle.lists.specs.Choice.{pick, within};
+ghost use Rattle.lists.specs.Choice.{pick, within, none_of};
 ghost use Rattle.lists.specs.Splice.{splice};
 ghost use Rattle.frame.specs.Flags.{is_flag};
-ghost use Rattle.frame.specs.Stuffing.{unstuff};
+ghost use Rattle.frame.specs.Stuffing.{unstuff, is_stuffed};
+ghost use Rattle.frame.specs.Checksum.{checksum};
 ghost use Rattle.frame.specs.Verdict.{address_count};
 ghost use Rattle.frame.specs.Private.{is_bounded, next_at, scan_of, is_sound, good_pair, lower_byte, is_escape, lifts};
 ghost use Rattle.frame.specs.Private.{unstuffed_bytes, last_at, header_kind, AddressesIn, PlainSum};
@@ -183,21 +185,21 @@ fn lower(b: u8) -> u8
     if b == flags::ESCAPE { 0xF0 } else { b }
 }
 
-fn addresses_in(kind: Kind, body: &[u8]) -> Result<Addresses, Refusal>
-    ensures { AddressesIn kind body.now result }
-{
-    match kind {
-        Kind::Standard => Ok(Addresses {
-            header: Header::Plain,
-            next: 0,
-        }),
-        Kind::Extended => two_addresses(body),
-    }
-}
-
-fn two_addresses(body: &[u8]) -> Result<Addresses, Refusal>
+// The two addresses at the start of the body of an extended frame.
+// Where no byte is F0 to F3 they are taken as they are: a test for escapes costs as much as the rest of a short body.
+fn two_addresses(body: &[u8], plain: Option<u8>) -> Result<Addresses, Refusal>
+    requires { PlainSum body.now plain }
     ensures { AddressesIn Kind.Extended body.now result }
 {
+    if let (Some(_), [to, from, ..]) = (plain, body) {
+        return Ok(Addresses {
+            header: Header::Addressed {
+                to: *to,
+                from: *from,
+            },
+            next: 2,
+        });
+    }
     let to = next_at(body, 0)?;
     let from = next_at(body, to.next)?;
     Ok(Addresses {
@@ -213,7 +215,9 @@ fn two_addresses(body: &[u8]) -> Result<Addresses, Refusal>
 // because a call costs as much as the loop over a short body.
 #[inline(always)]
 pub(crate) fn plain_sum(body: &[u8]) -> Option<u8>
-    ensures { PlainSum body.now result }
+    ensures plain { PlainSum body.now result }
+    ensures finds { length body.now ≤ 118
+        → result ≡ pick (none_of is_stuffed body.now) (Some (checksum body.now)) None }
 {
     if BODY_LIMIT < body.len() {
         return None;
@@ -231,7 +235,30 @@ pub(crate) fn examine(kind: Kind, body: &[u8], plain: Option<u8>) -> Result<Soun
     ensures { ExaminesWhole kind body.now result }
 {
     let whole = count(body, plain)?;
-    let found = addresses_in(kind, body)?;
+    match kind {
+        Kind::Standard => {
+            let found = Addresses {
+                header: Header::Plain,
+                next: 0,
+            };
+            examine_after(body, whole, found)
+        }
+        Kind::Extended => {
+            let found = two_addresses(body, plain)?;
+            examine_after(body, whole, found)
+        }
+    }
+}
+
+// The verdict on a body that was counted and whose addresses are known: the contents and the checksum follow, whose
+// exclusive or is 0. Each kind has a copy of its own, in which the header is known.
+#[inline(always)]
+fn examine_after(body: &[u8], whole: Counted, found: Addresses) -> Result<Sound, Refusal>
+    requires limit { length body.now ≤ 118 }
+    requires scanned { Ok whole ≡ scan_of body.now }
+    requires addressed { AddressesIn (header_kind found.header) body.now (Ok found) }
+    ensures { ExaminesWhole (header_kind found.header) body.now result }
+{
     let rest = whole.without(found.header);
     if rest.len < 1 {
         return Err(Refusal::TooShort);
@@ -313,5 +340,23 @@ pub(crate) fn unstuff_into(s: &[u8], out: &mut [u8])
         out[k] = *b + above;
         above = lift(*b);
         k += fills(*b);
+    }
+}
+
+// The same within a slice: brings the bytes between two indices, unstuffed, to the front.
+pub(crate) fn unstuff_front(s: &mut [u8], from: usize, end: usize)
+    requires from_le_end { from ≤ end }
+    requires end_in_bounds { end ≤ length s.old }
+    requires s_value { is_sound (unstuff false (drop from (take end s.old))) ≡ true }
+    ensures { s.new ≡ splice s.old 0
+        (unstuffed_bytes (unstuff false (drop from (take end s.old)))) }
+{
+    let mut above = 0;
+    let mut k = 0;
+    for i in from..end {
+        let b = s[i];
+        s[k] = b + above;
+        above = lift(b);
+        k += fills(b);
     }
 }

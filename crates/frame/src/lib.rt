@@ -17,9 +17,10 @@ ghost use Rattle.frame.specs.Origin.{admit};
 ghost use Rattle.frame.specs.Answers.{read_means, judge_answer, read_answer, read_out, left_in};
 ghost use Rattle.frame.specs.Leading.{open_count, leading_count};
 ghost use Rattle.frame.specs.Private.{unstuffed_bytes, judge_whole, PlainSum, open_verdict};
-ghost use Rattle.frame.specs.Private.{header_kind, admits, Admitted};
+ghost use Rattle.frame.specs.Private.{header_kind, admits, Admitted, Examines};
 
 use answer::Refusal;
+use candidate::Sound;
 
 // Where bytes come from, or are to go: the line as it is, or a trace that was kept of one. Live, standard frames are
 // refused, because they name no sender.
@@ -106,7 +107,9 @@ pub fn read_leading(origin: Origin, s: &[u8], out: &mut [u8]) -> Leading
 
 // Judges the candidate that a start flag of this kind, the first `len` bytes of an array (all where it has fewer) and
 // the stop flag make. The contents of an accepted frame are brought to the front; a refusal changes nothing. Refusals 6,
-// 2, 3, 4, 5 and, on the live line alone, 17.
+// 2, 3, 4, 5 and, on the live line alone, 17. No caller has a copy of its own, because a line reader calls it for few of
+// its bytes, and would save and restore more for each.
+#[inline(never)]
 pub fn judge_array(
     origin: Origin,
     kind: Kind,
@@ -118,11 +121,19 @@ pub fn judge_array(
     ensures bytes_after { bytes.new
         ≡ left_in (admit origin (verdict (candidate_of kind (take len bytes.old)))) bytes.old }
 {
-    // The contents are put first in the array that they stand in, so they are read from a copy.
-    let held = *bytes;
-    let body = &held[..len.min(held.len())];
+    let held = len.min(bytes.len());
+    judge_in_place(origin, kind, &mut bytes[..held])
+}
+
+// Judges a slice of any length, as `judge_array` does the first bytes of an array.
+fn judge_in_place(origin: Origin, kind: Kind, body: &mut [u8]) -> Result<Outline, Refusal>
+    ensures result_value { read_means result ≡ judge_answer (admit origin (judge_whole kind body.old)) }
+    ensures body_after { body.new ≡ left_in (admit origin (judge_whole kind body.old)) body.old }
+{
     let plain = candidate::plain_sum(body);
-    read_body(origin, kind, body, plain, bytes)
+    let Sound { header, start, len } = judge_body(origin, kind, body, plain)?;
+    bring_contents(body, start, len);
+    Ok(Outline { header, len })
 }
 
 fn no_leading() -> Leading
@@ -162,7 +173,7 @@ fn read_open(origin: Origin, kind: Kind, rest: &[u8], out: &mut [u8]) -> Leading
 
 // Reads what stands between a start flag of this kind and a stop flag; given is its exclusive or, where it is known that no
 // byte of it is F0 to F3. The contents are put first in the output, where there is room for them. Each caller has a copy
-// of its own, because most bodies have no escape and take few steps.
+// of its own for a body without F0 to F3, because most are and take few steps; the others are read by one function.
 #[inline(always)]
 fn read_body(
     origin: Origin,
@@ -176,8 +187,37 @@ fn read_body(
         ≡ read_answer (admit origin (judge_whole kind body.now)) (length out.old) }
     ensures out_after { out.new ≡ read_out (admit origin (judge_whole kind body.now)) out.old }
 {
-    let found = candidate::examine(kind, body, plain)?;
-    origin.admit(found.header)?;
+    match plain {
+        Some(_) => read_judged(origin, kind, body, plain, out),
+        None => read_stuffed(origin, kind, body, out),
+    }
+}
+
+// Reads any body, flags and escapes among its bytes.
+#[inline(never)]
+fn read_stuffed(origin: Origin, kind: Kind, body: &[u8], out: &mut [u8]) -> Result<Outline, Refusal>
+    ensures result_value { read_means result
+        ≡ read_answer (admit origin (judge_whole kind body.now)) (length out.old) }
+    ensures out_after { out.new ≡ read_out (admit origin (judge_whole kind body.now)) out.old }
+{
+    read_judged(origin, kind, body, None, out)
+}
+
+// Judges a body, as `read_body` is given it, and reads it.
+#[inline(always)]
+fn read_judged(
+    origin: Origin,
+    kind: Kind,
+    body: &[u8],
+    plain: Option<u8>,
+    out: &mut [u8],
+) -> Result<Outline, Refusal>
+    requires { PlainSum body.now plain }
+    ensures result_value { read_means result
+        ≡ read_answer (admit origin (judge_whole kind body.now)) (length out.old) }
+    ensures out_after { out.new ≡ read_out (admit origin (judge_whole kind body.now)) out.old }
+{
+    let found = judge_body(origin, kind, body, plain)?;
     if out.len() < found.len {
         return Err(Refusal::NoRoom);
     }
@@ -186,6 +226,17 @@ fn read_body(
         header: found.header,
         len: found.len,
     })
+}
+
+// The verdict on such a body, at an origin.
+#[inline(always)]
+fn judge_body(origin: Origin, kind: Kind, body: &[u8], plain: Option<u8>) -> Result<Sound, Refusal>
+    requires { PlainSum body.now plain }
+    ensures { Examines (admit origin (judge_whole kind body.now)) body.now result }
+{
+    let found = candidate::examine(kind, body, plain)?;
+    origin.admit(found.header)?;
+    Ok(found)
 }
 
 // Puts the first `len` bytes, unstuffed, first in the output; `rest` holds one byte more. Where it is as long as its
@@ -197,10 +248,35 @@ fn copy_contents(rest: &[u8], len: usize, out: &mut [u8])
     ensures { out.new ≡ take len (unstuffed_bytes (unstuff false rest.now))
         ++ drop len out.old }
 {
+    // A call of the C library costs as much as the rest of reading an empty frame.
+    if len == 0 {
+        return;
+    }
     if rest.len() == len + 1 {
         out[..len].copy_from_slice(&rest[..len]);
         return;
     }
     let end = candidate::last_at(rest);
     candidate::unstuff_into(&rest[..end], out)
+}
+
+// Brings the first `len` unstuffed bytes after an index to the front; one more stands after them. Where no escape stands
+// among them they are moved as they are, and after no addresses not at all.
+fn bring_contents(s: &mut [u8], start: usize, len: usize)
+    requires s_len { length (unstuffed_bytes (unstuff false (drop start s.old))) ≡ len + 1 }
+    requires start_in_bounds { start ≤ length s.old }
+    ensures { s.new ≡ take len (unstuffed_bytes (unstuff false (drop start s.old)))
+        ++ drop len s.old }
+{
+    if s.len() - start == len + 1 {
+        if start == 0 {
+            return;
+        }
+        if start == 2 {
+            lists::shift(s, 2, len);
+            return;
+        }
+    }
+    let end = start + candidate::last_at(&s[start..]);
+    candidate::unstuff_front(s, start, end)
 }

@@ -1,10 +1,18 @@
 use native.Mathlib.Omega.{arith}
-use lib.ListN.{drop}
-use mathlib.Core.Path.{ap, ◌∙◌}
+use lib.ListN.{take, drop}
+use mathlib.Core.Path.{sym, ap, ◌∙◌}
+use mathlib.Core.Bool.{false}
+use Rattle.frame.specs.Stuffing.{unstuff}
+use Rattle.frame.specs.Private.{unstuffed_bytes}
 use mathlib.Core.List.{List, ◌++◌}
 use Prim.Native.Nat.{ℕ}
 use Rattle.frame.proofs.ContentsLaws.{plain_first, front_sound, front_length, front_put}
 use Rattle.frame.proofs.copy_contents.Goals as goal
+
+pub returns-then-len-eq0 : goal.returns-then-len-eq0
+returns-then-len-eq0 c =
+    let a = c.args in
+    ap (λ (n : ℕ). take n (unstuffed_bytes (unstuff false a.rest.now)) ++ drop n a.out.now) (sym c.if-len-eq0.true)
 
 pub returns-then-rest-len : goal.returns-then-rest-len
 returns-then-rest-len c =

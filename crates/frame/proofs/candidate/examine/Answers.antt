@@ -1,7 +1,8 @@
-use mathlib.Core.Path.{◌∙◌}
+use mathlib.Core.Path.{sym, subst, ◌∙◌}
 use Rattle.std.proofs.lemmas.Result.{err_from_is_err_and}
+use Rattle.frame.specs.Private.{ExaminesWhole}
+use Rattle.frame.specs.declared.Kind.{Kind}
 use Rattle.frame.proofs.VerdictLaws.{scan_clean, whole_judged, judge_bytes_lem}
-use Rattle.frame.proofs.VerdictLaws.{scanned_enough, scanned_short, scanned_sum, scanned_sound}
 use Rattle.frame.proofs.candidate.examine.Goals as goal
 
 pub returns-in_err-whole : goal.returns-in_err-whole
@@ -9,30 +10,25 @@ returns-in_err-whole c =
     let p = err_from_is_err_and c.from_residual.result c.from_residual.ensures.1 in
     rw (p.1, p.2) (c.in_err-whole.ensures c.args.kind)
 
-pub returns-in_err-found : goal.returns-in_err-found
-returns-in_err-found c =
-    let p = err_from_is_err_and c.from_residual-in_err-found.result c.from_residual-in_err-found.ensures.1 in
-    let w = c.in_ok-whole.ensures in
-    rw (p.1, p.2)
-    (whole_judged _ _ (scan_clean _ _ w.1).0 ∙ judge_bytes_lem _ _ w.0 ∙ c.in_err-found.ensures)
+pub examine_after-requires-clause-limit : goal.examine_after-requires-clause-limit
+examine_after-requires-clause-limit c = c.in_ok-whole.ensures.0
 
-pub without-rest-requires : goal.without-rest-requires
-without-rest-requires c =
-    let w = c.in_ok-whole.ensures in scanned_enough _ _ w.0 _ w.1 _ c.in_ok-found.ensures
+pub examine_after-requires-clause-scanned : goal.examine_after-requires-clause-scanned
+examine_after-requires-clause-scanned c = c.in_ok-whole.ensures.1
 
-pub returns-then-rest-lt1 : goal.returns-then-rest-lt1
-returns-then-rest-lt1 c =
-    let w = c.in_ok-whole.ensures in
-    scanned_short c.args.kind _ w.0 _ w.1 _ c.in_ok-found.ensures _ c.without-rest.ensures c.if-rest-lt1.true
+pub returns-in-Standard : goal.returns-in-Standard
+returns-in-Standard c =
+    subst (λ (k : Kind). ExaminesWhole k c.args.body.now c.examine_after.result) (sym c.in-Standard.is)
+    c.examine_after.ensures
 
-pub returns-then-rest-ne0 : goal.returns-then-rest-ne0
-returns-then-rest-ne0 c =
+pub returns-in_err-found-in-Extended : goal.returns-in_err-found-in-Extended
+returns-in_err-found-in-Extended c =
+    let p = err_from_is_err_and c.from_residual-in_err-found-in-Extended.result c.from_residual-in_err-found-in-Extended.ensures.1 in
     let w = c.in_ok-whole.ensures in
-    scanned_sum c.args.kind _ w.0 _ w.1 _ c.in_ok-found.ensures _ c.without-rest.ensures c.if-rest-lt1.false
-    c.if-rest-ne0.true
+    rw (p.1, p.2, c.in-Extended.is)
+    (whole_judged _ _ (scan_clean _ _ w.1).0 ∙ judge_bytes_lem _ _ w.0 ∙ c.in_err-found-in-Extended.ensures)
 
-pub returns : goal.returns
-returns c =
-    let w = c.in_ok-whole.ensures in
-    scanned_sound c.args.kind _ w.0 _ w.1 _ c.in_ok-found.ensures _ c.without-rest.ensures c.if-rest-lt1.false
-    c.if-rest-ne0.false
+pub returns-in_ok-found-in-Extended : goal.returns-in_ok-found-in-Extended
+returns-in_ok-found-in-Extended c =
+    subst (λ (k : Kind). ExaminesWhole k c.args.body.now c.examine_after-in-Extended.result)
+    (c.in_ok-found-in-Extended.ensures.1 ∙ sym c.in-Extended.is) c.examine_after-in-Extended.ensures

@@ -1,10 +1,19 @@
-use mathlib.Core.Path.{refl, ap, ◌∙◌}
+use mathlib.Core.Path.{refl, ap, ◌∙◌, subst}
+use Prim.Native.Nat.{ℕ}
+use Rattle.std.specs.Prelude.{Option}
+use Rattle.frame.specs.Private.{PlainSum}
+use Rattle.frame.proofs.VerdictLaws.{plain_addressed}
 use Rattle.std.proofs.lemmas.Result.{err_from_is_err_and}
 use Rattle.frame.specs.declared.Kind.TheVariants.{Extended}
 use Rattle.frame.specs.Stuffing.{Unstuffed, prepend}
 use Rattle.frame.specs.Verdict.{judge_bytes}
 use Rattle.frame.proofs.ScanLaws.{after_next, told, bounds, stopped}
 use Rattle.frame.proofs.candidate.two_addresses.Goals as goal
+
+pub returns-in-Some-len2-up : goal.returns-in-Some-len2-up
+returns-in-Some-len2-up c =
+    plain_addressed c.args.body.now _ (subst (λ (x : Option ℕ). PlainSum c.args.body.now x) c.in-Some-len2-up.is-0 c.requires)
+    c.in-Some-len2-up.len_at_least _ _ refl refl
 
 pub returns-in_err-to : goal.returns-in_err-to
 unfolding judge_bytes
