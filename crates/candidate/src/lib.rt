@@ -80,6 +80,7 @@ impl LineProtocol<118> for Rowing {
 
     ghost ends_run = { is_flag };
 
+    #[inline(always)]
     fn role(self, b: u8) -> Role<Kind> {
         match b {
             flags::EXTENDED_START => Role::Start(Kind::Extended),
@@ -93,6 +94,7 @@ impl LineProtocol<118> for Rowing {
         lists::count_before(s, flags::EXTENDED_START, flags::STOP)
     }
 
+    #[inline(never)]
     fn judge(self, kind: Kind, bytes: &mut [u8; 118], len: usize) -> Result<Outline, Refusal> {
         frame::judge_array(self.origin, kind, bytes, len)
     }

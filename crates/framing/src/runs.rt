@@ -65,6 +65,8 @@ fn run_end<const ROOM: usize, P: LineProtocol<ROOM>>(
 }
 
 // Holds a run behind the bytes that are held. One that is longer than the room left makes the candidate over-long.
+// Stays a call, so that the work to copy has no part in a call that holds nothing.
+#[inline(never)]
 fn hold<const ROOM: usize, K: Copy>(
     bytes: &mut [u8; ROOM],
     len: usize,
