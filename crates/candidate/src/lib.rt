@@ -80,7 +80,6 @@ impl LineProtocol<118> for Rowing {
 
     ghost ends_run = { is_flag };
 
-    #[inline(always)]
     fn role(self, b: u8) -> Role<Kind> {
         match b {
             flags::EXTENDED_START => Role::Start(Kind::Extended),
@@ -94,6 +93,7 @@ impl LineProtocol<118> for Rowing {
         lists::count_before(s, flags::EXTENDED_START, flags::STOP)
     }
 
+    // Stays a call, so that what judges held bytes takes no part in a call that ends no candidate.
     #[inline(never)]
     fn judge(self, kind: Kind, bytes: &mut [u8; 118], len: usize) -> Result<Outline, Refusal> {
         frame::judge_array(self.origin, kind, bytes, len)

@@ -150,7 +150,6 @@ impl LineProtocol<254> for Treadmill {
 
     ghost ends_run = { ends_run };
 
-    #[inline(always)]
     fn role(self, b: u8) -> Role<()> {
         match b {
             coscom::START => Role::Start(()),
