@@ -93,7 +93,7 @@ impl LineProtocol<118> for Rowing {
         lists::count_before(s, flags::EXTENDED_START, flags::STOP)
     }
 
-    // Stays a call, so that what judges held bytes takes no part in a call that ends no candidate.
+    // Never inlined, because a call that ends no candidate is slower with the work of a judge inside.
     #[inline(never)]
     fn judge(self, kind: Kind, bytes: &mut [u8; 118], len: usize) -> Result<Outline, Refusal> {
         frame::judge_array(self.origin, kind, bytes, len)

@@ -81,8 +81,8 @@ fn hold<const ROOM: usize, K: Copy>(
     step.held
 }
 
-// The same for a run of any length. One that is longer than the room left makes the candidate over-long. Stays a call, so
-// that what copies takes no part in a call that holds no run.
+// The same for a run of any length. One that is longer than the room left makes the candidate over-long. It is never
+// inlined, because a call that holds no run is slower with the work to copy inside.
 #[inline(never)]
 fn hold_all<const ROOM: usize, K: Copy>(
     bytes: &mut [u8; ROOM],
