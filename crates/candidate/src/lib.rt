@@ -93,6 +93,8 @@ impl LineProtocol<118> for Rowing {
         lists::count_before(s, flags::EXTENDED_START, flags::STOP)
     }
 
+    // Never inlined, because a call that ends no candidate is slower with the work of a judge inside.
+    #[inline(never)]
     fn judge(self, kind: Kind, bytes: &mut [u8; 118], len: usize) -> Result<Outline, Refusal> {
         frame::judge_array(self.origin, kind, bytes, len)
     }

@@ -104,7 +104,7 @@ fn unmoved<K: Copy, T>(len: usize, mode: Mode<K>) -> Step<K, T>
 }
 
 // One byte more in an open candidate.
-fn with_byte<const ROOM: usize, K: Copy, T>(
+pub(crate) fn with_byte<const ROOM: usize, K: Copy, T>(
     bytes: &mut [u8; ROOM],
     len: usize,
     kind: K,

@@ -4,7 +4,7 @@ ghost use Rattle.lists.specs.Choice.{count_before};
 ghost use Rattle.framing.specs.Bounded.{bounded};
 ghost use Rattle.framing.specs.Held.{reader, after_run};
 
-use crate::{Held, LineProtocol, Mode};
+use crate::{Held, LineProtocol, Mode, Step, calls};
 
 // Where a run ends, and what is held there.
 #[derive(Clone, Copy)]
@@ -64,8 +64,27 @@ fn run_end<const ROOM: usize, P: LineProtocol<ROOM>>(
     from + protocol.run(&input[from..])
 }
 
-// Holds a run behind the bytes that are held. One that is longer than the room left makes the candidate over-long.
+// Holds a run behind the bytes that are held. A single byte, which many calls bring, is stored as it is.
 fn hold<const ROOM: usize, K: Copy>(
+    bytes: &mut [u8; ROOM],
+    len: usize,
+    kind: K,
+    run: &[u8],
+) -> Held<K>
+    requires { 0 < length run.now }
+    ensures { reader bytes.new result ≡ after_run ROOM (bounded bytes.old len (Mode.Inside kind)) run.now }
+{
+    let [b] = run else {
+        return hold_all(bytes, len, kind, run);
+    };
+    let step: Step<K, ()> = calls::with_byte(bytes, len, kind, *b);
+    step.held
+}
+
+// The same for a run of any length. One that is longer than the room left makes the candidate over-long. It is never
+// inlined, because a call that holds no run is slower with the work to copy inside.
+#[inline(never)]
+fn hold_all<const ROOM: usize, K: Copy>(
     bytes: &mut [u8; ROOM],
     len: usize,
     kind: K,

@@ -54,18 +54,36 @@ impl State {
         ChunkStep::untaken(Some(Err(Refusal::Full)), self)
     }
 
-    // What bytes that were taken make of the position and the count.
+    // What bytes that were taken make of the position and the count. Where nothing is told there is no position to find.
     fn advanced(self, fed: HeldChunk) -> ChunkStep
         requires taken_bound { self.count + fed.taken ≤ most_bytes }
         requires began_le_taken { fed.began ≤ fed.taken }
         requires opened_le_taken { fed.opened ≤ fed.taken }
         ensures { Advances self.start self.count fed result }
     {
-        let told = fed.told;
-        let position = self.place_at(fed.began);
+        match fed.told {
+            None => self.moved(fed, 0),
+            Some(_) => {
+                let position = self.place_at(fed.began);
+                self.moved(fed, position)
+            }
+        }
+    }
+
+    // The same beside a position that is told.
+    fn moved(self, fed: HeldChunk, position: u32) -> ChunkStep
+        requires taken_bound { self.count + fed.taken ≤ most_bytes }
+        requires opened_le_taken { fed.opened ≤ fed.taken }
+        ensures { result ≡ record {
+          told = fed.told;
+          position = position;
+          state = record { held = fed.held; start = place_at self.start self.count fed.opened; count = self.count + fed.taken };
+          taken = fed.taken;
+        } }
+    {
         ChunkStep {
-            told,
-            position: told_at(told, position),
+            told: fed.told,
+            position,
             state: State {
                 held: fed.held,
                 start: self.place_at(fed.opened),

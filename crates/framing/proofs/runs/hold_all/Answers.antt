@@ -4,7 +4,7 @@ use Rattle.framing.specs.Held.{reader}
 use Rattle.framing.proofs.Growth.{kept_all, kept_first, full-run}
 use Rattle.framing.proofs.RunLaws.{candidate_grows}
 use borrow.Author.Rules.{rules}
-use Rattle.framing.proofs.runs.hold.Goals as goal
+use Rattle.framing.proofs.runs.hold_all.Goals as goal
 
 pub returns-then-len : goal.returns-then-len
 returns-then-len g c =
