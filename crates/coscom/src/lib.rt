@@ -42,12 +42,15 @@ pub struct Header {
 }
 
 impl Header {
-    // Puts the start flag and the header first in an output.
+    // Puts the start flag and the header first in an output, byte by byte: putting them together first takes longer.
     fn put(self, out: &mut [u8])
         requires { 4 ≤ length out.old }
         ensures { out.new ≡ splice out.old 0 (0x01 ∷ self.letter ∷ self.tens ∷ self.ones ∷ []) }
     {
-        out[..BEFORE_UNIT].copy_from_slice(&[START, self.letter, self.tens, self.ones]);
+        out[0] = START;
+        out[1] = self.letter;
+        out[2] = self.tens;
+        out[3] = self.ones;
     }
 }
 

@@ -12,6 +12,9 @@ const BLOCK: usize = 32;
 
 const SMALL_BLOCK: usize = 8;
 
+// Fewer bytes than these are copied one after the other.
+const FEW: usize = 8;
+
 // 1 for a byte between two others, both included, else 0.
 pub fn mark(b: u8, low: u8, high: u8) -> u8
     ensures { result ≡ pick (within low high b) 1 0 }
@@ -73,7 +76,22 @@ pub fn copy(s: &[u8], out: &mut [u8], at: usize)
     ensures { out.new ≡ copied out.old at s.now }
 {
     if at <= out.len() && s.len() <= out.len() - at {
-        out[at..at + s.len()].copy_from_slice(s);
+        let part = &mut out[at..at + s.len()];
+        if s.len() < FEW {
+            copy_few(s, part);
+        } else {
+            part.copy_from_slice(s);
+        }
+    }
+}
+
+// The library's copy is a call, which takes longer than to store a few bytes one after the other.
+fn copy_few(s: &[u8], part: &mut [u8])
+    requires { length part.old ≡ length s.now }
+    ensures { part.new ≡ s.now }
+{
+    for (i, b) in s.iter().enumerate() {
+        part[i] = *b;
     }
 }
 
