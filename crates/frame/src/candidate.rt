@@ -211,7 +211,8 @@ fn two_addresses(body: &[u8], plain: Option<u8>) -> Result<Addresses, Refusal>
     })
 }
 
-// The exclusive or of a body, where it is not too long and no byte of it is F0 to F3. Each caller has a copy of its own,
+// The exclusive or of a body, where it is not too long and no byte of it is F0 to F3. The last byte is taken by itself,
+// because what is made of the exclusive or is compared with 0, as in `scan_bytes`. Each caller has a copy of its own,
 // because a call costs as much as the loop over a short body.
 #[inline(always)]
 pub(crate) fn plain_sum(body: &[u8]) -> Option<u8>
@@ -222,7 +223,16 @@ pub(crate) fn plain_sum(body: &[u8]) -> Option<u8>
     if BODY_LIMIT < body.len() {
         return None;
     }
-    bytes::plain_sum(body)
+    let [front @ .., last] = body else {
+        return Some(0);
+    };
+    if flags::is_stuffed(*last) {
+        return None;
+    }
+    let Some(sum) = bytes::plain_sum(front) else {
+        return None;
+    };
+    Some(sum ^ *last)
 }
 
 // The verdict on what stands between a start flag of this kind and a stop flag. Where a flag stands in it, it is no whole
