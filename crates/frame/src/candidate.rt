@@ -131,8 +131,9 @@ fn next_at(s: &[u8], at: usize) -> Result<Byte, Refusal>
 // How many unstuffed bytes stuffed ones are, and their exclusive or. Refused where a flag stands among them, and then
 // where an escape is unsound. Where every escape is sound, each takes one byte from the number, and its two bytes have
 // the exclusive or of F0 and the second. The last byte is taken by itself: none follows it to make a pair, and a loop
-// whose last turn is compared with 0 is not turned into vector code.
-#[inline(never)]
+// whose last turn is compared with 0 is not turned into vector code. Each caller has a copy of its own, to which no answer
+// goes through memory.
+#[inline(always)]
 fn scan_bytes(s: &[u8]) -> Result<Counted, Refusal>
     requires { length s.now ≤ 118 }
     ensures { result ≡ scan_of s.now }
