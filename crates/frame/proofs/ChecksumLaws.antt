@@ -8,12 +8,13 @@ use lib.Bits.{bit_xor, xor_self, xor_comm, xor_zero_l, xor_zero_r, xor_shr, xor_
 use lib.Bits.{and_le_r}
 use lib.ListN.{length, get_or, set, take, drop, length-drop, drop_of_length-le}
 use lib.Seq.{take-suc, drop-cons, take_all, get_or-drop}
-use mathlib.Core.Bool.{Bool, true, false, not, ◌||◌}
+use mathlib.Core.Bool.{Bool, true, false, not, ◌||◌, true≢false}
 use Rattle.std.specs.Prelude.{Some, None}
 use Rattle.std.specs.Bool.{then_some}
 use Rattle.lists.specs.Choice.{pick, none_of}
 use Rattle.lists.proofs.Cases.{by_bool}
-use Rattle.lists.proofs.Tests.{none_append}
+use Rattle.lists.proofs.Lists.{last_apart}
+use Rattle.lists.proofs.Tests.{none_append, none_at, none_last}
 use Rattle.frame.specs.Stuffing.{is_stuffed}
 use Rattle.frame.specs.Checksum.{sum_from, checksum}
 use Rattle.frame.specs.Verdict.{contents_in, last_of}
@@ -32,6 +33,12 @@ pub sum_from_last : (acc : ℕ) (c : List ℕ) (b : ℕ) → sum_from acc (c ++ 
 unfolding sum_from
 sum_from_last acc [] b = refl
 sum_from_last acc (x ∷ c) b = sum_from_last (bit_xor acc x) c b
+
+-- the last byte, known by itself, after the sum of those before it
+sum_last : (s : List ℕ) → 1 ≤ length s
+    → bit_xor (checksum (take (length s - 1) s)) (get_or s (length s - 1) 0) ≡ checksum s
+sum_last s h =
+    sym (sum_from_last 0 (take (length s - 1) s) (get_or s (length s - 1) 0)) ∙ ap checksum (sym (last_apart s h))
 
 xor_zero : (a b : ℕ) → bit_xor a b ≡ 0 → b ≡ a
 xor_zero a b h = omega (arith, xor_add_and a b, and_le_l a b, and_le_r a b)
@@ -191,3 +198,37 @@ found_plain s sum e =
     by_bool (none_of is_stuffed s)
     (λ y. let q : Some sum ≡ Some (checksum s) = simp y at e in let r : sum ≡ checksum s = cc in (y, r))
     (λ n. let q : Some sum ≡ None = simp n at e in cc)
+
+-- with the last byte taken by itself
+pub plain_empty : (s : List ℕ) → length s ≡ 0 → Some 0 ≡ pick (none_of is_stuffed s) (Some (checksum s)) None
+unfolding none_of sum_from
+plain_empty [] h = refl
+plain_empty (b ∷ s) h = absurd (omega arith)
+
+module _ (s : List ℕ) (some : 1 ≤ length s) where
+  abbrev front : List ℕ
+  front = take (length s - 1) s
+
+  abbrev last : ℕ
+  last = get_or s (length s - 1) 0
+
+  pub plain_ends : is_stuffed last ≡ true → None ≡ pick (none_of is_stuffed s) (Some (checksum s)) None
+  plain_ends e =
+      by_bool (none_of is_stuffed s)
+      (λ y. absurd (true≢false (sym e ∙ none_at is_stuffed s y (length s - 1) (omega arith))))
+      (λ n. simp n)
+
+  module _ (plain : is_stuffed last ≡ false) where
+    pub plain_not : None ≡ pick (none_of is_stuffed front) (Some (checksum front)) None
+        → None ≡ pick (none_of is_stuffed s) (Some (checksum s)) None
+    plain_not e =
+        by_bool (none_of is_stuffed front)
+        (λ y. let q : None ≡ Some (checksum front) = simp y at e in cc)
+        (λ n. ap (λ (t : Bool). pick t (Some (checksum s)) None) (sym (none_last is_stuffed s some plain ∙ n)))
+
+    pub plain_last : (sum : ℕ) → Some sum ≡ pick (none_of is_stuffed front) (Some (checksum front)) None
+        → Some (bit_xor sum last) ≡ pick (none_of is_stuffed s) (Some (checksum s)) None
+    plain_last sum e =
+        let p = found_plain front sum e in
+        ap (λ (n : ℕ). Some (bit_xor n last)) p.1 ∙ ap (λ (n : ℕ). Some n) (sum_last s some)
+        ∙ ap (λ (t : Bool). pick t (Some (checksum s)) None) (sym (none_last is_stuffed s some plain ∙ p.0))

@@ -131,8 +131,9 @@ fn next_at(s: &[u8], at: usize) -> Result<Byte, Refusal>
 // How many unstuffed bytes stuffed ones are, and their exclusive or. Refused where a flag stands among them, and then
 // where an escape is unsound. Where every escape is sound, each takes one byte from the number, and its two bytes have
 // the exclusive or of F0 and the second. The last byte is taken by itself: none follows it to make a pair, and a loop
-// whose last turn is compared with 0 is not turned into vector code.
-#[inline(never)]
+// whose last turn is compared with 0 is not turned into vector code. Each caller has a copy of its own, to which no answer
+// goes through memory.
+#[inline(always)]
 fn scan_bytes(s: &[u8]) -> Result<Counted, Refusal>
     requires { length s.now ≤ 118 }
     ensures { result ≡ scan_of s.now }
@@ -211,7 +212,8 @@ fn two_addresses(body: &[u8], plain: Option<u8>) -> Result<Addresses, Refusal>
     })
 }
 
-// The exclusive or of a body, where it is not too long and no byte of it is F0 to F3. Each caller has a copy of its own,
+// The exclusive or of a body, where it is not too long and no byte of it is F0 to F3. The last byte is taken by itself,
+// because what is made of the exclusive or is compared with 0, as in `scan_bytes`. Each caller has a copy of its own,
 // because a call costs as much as the loop over a short body.
 #[inline(always)]
 pub(crate) fn plain_sum(body: &[u8]) -> Option<u8>
@@ -222,7 +224,16 @@ pub(crate) fn plain_sum(body: &[u8]) -> Option<u8>
     if BODY_LIMIT < body.len() {
         return None;
     }
-    bytes::plain_sum(body)
+    let [front @ .., last] = body else {
+        return Some(0);
+    };
+    if flags::is_stuffed(*last) {
+        return None;
+    }
+    let Some(sum) = bytes::plain_sum(front) else {
+        return None;
+    };
+    Some(sum ^ *last)
 }
 
 // The verdict on what stands between a start flag of this kind and a stop flag. Where a flag stands in it, it is no whole

@@ -107,8 +107,8 @@ pub fn read_leading(origin: Origin, s: &[u8], out: &mut [u8]) -> Leading
 
 // Judges the candidate that a start flag of this kind, the first `len` bytes of an array (all where it has fewer) and
 // the stop flag make. The contents of an accepted frame are brought to the front; a refusal changes nothing. Refusals 6,
-// 2, 3, 4, 5 and, on the live line alone, 17. No caller has a copy of its own, because a line reader calls it for few of
-// its bytes, and would save and restore more for each.
+// 2, 3, 4, 5 and, on the live line alone, 17. It is one function for all its callers, because a line reader calls
+// it for few of its bytes, and with a copy of it would save and restore more registers for each byte.
 #[inline(never)]
 pub fn judge_array(
     origin: Origin,
