@@ -1,21 +1,20 @@
 // Numbers as text.
-ghost use Rattle.std.specs.Prelude.{◌≡◌, ◌+◌, ◌≤◌, ◌<◌, ◌++◌, length};
+ghost use Rattle.std.specs.Prelude.{◌≡◌, ◌+◌, ◌≤◌, ◌<◌, length};
 ghost use Rattle.text.specs.Digits.{decimal, hex_digit};
-ghost use Rattle.text.specs.Private.{pair, four};
-ghost use Rattle.text.specs.Writing.{totals_room};
+ghost use Rattle.text.specs.Private.{Puts, pair, four};
 
 use crate::buffer::Buffer;
 
 // Stays written by hand: `write!` says what it wrote where it answers `Ok`, and never that it does so, as the clause
 // `result_value` of `write_answer` has to know.
-#[tactic(auto, using(crate::proofs::DigitLaws::written))]
-impl Buffer {
+#[tactic(auto, using(crate::proofs::DigitLaws::lengths))]
+impl Buffer<'_> {
     // The digits before the last four are those of the number divided by 10,000, so nothing is written twice.
     // Stays by four digits: by two, in one function, the listing of short frames takes a fifth longer.
     // Stays a clause of each function here: the room that a number needs is the number's.
     pub(crate) fn put_decimal(&mut self, v: u64)
-        requires { length self.old + length (decimal v) ≤ totals_room }
-        ensures { self.new ≡ self.old ++ decimal v }
+        requires { self.old.len + length (decimal v) ≤ length self.old.bytes.now }
+        ensures { Puts self.old self.new (decimal v) }
     {
         if v < 10000 {
             return self.put_short(v);
@@ -27,8 +26,8 @@ impl Buffer {
     // At most four digits.
     fn put_short(&mut self, v: u64)
         requires v_bound { v < 10000 }
-        requires room { length self.old + length (decimal v) ≤ totals_room }
-        ensures { self.new ≡ self.old ++ decimal v }
+        requires room { self.old.len + length (decimal v) ≤ length self.old.bytes.now }
+        ensures { Puts self.old self.new (decimal v) }
     {
         if v < 100 {
             return self.put_small(v);
@@ -40,8 +39,8 @@ impl Buffer {
     // One or two digits.
     fn put_small(&mut self, v: u64)
         requires v_bound { v < 100 }
-        requires room { length self.old + length (decimal v) ≤ totals_room }
-        ensures { self.new ≡ self.old ++ decimal v }
+        requires room { self.old.len + length (decimal v) ≤ length self.old.bytes.now }
+        ensures { Puts self.old self.new (decimal v) }
     {
         if v < 10 {
             return self.put(&[digit(v)]);
