@@ -1,13 +1,13 @@
 -- The laws of texts that are put into a buffer one after the other.
 use mathlib.Core.Path.{◌≡◌, refl, sym, ap, ◌∙◌, subst}
 use mathlib.Core.List.{List, [], ◌∷◌, ◌++◌}
-use Prim.Native.Nat.{ℕ, ◌+◌, ◌≤◌, ◌<◌}
+use Prim.Native.Nat.{ℕ, ◌+◌, ◌/◌, ◌%◌, ◌≤◌, ◌<◌}
 use native.Mathlib.Numerals.{add-one}
 use native.Mathlib.Omega.{arith}
 use lib.ListN.{length, take, set, get_or, length-append}
 use lib.Seq.{length-take-le, take-suc}
 use Rattle.lists.specs.Splice.{splice}
-use Rattle.lists.proofs.Splices.{splice_nil, splice_next, length-splice, set-splice}
+use Rattle.lists.proofs.Splices.{splice_nil, splice_next, length-splice, set-splice, set2_splice}
 use Rattle.answer.specs.Answer.{result}
 use Rattle.answer.specs.Draft.{Writes}
 use Rattle.answer.proofs.Drafts.{writes_done}
@@ -16,8 +16,10 @@ use Rattle.frame.specs.declared.Header.{Header}
 use Rattle.frame.specs.declared.Header.TheVariants.{Plain, Addressed}
 use Rattle.frame.specs.Answers.{outline_with, frame_read}
 use Rattle.text.specs.Lines.{body, standard_body, extended_body}
-use Rattle.text.specs.Private.{Puts}
+use Rattle.text.specs.Digits.{decimal}
+use Rattle.text.specs.Private.{Puts, pair, four}
 use Rattle.text.specs.declared.buffer.Buffer.{Buffer}
+use Rattle.text.proofs.DigitLaws.{decimal_hundreds, decimal_fours, length_hundreds, length_fours}
 
 -- One text after another.
 pub next : {b c d : Buffer} {v w : List ℕ} → Puts b c v → Puts c d w → c.len ≤ length b.bytes.now → Puts b d (v ++ w)
@@ -48,6 +50,29 @@ copy_more s out₀ at i out room h p =
     splice_next out₀ at (take i s) (get_or s i 0 ∷ []) (at + i) (omega arith) p (omega arith)
     (set-splice out (at + i) (get_or s i 0) (omega arith))
     ∙ ap (splice out₀ at) e
+
+-- Four bytes put one after the other.
+pub set4_splice : (out : List ℕ) (at a b c d : ℕ) → at + 4 ≤ length out
+    → set (set (set (set out at a) (at + 1) b) (at + 2) c) (at + 3) d ≡ splice out at (a ∷ b ∷ c ∷ d ∷ [])
+set4_splice out at a b c d room =
+    let o : List ℕ = set (set out at a) (at + 1) b in
+    let first : o ≡ splice out at (a ∷ b ∷ []) = set2_splice out at a b (omega arith) in
+    let long : length o ≡ length out = ap length first ∙ length-splice out at (a ∷ b ∷ []) (omega arith) in
+    let i : at + 3 ≡ at + 2 + 1 = omega arith in
+    ap (λ (k : ℕ). set (set o (at + 2) c) k d) i
+    ∙ splice_next out at (a ∷ b ∷ []) (c ∷ d ∷ []) (at + 2) (omega arith) first (omega arith)
+    (set2_splice o (at + 2) c d (omega (arith, long)))
+
+-- A number, its last digits after the others.
+pub put_hundreds : {b c d : Buffer} {v : ℕ} → 100 ≤ v → b.len + length (decimal v) ≤ length b.bytes.now
+    → Puts b c (decimal (v / 100)) → Puts c d (pair (v % 100)) → Puts b d (decimal v)
+put_hundreds {v = v} h room p q =
+    put_as (sym (decimal_hundreds v h)) (next p q (omega (arith, length_hundreds v h, p.ends, room)))
+
+pub put_fours : {b c d : Buffer} {v : ℕ} → 10000 ≤ v → b.len + length (decimal v) ≤ length b.bytes.now
+    → Puts b c (decimal (v / 10000)) → Puts c d (four (v % 10000)) → Puts b d (decimal v)
+put_fours {v = v} h room p q =
+    put_as (sym (decimal_fours v h)) (next p q (omega (arith, length_fours v h, p.ends, room)))
 
 -- The body of a frame whose contents are a part of the bytes.
 pub framed : (h : Header) (len : ℕ) (part bytes : List ℕ) → part ≡ take len bytes

@@ -1,5 +1,5 @@
 // A text that is being made in an output that is lent: bytes are put at its end.
-ghost use Rattle.std.specs.Prelude.{◌≡◌, ◌+◌, ◌≤◌, length};
+ghost use Rattle.std.specs.Prelude.{◌≡◌, ◌+◌, ◌≤◌, [], ◌∷◌, length};
 ghost use Rattle.text.specs.Private.{Puts};
 
 // How many bytes stand in the output.
@@ -24,8 +24,8 @@ impl<'a> Buffer<'a> {
         self.len
     }
 
-    // Stays a byte at a time, from a place that is read once: `copy_from_slice` would test for each word whether the two
-    // overlap, and after a byte at a place of the struct both of its fields would be read again.
+    // Stays a byte at a time, from a place that is read once, here and below: `copy_from_slice` would test for each word
+    // whether the two overlap, and after a byte at a place of the struct both of its fields would be read again.
     pub(crate) fn put(&mut self, s: &[u8])
         requires { self.old.len + length s.now ≤ length self.old.bytes.now }
         ensures { Puts self.old self.new s.now }
@@ -36,5 +36,29 @@ impl<'a> Buffer<'a> {
             bytes[at + i] = *b;
         }
         self.len = at + s.len();
+    }
+
+    pub(crate) fn put_two(&mut self, a: u8, b: u8)
+        requires { self.old.len + 2 ≤ length self.old.bytes.now }
+        ensures { Puts self.old self.new (a ∷ b ∷ []) }
+    {
+        let at = self.len;
+        let bytes = &mut *self.bytes;
+        bytes[at] = a;
+        bytes[at + 1] = b;
+        self.len = at + 2;
+    }
+
+    pub(crate) fn put_four(&mut self, a: u8, b: u8, c: u8, d: u8)
+        requires { self.old.len + 4 ≤ length self.old.bytes.now }
+        ensures { Puts self.old self.new (a ∷ b ∷ c ∷ d ∷ []) }
+    {
+        let at = self.len;
+        let bytes = &mut *self.bytes;
+        bytes[at] = a;
+        bytes[at + 1] = b;
+        bytes[at + 2] = c;
+        bytes[at + 3] = d;
+        self.len = at + 4;
     }
 }

@@ -11,6 +11,7 @@ use crate::buffer::Buffer;
 impl Buffer<'_> {
     // The digits before the last four are those of the number divided by 10,000, so nothing is written twice.
     // Stays by four digits: by two, in one function, the listing of short frames takes a fifth longer.
+    // Stays two cases: a number of at most eight digits, as most are, is written without a call.
     // Stays a clause of each function here: the room that a number needs is the number's.
     pub(crate) fn put_decimal(&mut self, v: u64)
         requires { self.old.len + length (decimal v) ≤ length self.old.bytes.now }
@@ -19,8 +20,12 @@ impl Buffer<'_> {
         if v < 10000 {
             return self.put_short(v);
         }
+        if v < 100000000 {
+            self.put_short(v / 10000);
+            return self.put_last_four(v % 10000);
+        }
         self.put_decimal(v / 10000);
-        self.put(&four(v % 10000));
+        self.put_last_four(v % 10000);
     }
 
     // At most four digits.
@@ -33,7 +38,7 @@ impl Buffer<'_> {
             return self.put_small(v);
         }
         self.put_small(v / 100);
-        self.put(&pair(v % 100));
+        self.put_last_two(v % 100);
     }
 
     // One or two digits.
@@ -45,26 +50,32 @@ impl Buffer<'_> {
         if v < 10 {
             return self.put(&[digit(v)]);
         }
-        self.put(&pair(v));
+        self.put_last_two(v);
     }
-}
 
-// Four digits, also where the first are 0.
-fn four(v: u64) -> [u8; 4]
-    requires { v < 10000 }
-    ensures { result ≡ four v }
-{
-    let [a, b] = pair(v / 100);
-    let [c, d] = pair(v % 100);
-    [a, b, c, d]
-}
+    // Four digits, also where the first are 0.
+    fn put_last_four(&mut self, v: u64)
+        requires v_bound { v < 10000 }
+        requires room { self.old.len + 4 ≤ length self.old.bytes.now }
+        ensures { Puts self.old self.new (four v) }
+    {
+        let (high, low) = (v / 100, v % 100);
+        self.put_four(
+            digit(high / 10),
+            digit(high % 10),
+            digit(low / 10),
+            digit(low % 10),
+        );
+    }
 
-// Two digits, also where the first is 0.
-fn pair(v: u64) -> [u8; 2]
-    requires { v < 100 }
-    ensures { result ≡ pair v }
-{
-    [digit(v / 10), digit(v % 10)]
+    // Two digits, also where the first is 0.
+    fn put_last_two(&mut self, v: u64)
+        requires v_bound { v < 100 }
+        requires room { self.old.len + 2 ≤ length self.old.bytes.now }
+        ensures { Puts self.old self.new (pair v) }
+    {
+        self.put_two(digit(v / 10), digit(v % 10));
+    }
 }
 
 fn digit(d: u64) -> u8

@@ -101,15 +101,16 @@ pub fn write_bytes(s: &[u8], out: &mut [u8]) -> Result<usize, Refusal>
 }
 
 // Makes a line first in an output that has room for any.
+// Stays a call: `write_answer` is then small enough to be compiled into its callers, and its answer is not stored.
+#[inline(never)]
 fn put_line(
     told: Result<Outline, Refusal>,
     position: u32,
-    contents: &[u8],
+    contents: &[u8; 118],
     n: u64,
     out: &mut [u8],
 ) -> usize
-    requires contents_len_bound { length contents.now ≤ capacity }
-    requires room { line_room ≤ length out.old }
+    requires { line_room ≤ length out.old }
     ensures put { out.new
         ≡ splice out.old 0 (call_line n (located_outcome (told_means (Some told)) position contents.now)) }
     ensures value { result
@@ -244,6 +245,6 @@ impl Buffer<'_> {
         ensures { Puts self.old self.new (hex_field word.now v) }
     {
         self.put(word);
-        self.put(&hex_digits(v));
+        self.put_two(digits::hex_digit(v / 16), digits::hex_digit(v % 16));
     }
 }

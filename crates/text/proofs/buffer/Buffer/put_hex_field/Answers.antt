@@ -1,4 +1,5 @@
-use Rattle.std.proofs.Common.{arith}
+use Rattle.std.proofs.Common.{◌≡◌, [], ◌∷◌, arith}
+use Rattle.text.specs.Digits.{hex}
 use Rattle.text.specs.Lines.{hex_field}
 use Rattle.text.proofs.Putting.{next, put_as}
 use Rattle.text.proofs.buffer.Buffer.put_hex_field.Goals as goal
@@ -6,5 +7,6 @@ use Rattle.text.proofs.buffer.Buffer.put_hex_field.Goals as goal
 pub returns : goal.returns
 unfolding hex_field
 returns c =
-    next c.put.ensures (put_as c.hex_digits.ensures c.put-2.ensures)
-    (omega (arith, c.requires, c.put.ensures.ends))
+    let digits : c.hex_digit.result ∷ c.hex_digit-2.result ∷ [] ≡ hex c.args.v =
+    cc (c.hex_digit.ensures, c.hex_digit-2.ensures) in
+    next c.put.ensures (put_as digits c.put_two.ensures) (omega (arith, c.requires, c.put.ensures.ends))

@@ -8,5 +8,4 @@ returns-then-v-lt10 c =
     put_as (ap (λ (d : ℕ). d ∷ []) c.digit.ensures ∙ sym (decimal_small c.args.v c.if-v-lt10.true)) c.put.ensures
 
 pub returns : goal.returns
-returns c =
-    put_as (c.pair.ensures ∙ sym (decimal-pair c.args.v c.if-v-lt10.false c.requires.v_bound)) c.put-2.ensures
+returns c = put_as (sym (decimal-pair c.args.v c.if-v-lt10.false c.requires.v_bound)) c.put_last_two.ensures
