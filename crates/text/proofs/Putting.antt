@@ -19,15 +19,16 @@ use Rattle.text.specs.Lines.{body, standard_body, extended_body}
 use Rattle.text.specs.Digits.{decimal}
 use Rattle.text.specs.Private.{Puts, pair, four}
 use Rattle.text.specs.declared.buffer.Buffer.{Buffer}
-use Rattle.text.proofs.DigitLaws.{decimal_hundreds, decimal_fours, length_hundreds, length_fours}
+use Rattle.text.proofs.DigitLaws.{decimal_hundreds, decimal_fours}
 
 -- One text after another.
-pub next : {b c d : Buffer} {v w : List ℕ} → Puts b c v → Puts c d w → c.len ≤ length b.bytes.now → Puts b d (v ++ w)
-next {b} {c} {d} {v} {w} p q fits = record {
+pub next : {b c d : Buffer} {v w : List ℕ} → Puts b c v → Puts c d w → Puts b d (v ++ w)
+next {b} {c} {d} {v} {w} p q = record {
   same = q.same ∙ p.same;
-  is = splice_next b.bytes.now b.len v w c.len (omega (arith, p.ends)) p.is p.ends q.is;
+  is = splice_next b.bytes.now b.len v w c.len (omega (arith, p.ends, p.room, p.fits)) p.is p.ends q.is;
   ends = omega (arith, q.ends, p.ends, length-append v w);
   room = q.room ∙ p.room;
+  fits = q.fits;
 }
 
 -- The same text, by an equation.
@@ -37,6 +38,7 @@ put_as {b} e p = record {
   is = p.is ∙ ap (splice b.bytes.now b.len) e;
   ends = p.ends ∙ ap (λ (l : List ℕ). b.len + length l) e;
   room = p.room;
+  fits = p.fits;
 }
 
 -- A turn of the loop that puts a text.
@@ -64,15 +66,13 @@ set4_splice out at a b c d room =
     (set2_splice o (at + 2) c d (omega (arith, long)))
 
 -- A number, its last digits after the others.
-pub put_hundreds : {b c d : Buffer} {v : ℕ} → 100 ≤ v → b.len + length (decimal v) ≤ length b.bytes.now
-    → Puts b c (decimal (v / 100)) → Puts c d (pair (v % 100)) → Puts b d (decimal v)
-put_hundreds {v = v} h room p q =
-    put_as (sym (decimal_hundreds v h)) (next p q (omega (arith, length_hundreds v h, p.ends, room)))
+pub put_hundreds : {b c d : Buffer} {v : ℕ} → 100 ≤ v → Puts b c (decimal (v / 100)) → Puts c d (pair (v % 100))
+    → Puts b d (decimal v)
+put_hundreds {v = v} h p q = put_as (sym (decimal_hundreds v h)) (next p q)
 
-pub put_fours : {b c d : Buffer} {v : ℕ} → 10000 ≤ v → b.len + length (decimal v) ≤ length b.bytes.now
-    → Puts b c (decimal (v / 10000)) → Puts c d (four (v % 10000)) → Puts b d (decimal v)
-put_fours {v = v} h room p q =
-    put_as (sym (decimal_fours v h)) (next p q (omega (arith, length_fours v h, p.ends, room)))
+pub put_fours : {b c d : Buffer} {v : ℕ} → 10000 ≤ v → Puts b c (decimal (v / 10000)) → Puts c d (four (v % 10000))
+    → Puts b d (decimal v)
+put_fours {v = v} h p q = put_as (sym (decimal_fours v h)) (next p q)
 
 -- The body of a frame whose contents are a part of the bytes.
 pub framed : (h : Header) (len : ℕ) (part bytes : List ℕ) → part ≡ take len bytes

@@ -2,7 +2,7 @@
 ghost use Rattle.std.specs.Prelude.{◌≡◌, ◌+◌, ◌≤◌, [], ◌∷◌, length};
 ghost use Rattle.text.specs.Private.{Puts};
 
-// How many bytes stand in the output.
+// Stays a length beside the output: what stands in it is told as that many bytes, and the rest of it is left as it was.
 #[derive(Drop)]
 pub(crate) struct Buffer<'a> {
     bytes: &'a mut [u8],

@@ -60,6 +60,7 @@ pub fn write_answer(
         return Ok(0);
     };
     if out.len() < LINE_ROOM {
+        // Stays an array, here and below: the library has no heap.
         let mut room = [0u8; LINE_ROOM];
         let len = put_line(told, position, contents, n, &mut room);
         return write_bytes(&room[..len], out);

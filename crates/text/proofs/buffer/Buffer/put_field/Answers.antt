@@ -13,6 +13,4 @@ put_decimal-requires c =
 
 pub returns : goal.returns
 unfolding field
-returns c =
-    next c.put.ensures c.put_decimal.ensures
-    (omega (arith, length-field c.args.word.now c.args.v, c.requires, c.put.ensures.ends))
+returns c = next c.put.ensures c.put_decimal.ensures

@@ -10,4 +10,5 @@ returns c =
       is = set4_splice b.bytes.now b.len c.args.a c.args.b c.args.c c.args.d c.requires;
       ends = refl;
       room = simp length-set;
+      fits = simp length-set c.requires;
     }

@@ -1,4 +1,4 @@
-use Rattle.std.proofs.Common.{◌≡◌, [], ◌∷◌, arith}
+use Rattle.std.proofs.Common.{◌≡◌, [], ◌∷◌}
 use Rattle.text.specs.Digits.{hex}
 use Rattle.text.specs.Lines.{hex_field}
 use Rattle.text.proofs.Putting.{next, put_as}
@@ -9,4 +9,4 @@ unfolding hex_field
 returns c =
     let digits : c.hex_digit.result ∷ c.hex_digit-2.result ∷ [] ≡ hex c.args.v =
     cc (c.hex_digit.ensures, c.hex_digit-2.ensures) in
-    next c.put.ensures (put_as digits c.put_two.ensures) (omega (arith, c.requires, c.put.ensures.ends))
+    next c.put.ensures (put_as digits c.put_two.ensures)
