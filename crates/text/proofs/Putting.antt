@@ -41,6 +41,10 @@ put_as {b} e p = record {
   fits = p.fits;
 }
 
+-- The same buffer, by an equation.
+pub put_from : {b c d : Buffer} {w : List ℕ} → c ≡ b → Puts c d w → Puts b d w
+put_from {d = d} {w = w} e p = subst (λ (x : Buffer). Puts x d w) e p
+
 -- A turn of the loop that puts a text.
 pub copy_more : (s out₀ : List ℕ) (at i : ℕ) (out : List ℕ) → at + length s ≤ length out₀ → i < length s
     → out ≡ splice out₀ at (take i s)

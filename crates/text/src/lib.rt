@@ -15,8 +15,7 @@ ghost use Rattle.candidate.specs.Outcome.{told_means, capacity};
 ghost use Rattle.frame.specs.Frame.{frame_of};
 ghost use Rattle.line.specs.Answers.{located_outcome};
 ghost use Rattle.text.specs.Digits.{hex};
-ghost use Rattle.text.specs.Lines.{field, hex_field, stop_text, head, call_line, totals, body, refused_body, standard_body};
-ghost use Rattle.text.specs.Lines.{extended_body};
+ghost use Rattle.text.specs.Lines.{field, hex_field, stop_text, head, call_line, totals, body, refused_body};
 ghost use Rattle.text.specs.Writing.{line_room, totals_room};
 ghost use Rattle.text.specs.Private.{Puts, head_room, body_room};
 
@@ -180,31 +179,15 @@ impl Buffer<'_> {
         ensures put { Puts self.old self.new (body (answered (frame_of header contents.now))) }
         ensures upper_bound { self.new.len ≤ self.old.len + body_room }
     {
+        let len = contents.len() as u64;
         match header {
-            Header::Plain => self.put_standard(contents),
-            Header::Addressed { to, from } => self.put_extended(to, from, contents),
+            Header::Plain => self.put_field(b" kind=std len=", len),
+            Header::Addressed { to, from } => {
+                self.put_hex_field(b" kind=ext to=", to);
+                self.put_hex_field(b" from=", from);
+                self.put_field(b" len=", len);
+            }
         }
-    }
-
-    fn put_standard(&mut self, contents: &[u8])
-        requires contents_len_bound { length contents.now ≤ capacity }
-        requires room { self.old.len + body_room ≤ length self.old.bytes.now }
-        ensures put { Puts self.old self.new (standard_body contents.now) }
-        ensures upper_bound { self.new.len ≤ self.old.len + body_room }
-    {
-        self.put_field(b" kind=std len=", contents.len() as u64);
-        self.put_stop(contents);
-    }
-
-    fn put_extended(&mut self, to: u8, from: u8, contents: &[u8])
-        requires contents_len_bound { length contents.now ≤ capacity }
-        requires room { self.old.len + body_room ≤ length self.old.bytes.now }
-        ensures put { Puts self.old self.new (extended_body to from contents.now) }
-        ensures upper_bound { self.new.len ≤ self.old.len + body_room }
-    {
-        self.put_hex_field(b" kind=ext to=", to);
-        self.put_hex_field(b" from=", from);
-        self.put_field(b" len=", contents.len() as u64);
         self.put_stop(contents);
     }
 
