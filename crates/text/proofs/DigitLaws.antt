@@ -117,8 +117,8 @@ least_digits (suc k) n h =
 
 -- ---- writing them
 
--- What is put for a number, digits first and the last ones after them.
-pub ruleset written = (decimal_small, decimal-pair, decimal_hundreds, decimal_fours, length_small, length-pair, length_hundreds, length_fours, append_assoc, length-append)
+-- How many digits are put.
+pub ruleset lengths = (length_small, length-pair, length_hundreds, length_fours)
 
 -- a word and its number
 pub length-field : (word : List ℕ) (v : ℕ) → length (field word v) ≡ length word + length (decimal v)

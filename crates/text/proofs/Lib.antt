@@ -5,3 +5,4 @@ pub mod LineLaws
 pub mod Positions
 pub mod Listed
 pub mod Examples
+pub mod Putting

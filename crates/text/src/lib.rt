@@ -5,23 +5,24 @@
 mod buffer;
 mod digits;
 
-ghost use Rattle.std.specs.Prelude.{◌≡◌, ◌+◌, ◌≤◌, [], ◌++◌, length};
+ghost use Rattle.std.specs.Prelude.{◌≡◌, ◌+◌, ◌≤◌, length, Some};
 ghost use Rattle.answer.specs.Answer.{result as answered};
 ghost use Rattle.answer.specs.Draft.{draft_answer, draft_out, written_means};
 ghost use Rattle.answer.specs.Refusals.{number_of};
 ghost use Rattle.command.specs.Stop.{stops_workout};
+ghost use Rattle.lists.specs.Splice.{splice};
 ghost use Rattle.candidate.specs.Outcome.{told_means, capacity};
 ghost use Rattle.frame.specs.Frame.{frame_of};
 ghost use Rattle.line.specs.Answers.{located_outcome};
 ghost use Rattle.text.specs.Digits.{hex};
 ghost use Rattle.text.specs.Lines.{field, hex_field, stop_text, head, call_line, totals, body, refused_body};
 ghost use Rattle.text.specs.Writing.{line_room, totals_room};
-ghost use Rattle.text.specs.Private.{head_room, body_room};
+ghost use Rattle.text.specs.Private.{Puts, head_room, body_room};
 
 use answer::Refusal;
 use buffer::Buffer;
 use candidate::Told;
-use frame::Header;
+use frame::{Header, Outline};
 
 // The room that the line of any answer fits in. That of an extended frame can need all of it.
 pub const LINE_ROOM: usize = 77;
@@ -37,7 +38,8 @@ pub fn hex_digits(b: u8) -> [u8; 2]
 }
 
 // Writes the line of an answer, the n-th, with its position, or nothing where it is none. The contents are the first
-// bytes of an array, as many as the answer says. Refusal 1.
+// bytes of an array, as many as the answer says. Refusal 1. A line that could be too long for the output is made in an
+// array first.
 pub fn write_answer(
     told: Told,
     position: u32,
@@ -53,9 +55,16 @@ pub fn write_answer(
         out.old }
     ensures length_bound { length (call_line n (located_outcome (told_means told) position contents.now)) ≤ line_room }
 {
-    let mut line = Buffer::new();
-    line.put_told(told, position, contents, n);
-    write_bytes(line.as_slice(), out)
+    let Some(told) = told else {
+        return Ok(0);
+    };
+    if out.len() < LINE_ROOM {
+        // Stays an array, here and below: the library has no heap.
+        let mut room = [0u8; LINE_ROOM];
+        let len = put_line(told, position, contents, n, &mut room);
+        return write_bytes(&room[..len], out);
+    }
+    Ok(put_line(told, position, contents, n, out))
 }
 
 // Writes the totals. Refusal 1.
@@ -70,9 +79,12 @@ pub fn write_totals(
     ensures out_after { out.new ≡ draft_out (answered (totals frames refusals strays)) out.old }
     ensures length_bound { length (totals frames refusals strays) ≤ totals_room }
 {
-    let mut line = Buffer::new();
-    line.put_totals(frames, refusals, strays);
-    write_bytes(line.as_slice(), out)
+    if out.len() < TOTALS_ROOM {
+        let mut room = [0u8; TOTALS_ROOM];
+        let len = put_totals(frames, refusals, strays, &mut room);
+        return write_bytes(&room[..len], out);
+    }
+    Ok(put_totals(frames, refusals, strays, out))
 }
 
 // Writes bytes that stand elsewhere. Refusal 1.
@@ -88,20 +100,51 @@ pub fn write_bytes(s: &[u8], out: &mut [u8]) -> Result<usize, Refusal>
     Ok(s.len())
 }
 
-#[tactic(auto, using(crate::proofs::DigitLaws::fields), unfolding(crate::specs::Lines::head, crate::specs::Lines::refused_body, crate::specs::Lines::standard_body, crate::specs::Lines::extended_body, crate::specs::Lines::totals))]
-impl Buffer {
-    #[tactic(auto, using(crate::proofs::DigitLaws::fields), unfolding(frame::specs::Answers::frame_read))]
-    fn put_told(&mut self, told: Told, position: u32, contents: &[u8], n: u64)
+// Makes a line first in an output that has room for any.
+// Stays a call: `write_answer` is then small enough to be compiled into its callers, and its answer is not stored.
+#[inline(never)]
+fn put_line(
+    told: Result<Outline, Refusal>,
+    position: u32,
+    contents: &[u8; 118],
+    n: u64,
+    out: &mut [u8],
+) -> usize
+    requires { line_room ≤ length out.old }
+    ensures put { out.new
+        ≡ splice out.old 0 (call_line n (located_outcome (told_means (Some told)) position contents.now)) }
+    ensures value { result
+        ≡ length (call_line n (located_outcome (told_means (Some told)) position contents.now)) }
+    ensures upper_bound { result ≤ line_room }
+{
+    let mut line = Buffer::new(out);
+    line.put_told(told, position, contents, n);
+    line.len()
+}
+
+// Makes the totals first in an output that has room for any.
+fn put_totals(frames: u64, refusals: u64, strays: u64, out: &mut [u8]) -> usize
+    requires { totals_room ≤ length out.old }
+    ensures put { out.new ≡ splice out.old 0 (totals frames refusals strays) }
+    ensures value { result ≡ length (totals frames refusals strays) }
+    ensures upper_bound { result ≤ totals_room }
+{
+    let mut line = Buffer::new(out);
+    line.put_counts(frames, refusals, strays);
+    line.len()
+}
+
+#[tactic(auto, using(crate::proofs::DigitLaws::fields))]
+impl Buffer<'_> {
+    fn put_told(&mut self, told: Result<Outline, Refusal>, position: u32, contents: &[u8], n: u64)
         requires contents_len_bound { length contents.now ≤ capacity }
-        requires room { length self.old + line_room ≤ totals_room }
-        ensures put { self.new ≡ self.old ++ call_line n (located_outcome (told_means told) position contents.now) }
-        ensures upper_bound { length self.new ≤ length self.old + line_room }
+        requires room { self.old.len + line_room ≤ length self.old.bytes.now }
+        ensures put { Puts self.old self.new
+            (call_line n (located_outcome (told_means (Some told)) position contents.now)) }
+        ensures upper_bound { self.new.len ≤ self.old.len + line_room }
     {
-        let Some(read) = told else {
-            return;
-        };
         self.put_head(n, position);
-        match read {
+        match told {
             Ok(outline) => {
                 let part = command::entries::part(contents, 0, outline.len);
                 self.put_frame(outline.header, part);
@@ -112,9 +155,9 @@ impl Buffer {
 
     // The head of a line: its number and its position.
     fn put_head(&mut self, n: u64, position: u32)
-        requires { length self.old + head_room ≤ totals_room }
-        ensures put { self.new ≡ self.old ++ head n position }
-        ensures upper_bound { length self.new ≤ length self.old + head_room }
+        requires { self.old.len + head_room ≤ length self.old.bytes.now }
+        ensures put { Puts self.old self.new (head n position) }
+        ensures upper_bound { self.new.len ≤ self.old.len + head_room }
     {
         self.put_field(b"n=", n);
         self.put_field(b" at=", u64::from(position));
@@ -122,9 +165,9 @@ impl Buffer {
 
     // The bodies, of a refusal and of a frame.
     fn put_refused(&mut self, why: Refusal)
-        requires { length self.old + body_room ≤ totals_room }
-        ensures put { self.new ≡ self.old ++ refused_body (number_of why) }
-        ensures upper_bound { length self.new ≤ length self.old + body_room }
+        requires { self.old.len + body_room ≤ length self.old.bytes.now }
+        ensures put { Puts self.old self.new (refused_body (number_of why)) }
+        ensures upper_bound { self.new.len ≤ self.old.len + body_room }
     {
         self.put_field(b" kind=refused code=", u64::from(why.number()));
         self.put(b"\n");
@@ -132,9 +175,9 @@ impl Buffer {
 
     fn put_frame(&mut self, header: Header, contents: &[u8])
         requires contents_len_bound { length contents.now ≤ capacity }
-        requires room { length self.old + body_room ≤ totals_room }
-        ensures put { self.new ≡ self.old ++ body (answered (frame_of header contents.now)) }
-        ensures upper_bound { length self.new ≤ length self.old + body_room }
+        requires room { self.old.len + body_room ≤ length self.old.bytes.now }
+        ensures put { Puts self.old self.new (body (answered (frame_of header contents.now))) }
+        ensures upper_bound { self.new.len ≤ self.old.len + body_room }
     {
         let len = contents.len() as u64;
         match header {
@@ -148,9 +191,10 @@ impl Buffer {
         self.put_stop(contents);
     }
 
-    fn put_totals(&mut self, frames: u64, refusals: u64, strays: u64)
-        requires { self.old ≡ [] }
-        ensures { self.new ≡ totals frames refusals strays }
+    fn put_counts(&mut self, frames: u64, refusals: u64, strays: u64)
+        requires { self.old.len + totals_room ≤ length self.old.bytes.now }
+        ensures put { Puts self.old self.new (totals frames refusals strays) }
+        ensures upper_bound { self.new.len ≤ self.old.len + totals_room }
     {
         self.put_field(b"frames=", frames);
         self.put_field(b" refused=", refusals);
@@ -160,9 +204,9 @@ impl Buffer {
 
     // The end of a frame's body.
     fn put_stop(&mut self, contents: &[u8])
-        requires { length self.old + 10 ≤ totals_room }
-        ensures put { self.new ≡ self.old ++ stop_text (stops_workout contents.now) }
-        ensures upper_bound { length self.new ≤ length self.old + 10 }
+        requires { self.old.len + 10 ≤ length self.old.bytes.now }
+        ensures put { Puts self.old self.new (stop_text (stops_workout contents.now)) }
+        ensures upper_bound { self.new.len ≤ self.old.len + 10 }
     {
         if command::stop::stops_workout(contents) {
             self.put(b" stop=yes\n");
@@ -172,21 +216,19 @@ impl Buffer {
     }
 
     // A word and a number. The room that is asked for is what they need.
-    #[tactic(auto, unfolding(crate::specs::Lines::field))]
     fn put_field(&mut self, word: &[u8], v: u64)
-        requires { length self.old + length (field word.now v) ≤ totals_room }
-        ensures { self.new ≡ self.old ++ field word.now v }
+        requires { self.old.len + length (field word.now v) ≤ length self.old.bytes.now }
+        ensures { Puts self.old self.new (field word.now v) }
     {
         self.put(word);
         self.put_decimal(v);
     }
 
-    #[tactic(auto, unfolding(crate::specs::Lines::hex_field))]
     fn put_hex_field(&mut self, word: &[u8], v: u8)
-        requires { length self.old + (length word.now + 2) ≤ totals_room }
-        ensures { self.new ≡ self.old ++ hex_field word.now v }
+        requires { self.old.len + (length word.now + 2) ≤ length self.old.bytes.now }
+        ensures { Puts self.old self.new (hex_field word.now v) }
     {
         self.put(word);
-        self.put(&hex_digits(v));
+        self.put_two(digits::hex_digit(v / 16), digits::hex_digit(v % 16));
     }
 }
