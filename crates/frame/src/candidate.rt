@@ -239,7 +239,7 @@ pub(crate) fn plain_sum(body: &[u8]) -> Option<u8>
 // The verdict on what stands between a start flag of this kind and a stop flag. Where a flag stands in it, it is no whole
 // candidate. Given is its exclusive or, where it is known that no byte of it is F0 to F3. Each caller has a copy of its own,
 // because most bodies have no escape and take few steps.
-// Stays a number with a fact, here and in two more: a type that says it would hold the body, which its callers cut anew.
+// Stays a number with a fact, here and in five more: a type that says it would hold the body, which its callers cut anew.
 #[inline(always)]
 pub(crate) fn examine(kind: Kind, body: &[u8], plain: Option<u8>) -> Result<Sound, Refusal>
     requires { PlainSum body.now plain }
