@@ -1,6 +1,6 @@
 -- Laws of a sound body's contents, copied out or brought to the front of the body itself.
 use Rattle.std.proofs.lemmas.List.{take_min}
-use borrow.Author.Tests.{leb-true}
+use borrow.Author.Tests.{leb-true, le-leb}
 use lib.ListN.{length-drop, length, get_or, take, drop, length-append, take-append-drop}
 use Rattle.frame.specs.Verdict.{judge, judge_bytes, frame_in, address_count, last_of, contents_in, Verdict, body_of}
 use Rattle.frame.specs.Verdict.{is_terminated, verdict}
@@ -13,11 +13,13 @@ use Rattle.frame.specs.Stuffing.{Unstuffed, bad_escape, bytes, unstuff}
 use Rattle.frame.specs.declared.Kind.TheVariants.{Standard, Extended}
 use Rattle.frame.proofs.StuffingLaws.{unstuff_shrinks, unstuff_same}
 use mathlib.Core.Path.{◌≡◌, sym, ap, ◌∙◌, refl}
-use mathlib.Core.Bool.{true, false}
+use mathlib.Core.Bool.{Bool, true, false}
 use mathlib.Core.List.{List, [], ◌∷◌, ◌++◌}
 use native.Mathlib.Omega.{arith}
 use lib.Seq.{take_at, length-take-le}
-use Rattle.lists.specs.Splice.{splice}
+use Rattle.lists.specs.Splice.{splice, copied}
+use Rattle.lists.specs.Choice.{pick}
+use Rattle.lists.proofs.Splices.{splice_nil}
 use Rattle.lists.proofs.Lists.{back_in}
 use Rattle.frame.specs.Checksum.{checksum}
 use Rattle.frame.specs.Frame.{Frame, contents_of, standard, extended, frame_of}
@@ -25,10 +27,12 @@ use Rattle.frame.specs.Answers.{left_in, judge_answer, frame_read, read_answer, 
 use Rattle.frame.specs.Private.{unstuffed_bytes, is_sound, is_escape, last_at, SoundAt, judge_whole}
 use Rattle.frame.specs.Origin.{admit}
 use Rattle.frame.specs.declared.Origin.{Origin}
+use Rattle.frame.specs.declared.Origin.TheVariants.{Live}
+use Rattle.frame.specs.declared.Header.TheVariants.{Plain}
 use Rattle.frame.specs.declared.Kind.{Kind}
 use Rattle.frame.specs.declared.Header.{Header}
 use Rattle.frame.proofs.UndoLaws.{before_last}
-use Rattle.frame.proofs.OriginLaws.{admit_means}
+use Rattle.frame.proofs.OriginLaws.{admit_means, sound_unnamed}
 use Rattle.frame.proofs.VerdictLaws.{contents_of_lem, candidate_verdict, answer_no_room, answer_done, header_as}
 
 -- ---- the stuffed contents and checksum of a sound body
@@ -145,6 +149,30 @@ module _ (rest : List ℕ) (len : ℕ) (n : length (unstuffed_bytes (unstuff fal
 pub judge_refused : (v : Verdict) (s : List ℕ) (n : ℕ) → v ≡ refused n → (refused n ≡ judge_answer v) × (s ≡ left_in v s)
 unfolding judge_answer left_in
 judge_refused v s n q = (ap judge_answer (sym q), ap (λ (w : Verdict). left_in w s) (sym q))
+
+-- A refusal leaves what was judged as it is.
+pub told_refused : (v : Verdict) (n : ℕ) → v ≡ refused n → refused n ≡ judge_answer v
+told_refused v n q = (judge_refused v [] n q).0
+
+pub left_refused : (v : Verdict) (s : List ℕ) (n : ℕ) → v ≡ refused n → left_in v s ≡ s
+left_refused v s n q = sym (judge_refused v s n q).1
+
+-- So does 17, of a sound standard frame on the live line.
+pub told_unnamed : (v : Verdict) (body : List ℕ) (start len : ℕ) → SoundAt v body Plain start len
+    → refused 17 ≡ judge_answer (admit Live v)
+told_unnamed v body start len s = told_refused (admit Live v) 17 (sound_unnamed Live Plain s refl)
+
+pub left_unnamed : (v : Verdict) (body : List ℕ) (start len : ℕ) → SoundAt v body Plain start len
+    → left_in (admit Live v) body ≡ body
+left_unnamed v body start len s = left_refused (admit Live v) body 17 (sound_unnamed Live Plain s refl)
+
+-- A copy of nothing changes nothing.
+pub copied_nothing : (s : List ℕ) → copied s 0 [] ≡ s
+copied_nothing s = ap (λ (t : Bool). pick t (splice s 0 []) s) (le-leb 0 (length s) (omega arith)) ∙ splice_nil s 0
+
+-- For a judge in place that refuses. The last three are for one that refuses earlier than ours: where it means the same it is
+-- proved too, so that a must-fail edit of that form is refused for what it changes.
+pub ruleset refusing = (told_refused, left_refused, told_unnamed, left_unnamed, copied_nothing)
 
 -- the answer of a judge in place, with the bytes that it leaves, tells the whole verdict
 pub left_whole : (v : Verdict) (s : List ℕ) → frame_read (judge_answer v) (left_in v s) ≡ v

@@ -412,7 +412,7 @@ module _ (body : List ℕ) (sum : ℕ) (p : Unescaped body sum) where
 
   -- and its first two bytes are its addresses
   pub plain_addressed : 2 ≤ length body → (to from : ℕ) → to ≡ get_or body 0 0 → from ≡ get_or body 1 0
-      → AddressesIn Extended body (Ok (record { header = Addressed to from; next = 2 }))
+      → AddressesIn Extended body (Ok (record { header = Addressed to from; next = 2; sum = bit_xor to from }))
   unfolding prepend
   plain_addressed h to from t f =
       let rest = drop 2 body in
@@ -424,6 +424,7 @@ module _ (body : List ℕ) (sum : ℕ) (p : Unescaped body sum) where
         refl,
         unstuff_plain body escapeless ∙ ap bytes parts
             ∙ sym (ap (λ (r : Unstuffed). prepend to (prepend from r)) after),
+        refl,
       )
 
 -- ---- the answers of a reader and of a judge

@@ -102,11 +102,17 @@ unfoldable pub unstuffed_bytes : Unstuffed → List ℕ
 unstuffed_bytes bad_escape = []
 unstuffed_bytes (bytes u) = u
 
+-- The exclusive or of the header's addresses, 0 of none.
+abbrev pub sum_of_addresses : Header → ℕ
+sum_of_addresses Plain = 0
+sum_of_addresses (Addressed to from) = bit_xor to from
+
 -- What was found of the addresses at the start of stuffed bytes, or why the bytes are refused.
 abbrev pub AddressesIn : Kind → List ℕ → Result Addresses Refusal → Type 0
 AddressesIn kind body (Ok a) =
     (a.next ≤ length body) × (header_kind a.header ≡ kind)
     × (unstuff false body ≡ headed a.header (unstuff false (drop a.next body)))
+    × (a.sum ≡ sum_of_addresses a.header)
 AddressesIn kind body (Err why) = judge_bytes kind (unstuff false body) ≡ refused (number_of why)
 
 -- How many unstuffed bytes follow the addresses, and their exclusive or.

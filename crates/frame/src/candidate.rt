@@ -10,7 +10,7 @@ ghost use Rattle.frame.specs.Stuffing.{unstuff, is_stuffed};
 ghost use Rattle.frame.specs.Checksum.{checksum};
 ghost use Rattle.frame.specs.Verdict.{address_count};
 ghost use Rattle.frame.specs.Private.{is_bounded, next_at, scan_of, is_sound, good_pair, lower_byte, is_escape, lifts};
-ghost use Rattle.frame.specs.Private.{unstuffed_bytes, last_at, header_kind, AddressesIn, PlainSum};
+ghost use Rattle.frame.specs.Private.{unstuffed_bytes, last_at, header_kind, sum_of_addresses, AddressesIn, PlainSum};
 ghost use Rattle.frame.specs.Private.{Tallied, WithoutHeader, CountsWhole, ExaminesWhole, long_refusal};
 
 use crate::flags::{EXTENDED_START, STANDARD_START, STOP};
@@ -66,26 +66,28 @@ pub(crate) struct Counted {
 }
 
 impl Counted {
-    // What is left of unstuffed bytes without the addresses of a header.
-    fn without(self, header: Header) -> Counted
-        requires { address_count (header_kind header) ≤ self.len }
-        ensures { WithoutHeader header self result }
+    // What is left of unstuffed bytes without their addresses.
+    fn without(self, found: Addresses) -> Counted
+        requires enough { address_count (header_kind found.header) ≤ self.len }
+        requires summed { found.sum ≡ sum_of_addresses found.header }
+        ensures { WithoutHeader found.header self result }
     {
-        match header {
+        match found.header {
             Header::Plain => self,
-            Header::Addressed { to, from } => Counted {
+            Header::Addressed { .. } => Counted {
                 len: self.len - 2,
-                sum: self.sum ^ (to ^ from),
+                sum: self.sum ^ found.sum,
             },
         }
     }
 }
 
-// The addresses at the start of a body, and the index after them.
+// The addresses at the start of a body, the index after them and their exclusive or.
 #[derive(Clone, Copy)]
 pub(crate) struct Addresses {
     pub(crate) header: Header,
     pub(crate) next: usize,
+    pub(crate) sum: u8,
 }
 
 // A sound body: its header, the index of its stuffed contents and their number unstuffed.
@@ -199,6 +201,7 @@ fn two_addresses(body: &[u8], plain: Option<u8>) -> Result<Addresses, Refusal>
                 from: *from,
             },
             next: 2,
+            sum: *to ^ *from,
         });
     }
     let to = next_at(body, 0)?;
@@ -209,6 +212,7 @@ fn two_addresses(body: &[u8], plain: Option<u8>) -> Result<Addresses, Refusal>
             from: from.value,
         },
         next: from.next,
+        sum: to.value ^ from.value,
     })
 }
 
@@ -251,6 +255,7 @@ pub(crate) fn examine(kind: Kind, body: &[u8], plain: Option<u8>) -> Result<Soun
             let found = Addresses {
                 header: Header::Plain,
                 next: 0,
+                sum: 0,
             };
             examine_after(body, whole, found)
         }
@@ -270,7 +275,7 @@ fn examine_after(body: &[u8], whole: Counted, found: Addresses) -> Result<Sound,
     requires addressed { AddressesIn (header_kind found.header) body.now (Ok found) }
     ensures { ExaminesWhole (header_kind found.header) body.now result }
 {
-    let rest = whole.without(found.header);
+    let rest = whole.without(found);
     if rest.len < 1 {
         return Err(Refusal::TooShort);
     }

@@ -126,6 +126,7 @@ pub fn judge_array(
 }
 
 // Judges a slice of any length, as `judge_array` does the first bytes of an array.
+#[tactic(auto, using(crate::proofs::ContentsLaws::refusing))]
 fn judge_in_place(origin: Origin, kind: Kind, body: &mut [u8]) -> Result<Outline, Refusal>
     ensures result_value { read_means result ≡ judge_answer (admit origin (judge_whole kind body.old)) }
     ensures body_after { body.new ≡ left_in (admit origin (judge_whole kind body.old)) body.old }

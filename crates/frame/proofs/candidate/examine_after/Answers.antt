@@ -1,8 +1,8 @@
 use Rattle.frame.proofs.VerdictLaws.{scanned_enough, scanned_short, scanned_sum, scanned_sound}
 use Rattle.frame.proofs.candidate.examine_after.Goals as goal
 
-pub without-rest-requires : goal.without-rest-requires
-without-rest-requires c = scanned_enough _ _ c.requires.limit _ c.requires.scanned _ c.requires.addressed
+pub without-rest-requires-clause-enough : goal.without-rest-requires-clause-enough
+without-rest-requires-clause-enough c = scanned_enough _ _ c.requires.limit _ c.requires.scanned _ c.requires.addressed
 
 pub returns-then-rest-lt1 : goal.returns-then-rest-lt1
 returns-then-rest-lt1 c =

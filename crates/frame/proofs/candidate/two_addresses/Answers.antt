@@ -37,4 +37,5 @@ returns c =
       (bounds s _ _ c.in_ok-from.ensures).1,
       refl,
       told s 0 _ c.in_ok-to.ensures ∙ ap (prepend c.in_ok-to.to.value) (told s _ _ c.in_ok-from.ensures),
+      refl,
     )
