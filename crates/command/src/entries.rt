@@ -88,11 +88,16 @@ pub fn count(limit: usize, s: &[u8], from: Cursor) -> Result<usize, Unsound>
 {
     let mut cursor = from;
     let mut n: usize = 0;
-    while let Some((_, next)) = cursor.step(limit, s)? {
-        n += 1;
-        cursor = next;
+    loop {
+        match cursor.step(limit, s) {
+            Ok(Some((_, next))) => {
+                n += 1;
+                cursor = next;
+            }
+            Ok(None) => return Ok(n),
+            Err(_) => return Err(Unsound { at: cursor.at }),
+        }
     }
-    Ok(n)
 }
 
 // The n-th entry from a cursor on. Every count is looked at once, those after the entry as well. Refusals 7 and 15.
