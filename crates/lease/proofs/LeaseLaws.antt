@@ -1,5 +1,6 @@
 -- Laws of one call, which the functions' proofs cite.
 use Prim.Native.Nat.{ℕ, zero, suc, ◌+◌, ◌*◌, ◌/◌, ◌%◌, ◌≤◌, ◌<◌}
+use Rattle.std.specs.Prelude.{◌^◌}
 use mathlib.Core.Path.{◌≡◌, refl, sym, ap, ◌∙◌, subst}
 use mathlib.Core.Bool.{true, false}
 use mathlib.Core.List.{List, [], ◌∷◌}
@@ -11,9 +12,9 @@ use Rattle.lists.proofs.Splices.{splice_nil, set-splice, splice-splice}
 use lib.Dec.{leb, eqb}
 use lib.ListN.{length, get_or, set, length-set}
 use borrow.Author.Tests.{eq-eqb, ne_eqb}
-use Rattle.answer.specs.Draft.{draft_answer, draft_out, Writes}
+use Rattle.answer.specs.Draft.{draft_answer, draft_out, Writes, written_means}
 use Rattle.answer.specs.Answer.{refused, result, Answer}
-use Rattle.numbers.specs.Number.{number, put, bytes_of}
+use Rattle.numbers.specs.Number.{number, put, bytes_of, Bytes}
 use Rattle.lists.specs.Choice.{pick}
 use Rattle.lists.proofs.Cases.{by_bool}
 use Rattle.lists.proofs.Tests.{within_true}
@@ -27,10 +28,12 @@ use Rattle.writer.proofs.WireLaws.{draft_fits}
 use Rattle.lease.specs.Lease.{LeaseCall, hold, release, stop, address_of, token_of, owns, stop_frame, answer_of}
 use Rattle.lease.specs.Lease.{table_answer, table_of, lent_answer, lent_left, lent_after}
 use Rattle.lease.specs.Answers.{written_length, out_after}
-use Rattle.lease.specs.Promises.{Real, LentCall}
+use Rattle.lease.specs.Promises.{Real, LentCall, LentStop}
 use Rattle.answer.specs.Refusals.{number_of}
 use Rattle.answer.specs.declared.Refusal.{Refusal}
-use Rattle.std.specs.Prelude.{Ok, Err}
+use Rattle.std.specs.Prelude.{Result, Ok, Err}
+use Rattle.std.specs.Result.{result_or}
+use Rattle.answer.specs.declared.Refusal.TheVariants.{NoRoom}
 use Rattle.lease.specs.Private.{token_in, TokenIn, Settles}
 
 -- ---- the range
@@ -193,6 +196,13 @@ module _ (h a t : ℕ) (out : List ℕ) where
       let z : ◌≡◌ {A = ℕ} 0 1 = cc in absurd (omega arith))
       (λ y. (simp (range, owner, y), s.1))
 
+  -- Whatever the frame writer refuses is refused with 1.
+  pub stop_or_no_room : in_range a ≡ true → owns t h ≡ true → (r : Result ℕ Refusal) (last : List ℕ)
+      → Stops (answer_of h (stop a t (length out))) out (written_means r) last
+      → Stops (answer_of h (stop a t (length out))) out (written_means (result_or r (Err NoRoom))) last
+  stop_or_no_room range owner (Ok n) last s = s
+  stop_or_no_room range owner (Err why) last s = stop_no_room range owner (number_of why) last s
+
 -- A stop's answer may be replaced by an equal one.
 pub stop_by : (x y : Answer (List ℕ)) (out : List ℕ) (a : Answer ℕ) (last : List ℕ) → x ≡ y → Stops x out a last
     → Stops y out a last
@@ -228,3 +238,11 @@ never_18 held (stop a t room) e =
     (λ l. other_number 1 (λ q. omega arith) (simp (r, o, l) at e)))
     (λ o. other_number 11 (λ q. omega arith) (simp (r, o) at e)))
     (λ r. other_number 9 (λ q. omega arith) (simp r at e))
+
+-- ---- bytes of another length
+
+pub stop_other_length : (s : List ℕ) (a t : ℕ) (out : List ℕ) → (length s ≡ 2048 → ⊥) → Bytes s → t < 2 ^ 64
+    → LentStop s a t out (refused 18) out
+stop_other_length s a t out n b f =
+    let q = lent_size s (stop a t (length out)) n in
+    record { answered = ap written_length q.0; written = ap (λ (x : Answer (List ℕ)). out_after x out) q.0; real = record { bytes = b; fits = f } }

@@ -119,6 +119,7 @@ pub fn release_lent(table: &mut [u8], address: u32, token: u64) -> Result<(), Re
 }
 
 // As `LeaseTable::stop`, on the bytes of a table. Refusal 18 comes first.
+#[tactic(auto, using(crate::proofs::LeaseLaws::stop_other_length))]
 pub fn stop_lent(table: &[u8], address: u32, token: u64, out: &mut [u8]) -> Result<usize, Refusal>
     ensures { LentStop table.now address token out.old (written_means result)
         out.new }
@@ -166,12 +167,14 @@ fn judge_holder(address: u32, token: u64, held: u64) -> Result<(), Refusal>
 }
 
 // Writes the stop frame where `holder` is the address's token and the caller has it. The frame is within the longest that is
-// allowed, so that its writer refuses it only where it has no room.
+// allowed, so that only room can lack.
 fn write_stop(address: u32, token: u64, holder: u64, out: &mut [u8]) -> Result<usize, Refusal>
     ensures result_value { written_means result ≡ written_length (answer_of holder (stop address token (length out.old))) }
     ensures out_after { out.new
         ≡ out_after (answer_of holder (stop address token (length out.old))) out.old }
 {
     judge_holder(address, token, holder)?;
-    writer::write_extended_number(address as u8, HOST, TERMINATE, TERMINATE_WIDTH, out)
+    let to = address as u8;
+    let written = writer::write_extended_number(to, HOST, TERMINATE, TERMINATE_WIDTH, out);
+    written.or(Err(Refusal::NoRoom))
 }
