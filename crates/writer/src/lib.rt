@@ -38,6 +38,7 @@ pub fn extended_length(to: u8, from: u8, contents: &[u8]) -> Result<usize, Refus
 }
 
 // Writes a standard frame. Refusals 17, on the live line alone, 2 and 1.
+#[tactic(auto, unfolding(answer::specs::Draft::draft_answer, answer::specs::Draft::draft_out))]
 pub fn write_standard(origin: Origin, contents: &[u8], out: &mut [u8]) -> Result<usize, Refusal>
     ensures result_value { written_means result ≡ draft_answer (sent_draft origin (standard contents.now))
         (length out.old) }
@@ -78,6 +79,7 @@ pub fn write_extended_number(
     write_frame(header, NumberBytes { number, width }, out)
 }
 
+#[tactic(auto, using(crate::proofs::WireLaws::draft_long, crate::proofs::WireLaws::draft_fits))]
 fn wire_length(header: Header, contents: &[u8]) -> Result<usize, Refusal>
     ensures { length_means result ≡ through length (frame_draft (frame_of header contents.now)) }
 {
