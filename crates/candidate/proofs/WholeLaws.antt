@@ -1,14 +1,15 @@
 -- Laws of a candidate that stands whole in a chunk: what its bytes give that are fed singly, and what a slice that is
 -- read into the array leaves there.
 use mathlib.Core.Path.{◌≡◌, refl, sym, ap, ap₂, ◌∙◌, subst}
+use mathlib.Core.Logic.{inl, inr}
 use mathlib.Core.Bool.{true}
 use mathlib.Core.List.{List, [], ◌∷◌, ◌++◌, append_assoc}
 use native.Mathlib.Omega.{arith}
-use lib.Dec.{ltb}
+use lib.Dec.{leb, ltb}
 use lib.ListN.{length, get_or, take, drop, length-drop, length-append}
 use lib.Seq.{drop-drop, drop-append-le, take_at, take-take, length-take-le}
 use Prim.Native.Nat.{ℕ, ◌+◌, ◌-◌, ◌≤◌, ◌<◌}
-use borrow.Author.Tests.{le-leb, ltb-true, ltb-false}
+use borrow.Author.Tests.{le-leb, lt-leb, ltb-true, ltb-false}
 use Rattle.lists.specs.Choice.{none_of, count_before}
 use Rattle.lists.specs.Splice.{splice, copied}
 use Rattle.lists.proofs.Cases.{by_bool}
@@ -39,14 +40,14 @@ use Rattle.frame.proofs.LeadingLaws.{leading_count_lem, leading_wire, leading_so
 use Rattle.std.specs.Prelude.{Option, None, Some}
 use Rattle.framing.specs.Bounded.{BoundedReader, bounded, bounded_turn}
 use Rattle.framing.specs.Held.{with_plain}
-use Rattle.framing.specs.Fed.{feed_of, StandsWhole, WholeIs}
+use Rattle.framing.specs.Fed.{feed_of, StandsWhole, WholeIs, whole_taken}
 use Rattle.framing.specs.declared.Mode.TheVariants.{Outside, Inside}
 use Rattle.framing.specs.declared.Whole.{Whole}
 use Rattle.framing.proofs.FedLaws.{quiet_byte}
 use Rattle.framing.proofs.RunLaws.{candidate_grows}
 use Rattle.frame.proofs.FlagLaws.{no_flag}
 use Rattle.candidate.specs.Outcome.{Outcome, nothing, judged, tells, capacity, told_means, summary_of}
-use Rattle.candidate.specs.Rowing.{rowing, rowing_bounds}
+use Rattle.candidate.specs.Rowing.{rowing, rowing_bounds, whole_count}
 use Rattle.candidate.specs.Feed.{is_answer}
 use Rattle.candidate.specs.Private.{contents_count, left_by_whole, Judges}
 use Rattle.frame.specs.declared.Outline.{Outline}
@@ -351,3 +352,12 @@ pub whole_is : (o : Origin) (bytes s left : List ℕ) (w : Option (Whole Outline
     → WholeIs (rowing o) (rowing_bounds o) (λ told a. told_means told ≡ summary_of a) is_answer bytes left s w
 whole_is o bytes s left None k = k.1
 whole_is o bytes s left (Some w) k = stands_whole o bytes s left w k
+
+-- a candidate that the array can hold is judged as it stands
+pub whole_counted : (o : Origin) (bytes s left : List ℕ) (w : Option (Whole Outline)) → Judges o bytes s left w
+    → whole_taken w ≡ whole_count s
+whole_counted o bytes s left None (inl e, k) =
+    by_bool (leb (leading_count s) 120) (λ y. sym (simp y e)) (λ y. sym (simp y))
+whole_counted o bytes s left None (inr over, k) = sym (simp (lt-leb (leading_count s) 120 over))
+whole_counted o bytes s left (Some w) (count, some, short, k) =
+    count ∙ sym (simp (le-leb (leading_count s) 120 (omega (arith, count, short))))

@@ -1,11 +1,13 @@
 -- The rowing protocol at an origin, at which the reference decoder and the bounded reader are taken.
-use Rattle.std.specs.Prelude.{List, ℕ}
+use Rattle.std.specs.Prelude.{List, ℕ, leb}
+use Rattle.lists.specs.Choice.{pick}
 use Rattle.answer.specs.Answer.{refused}
 use Rattle.framing.specs.Reference.{Protocol}
 use Rattle.framing.specs.Bounded.{Bounds}
 use Rattle.frame.specs.Flags.{role_of, kind_of, candidate_of}
 use Rattle.frame.specs.Verdict.{verdict}
 use Rattle.frame.specs.Origin.{admit}
+use Rattle.frame.specs.Leading.{leading_count}
 use Rattle.frame.specs.Answers.{left_in}
 use Rattle.frame.specs.declared.Origin.{Origin}
 use Rattle.frame.specs.declared.Kind.{Kind}
@@ -37,3 +39,8 @@ rowing_bounds o =
       left = left_by;
       long = judged (refused 2);
     }
+
+-- How many bytes the candidate has that bytes begin with, where it has at most 120 bytes with its flags. 0 where it has
+-- more, or where there is none.
+abbrev pub whole_count : List ℕ → ℕ
+whole_count s = pick (leb (leading_count s) 120) (leading_count s) 0

@@ -64,7 +64,7 @@ impl LineProtocol<118> for Rowing {
     ghost use Rattle.frame.specs.Flags.{is_flag};
     ghost use Rattle.frame.proofs.FlagLaws.{no_flag};
     ghost use Rattle.candidate.specs.Outcome.{Outcome, told_means, summary_of};
-    ghost use Rattle.candidate.specs.Rowing.{rowing, rowing_bounds};
+    ghost use Rattle.candidate.specs.Rowing.{rowing, rowing_bounds, whole_count};
     ghost use Rattle.candidate.specs.Feed.{says, is_answer};
     ghost use Rattle.frame.specs.Answers.{judge_answer};
 
@@ -79,6 +79,8 @@ impl LineProtocol<118> for Rowing {
     ghost is_answer = { is_answer };
 
     ghost ends_run = { is_flag };
+
+    ghost stands = { whole_count };
 
     fn role(self, b: u8) -> Role<Kind> {
         match b {
@@ -99,6 +101,7 @@ impl LineProtocol<118> for Rowing {
         frame::judge_array(self.origin, kind, bytes, len)
     }
 
+    #[tactic(auto, using(crate::proofs::WholeLaws::whole_is, crate::proofs::WholeLaws::whole_counted))]
     fn whole(self, bytes: &mut [u8; 118], s: &[u8]) -> Option<Whole<Outline>> {
         whole::judge(self.origin, bytes, s)
     }
@@ -117,6 +120,7 @@ impl LineProtocol<118> for Rowing {
 }
 
 // Takes a byte. Of a chunk nothing but flags is taken so.
+#[tactic(auto, using(crate::proofs::Handed::step_handed))]
 pub fn step_in(bytes: &mut [u8; 118], held: Held, b: u8) -> HeldStep
     ensures { HeldStepIs bytes.new result (step_held (holder bytes.old held) b) }
 {

@@ -1,3 +1,4 @@
+pub mod Handed
 pub mod ReaderLaws
 pub mod ValueLaws
 pub mod ChunkLaws

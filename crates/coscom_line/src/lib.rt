@@ -150,6 +150,8 @@ impl LineProtocol<254> for Treadmill {
 
     ghost ends_run = { ends_run };
 
+    ghost stands = { λ s. 0 };
+
     fn role(self, b: u8) -> Role<()> {
         match b {
             coscom::START => Role::Start(()),
@@ -167,6 +169,11 @@ impl LineProtocol<254> for Treadmill {
         coscom::judge_array(bytes, len)
     }
 
+    // Every packet is held.
+    fn whole(self, _bytes: &mut [u8; 254], _s: &[u8]) -> Option<framing::Whole<Outline>> {
+        None
+    }
+
     ghost room = { λ p. refl };
 
     ghost none_in_run = { λ p b h. no_flag b (outside_no_flag b h) };
@@ -181,6 +188,7 @@ impl LineProtocol<254> for Treadmill {
 }
 
 // Feeds a byte to a reader whose array is lent and whose state goes in and comes back, as `LineReader::step` does.
+#[tactic(auto, using(crate::proofs::Handed::step_handed))]
 pub fn step_in(bytes: &mut [u8; 254], state: State, b: u8) -> LentStep
     ensures { LentStepIs bytes.new result (step_of (lent_reader bytes.old state) b) }
 {

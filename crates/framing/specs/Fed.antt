@@ -8,7 +8,7 @@ use Rattle.framing.specs.Chunk.{FedTurn, fed_by}
 use Rattle.framing.specs.Counting.{start_in}
 use Rattle.framing.specs.Held.{reader}
 use Rattle.framing.specs.declared.Mode.{Mode}
-use Rattle.framing.specs.declared.Mode.TheVariants.{Outside}
+use Rattle.framing.specs.declared.Mode.TheVariants.{Outside, Inside, Overlong}
 use Rattle.framing.specs.declared.Held.{Held}
 use Rattle.framing.specs.declared.Whole.{Whole}
 use Rattle.framing.specs.declared.feeds.Fed.{Fed}
@@ -68,3 +68,14 @@ abbrev pub WholeIn : {K T A : Type 0} → Protocol A → Bounds K A → (Option 
     → (A → Bool) → Mode K → (old new s : List ℕ) → Option (Whole T) → Type 0
 WholeIn P B tells is_answer mode old new s None = new ≡ old
 WholeIn P B tells is_answer mode old new s (Some w) = (mode ≡ Outside) × StandsWhole P B tells is_answer old new s w
+
+-- How many bytes the candidate has that was judged as it stands. 0 where none was.
+abbrev pub whole_taken : {T : Type 0} → Option (Whole T) → ℕ
+whole_taken None = 0
+whole_taken (Some w) = w.taken
+
+-- How many bytes stand whole where a candidate may be open before them. Then none begins with them.
+abbrev pub stands_in : {K : Type 0} → Mode K → ℕ → ℕ
+stands_in Outside n = n
+stands_in (Inside kind) n = 0
+stands_in Overlong n = 0

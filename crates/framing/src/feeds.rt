@@ -1,8 +1,8 @@
 // Bytes of a chunk taken up to the first that is answered.
-ghost use Rattle.std.specs.Prelude.{◌≡◌};
+ghost use Rattle.std.specs.Prelude.{◌≡◌, is_some};
 ghost use Rattle.framing.specs.Counting.{start_after};
 ghost use Rattle.framing.specs.Held.{reader};
-ghost use Rattle.framing.specs.Fed.{feed_of, Feeds, WholeIn};
+ghost use Rattle.framing.specs.Fed.{feed_of, Feeds, WholeIn, whole_taken, stands_in};
 
 use crate::{Held, LineProtocol, Mode, Role, Whole, calls, runs};
 use answer::Refusal;
@@ -52,7 +52,7 @@ pub fn feed<const ROOM: usize, P: LineProtocol<ROOM>>(
         let began = opened;
         opened = opened_by(protocol, b, began, i);
         let told = step.told;
-        if told.is_some() {
+        if is_answer(told) {
             return ended(told, s, i, began, opened);
         }
     }
@@ -66,14 +66,22 @@ fn whole_in<const ROOM: usize, P: LineProtocol<ROOM>>(
     mode: Mode<P::Kind>,
     s: &[u8],
 ) -> Option<Whole<P::Outline>>
-    ensures { WholeIn (P.protocol protocol) (P.bounds protocol) P.tells P.is_answer mode bytes.old bytes.new s.now
+    ensures is { WholeIn (P.protocol protocol) (P.bounds protocol) P.tells P.is_answer mode bytes.old bytes.new s.now
         result }
+    ensures stands { whole_taken result ≡ stands_in mode (P.stands s.now) }
 {
     match mode {
         Mode::Outside => protocol.whole(bytes, s),
         Mode::Inside(_) => None,
         Mode::Overlong => None,
     }
+}
+
+// Whether a call ends with what is told: a refusal is an answer as well.
+fn is_answer<T: Copy>(told: Option<Result<T, Refusal>>) -> bool
+    ensures { result ≡ is_some told }
+{
+    told.is_some()
 }
 
 // Outside of any candidate.

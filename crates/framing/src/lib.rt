@@ -65,7 +65,7 @@ pub trait LineProtocol<const ROOM: usize>: Copy {
     ghost use Rattle.framing.specs.Reference.{Protocol, plain};
     ghost use Rattle.framing.specs.Bounded.{Bounds};
     ghost use Rattle.framing.specs.Held.{role_told};
-    ghost use Rattle.framing.specs.Fed.{WholeIs};
+    ghost use Rattle.framing.specs.Fed.{WholeIs, whole_taken};
 
     // The answers, the rule for the line, what is held, and what is told of an answer.
     ghost Answer: { Type 0 };
@@ -81,6 +81,10 @@ pub trait LineProtocol<const ROOM: usize>: Copy {
 
     // Whether anything is told of an answer.
     ghost is_answer: { Answer → Bool };
+
+    // How many bytes the candidate has that bytes begin with and that is judged as it stands. 0 where it has to be held, or
+    // where there is none.
+    ghost stands: { List ℕ → ℕ };
 
     fn role(self, b: u8) -> Role<Self::Kind>
         ensures { result ≡ role_told ((protocol self).role b) ((bounds self).kind b) };
@@ -102,10 +106,8 @@ pub trait LineProtocol<const ROOM: usize>: Copy {
     // Judges the candidate that bytes begin with, outside of any, as it stands, where it stands whole in them and the array
     // could hold it. One that has to be held is none, and leaves the array as it was.
     fn whole(self, bytes: &mut [u8; ROOM], s: &[u8]) -> Option<Whole<Self::Outline>>
-        ensures { WholeIs (protocol self) (bounds self) tells is_answer bytes.old bytes.new s.now result }
-    {
-        None
-    }
+        ensures is { WholeIs (protocol self) (bounds self) tells is_answer bytes.old bytes.new s.now result }
+        ensures stands { whole_taken result ≡ stands s.now };
 
     ghost room: { (p : Self) → (bounds p).capacity ≡ ROOM };
 

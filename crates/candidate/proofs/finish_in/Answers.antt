@@ -1,9 +1,7 @@
-use mathlib.Core.Path.{ap}
-use Rattle.candidate.specs.Holder.{holder_seen}
+use native.Mathlib.Omega.{arith}
+use Rattle.candidate.proofs.Handed.{step_handed}
 use Rattle.candidate.proofs.finish_in.Goals as goal
 
 pub returns : goal.returns
-returns c =
-    λ bytes.
-    let k = c.end-ended.ensures bytes in
-    record { told_is = k.told_is; next_is = ap (holder_seen c.args.held.origin) k.next_is }
+returns c = λ bytes.
+    let h = step_handed c.args.held.origin bytes c.end-ended.result _ (c.end-ended.ensures bytes) in grind (arith, h)

@@ -1,14 +1,14 @@
-use mathlib.Core.Path.{◌≡◌, sym, ap, ◌∙◌, subst}
+use mathlib.Core.Path.{◌≡◌, sym, ap, ◌∙◌}
 use mathlib.Core.Bool.{false}
 use mathlib.Core.List.{List}
 use native.Mathlib.Omega.{arith}
 use lib.ListN.{drop, take, get_or}
 use Prim.Native.Nat.{ℕ, ◌+◌}
-use Rattle.std.specs.Prelude.{None, Some}
+use Rattle.std.specs.Prelude.{None}
 use Rattle.framing.specs.Counting.{start_after}
 use Rattle.framing.specs.Chunk.{later_by}
 use Rattle.framing.specs.Held.{reader}
-use Rattle.framing.specs.Fed.{feed_of, last_start, Feeds}
+use Rattle.framing.specs.Fed.{feed_of, last_start}
 use Rattle.framing.proofs.FedLaws.{start_more, run_feeds, run_starts, goes_on, answers, ends, whole_answers}
 use Rattle.framing.proofs.feeds.feed.Goals as goal
 use Rattle.framing.proofs.feeds.feed.Goals.{Start, After-consume-run}
@@ -68,20 +68,20 @@ returns-then-input-j g c =
 pub returns-in-Some : goal.returns-in-Some
 returns-in-Some g c =
     let p = g.P.LineProtocol in
-    let w = c.in-Some.ensures in
+    let w = c.in-Some.ensures.is in
     rw (c.ended-in-Some.ensures, c.outside.ensures)
     (whole_answers (p.protocol c.args.protocol) (p.bounds c.args.protocol) p.tells p.is_answer _ _ g.met.P.LineProtocol.is_told _ _ _ _
     (omega (arith, c.if-input-j.false)) w.0 (so_far g (goal.at.returns-in-Some g c).After-consume-run) c.in-Some.whole w.1)
 
-pub returns-then-is_some : goal.returns-then-is_some
-returns-then-is_some g c =
-    let e = (goal.at.returns-then-is_some g c).After-consume-run in
+pub returns-then-is_answer : goal.returns-then-is_answer
+returns-then-is_answer g c =
+    let e = (goal.at.returns-then-is_answer g c).After-consume-run in
     let p = g.P.LineProtocol in
-    rw c.ended-then-is_some.ensures
+    rw c.ended-then-is_answer.ensures
     (answers (p.protocol c.args.protocol) (p.bounds c.args.protocol) p.tells p.is_answer _ _ _ _ c.if-input-j.false
-    (kept g e _ c.in-None.ensures) _ c.step-step.result c.step-step.ensures
+    (kept g e _ c.in-None.ensures.is) _ c.step-step.result c.step-step.ensures
     (g.met.P.LineProtocol.is_told c.step-step.result.told _ c.step-step.ensures.told_is)
-    (sym c.is_some.ensures ∙ c.if-is_some.true) _ _ (place g e) c.opened_by-opened.ensures)
+    (sym c.is_answer.ensures ∙ c.if-is_answer.true) _ _ (place g e) c.opened_by-opened.ensures)
 
 pub loop-i-preserved : goal.loop-i-preserved
 loop-i-preserved g c =
@@ -95,10 +95,10 @@ loop-i-preserved g c =
       place = c.opened_by-opened.ensures
           ∙ ap (λ (n : ℕ). start_after (P.role (get_or s at 0)) n (at + 1)) (place g e)
           ∙ sym (start_more P.role s at c.if-input-j.false);
-      so_far = goes_on P (p.bounds c.args.protocol) p.tells p.is_answer _ s _ at c.if-input-j.false (kept g e _ c.in-None.ensures) _
+      so_far = goes_on P (p.bounds c.args.protocol) p.tells p.is_answer _ s _ at c.if-input-j.false (kept g e _ c.in-None.ensures.is) _
           c.step-step.result c.step-step.ensures
           (g.met.P.LineProtocol.is_told c.step-step.result.told _ c.step-step.ensures.told_is)
-          (sym c.is_some.ensures ∙ c.if-is_some.false);
+          (sym c.is_answer.ensures ∙ c.if-is_answer.false);
     }
 
 pub returns : goal.returns

@@ -1,4 +1,5 @@
 use mathlib.Core.Path.{◌≡◌, ◌∙◌, ap}
+use native.Mathlib.Omega.{arith}
 use lib.ListN.{length}
 use Rattle.framing.specs.Held.{reader}
 use Rattle.framing.proofs.Growth.{kept_all, kept_first, full-run}
@@ -21,5 +22,7 @@ returns-then-room-run g c =
 pub returns : goal.returns
 returns g c =
     let a : length c.args.bytes.now ≡ g.row.ROOM = search rules in
+    let h =
     kept_all (candidate_grows g.row.ROOM c.args.kind) c.args.run.now c.args.bytes.now _ c.args.len a
-    c.if-len.false c.if-room-run.false c.copy-2.ensures
+    c.if-len.false c.if-room-run.false c.copy-2.ensures in
+    grind (arith, h)

@@ -1,8 +1,0 @@
-use mathlib.Core.Path.{ap}
-use Rattle.coscom_line.specs.Reader.{reader_seen}
-use Rattle.coscom_line.proofs.step_in.Goals as goal
-
-pub returns : goal.returns
-returns c =
-    let k = c.step-step.ensures in
-    record { told_is = k.told_is; next_is = ap reader_seen k.next_is }
