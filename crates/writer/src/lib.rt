@@ -79,7 +79,7 @@ pub fn write_extended_number(
     write_frame(header, NumberBytes { number, width }, out)
 }
 
-#[tactic(auto, using(crate::proofs::WireLaws::draft_long, crate::proofs::WireLaws::draft_fits))]
+#[tactic(auto, using(crate::proofs::WireLaws::draft_long))]
 fn wire_length(header: Header, contents: &[u8]) -> Result<usize, Refusal>
     ensures { length_means result ≡ through length (frame_draft (frame_of header contents.now)) }
 {
